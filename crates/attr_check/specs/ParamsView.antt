@@ -11,9 +11,9 @@ pub record ParamsView : Type 0 where
   pub reclaim : Bool
   pub bw : ℕ
 
--- runtime <= deadline <= period (sched(7), "SCHED_DEADLINE"), a runtime of at least 2 us (1024 ns in
--- sched(7), in whole microseconds), a period of at most 2^32 us (own), and the bandwidth that runtime
--- and period give
+-- runtime <= deadline <= period (sched(7), "SCHED_DEADLINE"), a runtime of at least 2 us (1024 ns
+-- in sched(7), in whole microseconds), a period of at most 2^32 us (own), and the bandwidth that
+-- runtime and period give
 pub record IsOrdered (p : ParamsView) : Type 0 where
   pub some_runtime : 1 < p.runtime
   pub runtime_first : p.runtime ≤ p.deadline

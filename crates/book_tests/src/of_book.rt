@@ -263,8 +263,8 @@ fn rival(rt: &impl Abort, desk: &mut Desk) -> Ticket
     }
 }
 
-// refused_by_the_word and limit_refused_by_the_word: the domain's own test passes and the word's does
-// not, since another client has the rest of it.
+// refused_by_the_word and limit_refused_by_the_word: the domain's own test passes and the word's
+// does not, since another client has the rest of it.
 #[test]
 fn refused_by_the_word(rt: HostRuntime) -> Result<(), Fail> {
     let mut desk = opened(&rt, rt.alloc(), 524288, 9)?;

@@ -147,17 +147,17 @@ pub record IsRaceOfLimit (gate : GateId) (d limit : ℕ) (race : Race) : Type 0 
   pub other : race.seen ≢ race.expected
 
 -- set: the word that the load found, and then the word left, which carries the new cap and what was
--- used. So a write to sched_rt_runtime_us changes what each CPU gives to deadline tasks, and admitted
--- tasks keep what they have (sched-deadline.rst, "System wide settings"; one step on one word is our
--- own)
+-- used. So a write to sched_rt_runtime_us changes what each CPU gives to deadline tasks, and
+-- admitted tasks keep what they have (sched-deadline.rst, "System wide settings"; one step on one
+-- word is our own)
 pub record IsSet (b : BlankView) (d limit : ℕ) (c : BlankView) : Type 0 where
   pub seen : ℕ
   pub word : IsWord (cpus_of b.gate d) seen
   pub room : used_of seen ≤ cap_by b.gate d limit
   pub blank : c ≡ blank_found b (seen ∷ word_of (cap_by b.gate d limit) (used_of seen) ∷ [])
 
--- refused: more is used of the word that the load found than the new cap. A kernel answers a write to
--- sched_rt_runtime_us with EBUSY then (sched_dl_global_validate)
+-- refused: more is used of the word that the load found than the new cap. A kernel answers a write
+-- to sched_rt_runtime_us with EBUSY then (sched_dl_global_validate)
 pub record IsLimitRefused (b : BlankView) (d limit : ℕ) (c : BlankView) (seen : ℕ) : Type 0 where
   pub word : IsWord (cpus_of b.gate d) seen
   pub over : cap_by b.gate d limit < used_of seen

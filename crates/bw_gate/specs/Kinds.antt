@@ -24,9 +24,9 @@ pub record IsFound (d : ℕ) (v : View) (n : ℕ) : Type 0 where
   pub word : IsWord (cpus_in v.terms d) n
 
 module _ {S : Type 0} where
-  -- a step that only reads: no exchange, sum or store but of zeros has these numbers, and no word of
-  -- a gate is zero. The rule leaves the cap free, so that each kind of step that is no limit says by
-  -- its numbers that the cap stays
+  -- a step that only reads: no exchange, sum or store but of zeros has these numbers, and no word
+  -- of a gate is zero. The rule leaves the cap free, so that each kind of step that is no limit
+  -- says by its numbers that the cap stays
   abbrev pub Reads : Step S → Type 0
   Reads s = (s.first ≡ 0) × (s.second ≡ 0)
 

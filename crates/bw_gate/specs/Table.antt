@@ -1,7 +1,7 @@
 -- The table under a gate, and the rule that holds between any two steps on it (own): what each word
 -- carries as used is the sum of the bandwidths of the tickets of its domain, and at most the cap
--- that it carries, which is one that the domain's CPUs can have; and there are exactly as many pieces
--- as there were at the start, so that all pieces at home leave no bandwidth elsewhere.
+-- that it carries, which is one that the domain's CPUs can have; and there are exactly as many
+-- pieces as there were at the start, so that all pieces at home leave no bandwidth elsewhere.
 use Rattle.std.specs.Prelude.{ℕ, ◌≡◌, ◌<◌, ◌==◌, if◌then◌else◌, List, [], length, replicate, sum_by, slice_index, All}
 use Rattle.bw_gate.specs.declared.view.Piece.{Piece}
 use Rattle.bw_gate.specs.declared.view.Piece.TheVariants.{Blank, Ticket}

@@ -20,7 +20,8 @@ pub(crate) fn deal(
 )
     requires words { 0 < shared.now.table_id.words }
     requires pieces { n ≡ shared.now.key.pieces }
-    requires seat { (seat.table_id ≡ shared.now.table_id) × (seat.me ≡ (opened shared.now.key, [])) }
+    requires seat { (seat.table_id ≡ shared.now.table_id)
+        × (seat.me ≡ (opened shared.now.key, [])) }
     requires room { (blanks.old.items ≡ []) × (n ≤ vec_capacity blanks.old) }
     ensures { blanks.new.items ≡ replicate n (record {
       gate = record { table = shared.now.table_id; terms = shared.now.key };
@@ -47,7 +48,8 @@ pub(crate) fn gather_blanks(
     ensures seat { (seat.new.table_id ≡ seat.old.table_id) × (seat.new.id ≡ seat.old.id)
         × (seat.new.me.1 ≡ []) × (seat.new.me.0.terms ≡ shared.now.key) }
     ensures held { (d : ℕ) → held_by d seat.new.me.0 ≡ held_by d seat.old.me.0 }
-    ensures count { length seat.new.me.0.pieces ≡ length seat.old.me.0.pieces + length blanks.items }
+    ensures count { length seat.new.me.0.pieces
+        ≡ length seat.old.me.0.pieces + length blanks.items }
 {
     while let Some(blank) = blanks.pop() {
         let Blank {
@@ -71,8 +73,10 @@ pub(crate) fn gather_tickets(
         t.gate ≡ record { table = shared.now.table_id; terms = shared.now.key }) tickets.items }
     ensures seat { (seat.new.table_id ≡ seat.old.table_id) × (seat.new.id ≡ seat.old.id)
         × (seat.new.me.1 ≡ []) × (seat.new.me.0.terms ≡ shared.now.key) }
-    ensures held { (d : ℕ) → held_by d seat.new.me.0 ≡ held_by d seat.old.me.0 + sum_of d tickets.items }
-    ensures count { length seat.new.me.0.pieces ≡ length seat.old.me.0.pieces + length tickets.items }
+    ensures held { (d : ℕ) → held_by d seat.new.me.0
+        ≡ held_by d seat.old.me.0 + sum_of d tickets.items }
+    ensures count { length seat.new.me.0.pieces
+        ≡ length seat.old.me.0.pieces + length tickets.items }
 {
     while let Some(ticket) = tickets.pop() {
         let Ticket {

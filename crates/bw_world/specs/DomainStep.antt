@@ -75,9 +75,9 @@ refusal_of expected wanted d =
 
 -- why the cap is not exchanged for another: the word is not the expected one, else more is used
 -- than the other cap. A cap equal to what is used is granted. So a write to sched_rt_runtime_us is
--- answered, EBUSY where the tasks that are admitted would not fit (the knob and the inequality are of
--- sched-deadline.rst, "System wide settings", the EBUSY is of the kernel's sched_dl_global_validate;
--- that Lost comes first is our own)
+-- answered, EBUSY where the tasks that are admitted would not fit (the knob and the inequality are
+-- of sched-deadline.rst, "System wide settings", the EBUSY is of the kernel's
+-- sched_dl_global_validate; that Lost comes first is our own)
 abbrev pub limit_refusal_of : Word → ℕ → DomainView → Option Outcome
 limit_refusal_of expected cap d =
     if not (is_expected expected d) then Some (Lost (word_in d))

@@ -103,8 +103,8 @@ book_told = refl
 
 -- the limit changes. Lowered below what is used it is refused; a word of which the cap alone is not
 -- the expected one is Lost, to a Take and to a Limit, and Lost comes before Over; a cap equal to
--- what is used is granted, and leaves no room; then a task fits again. The widest cap is 2^26, and a
--- domain that is not there is Not. No Limit is a change of the book
+-- what is used is granted, and leaves no room; then a task fits again. The widest cap is 2^26, and
+-- a domain that is not there is Not. No Limit is a change of the book
 abbrev limits : List Step
 limits =
     Take 1 0 262144 (half 0) ∷ Limit 0 131072 (half 262144) ∷ Limit 0 131072 (half 0)

@@ -4,9 +4,9 @@ use Rattle.bw_world.specs.declared.book.Change.{Change}
 use Rattle.bw_world.specs.declared.ticket.Ticket.{Ticket}
 use Rattle.bw_world.specs.declared.ticket.Task.{Task}
 
--- one root domain: the cap and what is used of it, which are the two parts of its bandwidth word, in
--- 1/2^20 of a CPU; the tickets in hand; the admitted tasks, each with its ticket; and the changes of
--- its book, oldest first
+-- one root domain: the cap and what is used of it, which are the two parts of its bandwidth word,
+-- in 1/2^20 of a CPU; the tickets in hand; the admitted tasks, each with its ticket; and the
+-- changes of its book, oldest first
 pub record DomainView : Type 0 where
   pub cap : ℕ
   pub used : ℕ

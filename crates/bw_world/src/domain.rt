@@ -361,7 +361,8 @@ fn set_free(
 )
     requires in_hand { vec_len in_hand.old < vec_capacity in_hand.old }
     requires changes { vec_len changes.old < vec_capacity changes.old }
-    ensures in_hand { in_hand.new.items ≡ in_hand.old.items ++ record { id = id; bw = task.bw } ∷ [] }
+    ensures in_hand { in_hand.new.items ≡ in_hand.old.items ++ record { id = id; bw = task.bw }
+        ∷ [] }
     ensures admitted { admitted.new.items ≡ without_task id admitted.old.items }
     ensures changes { changes.new.items ≡ changes.old.items ++ Released task.number ∷ [] }
 {
@@ -378,7 +379,8 @@ fn admit(in_hand: &mut Vec<Ticket>, admitted: &mut Vec<Task>, changes: &mut Vec<
     requires changes { vec_len changes.old < vec_capacity changes.old }
     ensures in_hand { in_hand.new.items ≡ without task.ticket in_hand.old.items }
     ensures admitted { admitted.new.items ≡ admitted.old.items ++ task ∷ [] }
-    ensures changes { changes.new.items ≡ changes.old.items ++ Entered task.number task.ticket task.bw ∷ [] }
+    ensures changes { changes.new.items ≡ changes.old.items
+        ++ Entered task.number task.ticket task.bw ∷ [] }
 {
     admitted.push_reserved(task);
     changes.push_reserved(Change::Entered {

@@ -134,7 +134,8 @@ fn release(domains: &mut Vec<Domain>, ticket: u64) -> Result<Outcome, NoMemory>
 // Limit, which lengthens no list.
 fn limit(domains: &mut Vec<Domain>, domain: usize, cap: u64, expected: Word) -> Outcome
     ensures outcome { result ≡ (stepped (Limit domain cap expected) domains.old.items).outcome }
-    ensures domains { domains.new.items ≡ (stepped (Limit domain cap expected) domains.old.items).domains }
+    ensures domains { domains.new.items
+        ≡ (stepped (Limit domain cap expected) domains.old.items).domains }
 {
     if cap > WIDEST || domain >= domains.len() {
         return Outcome::Not;

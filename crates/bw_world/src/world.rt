@@ -74,7 +74,8 @@ impl World {
             outcomes.items ≡ outcomes_of steps.now self.old.domains) }
         ensures all { OnOk result (self.new.applied ≡ length steps.now) }
         ensures beginning { self.new.applied ≤ length steps.now }
-        ensures world { self.new.domains ≡ after (take self.new.applied steps.now) self.old.domains }
+        ensures world { self.new.domains
+            ≡ after (take self.new.applied steps.now) self.old.domains }
         ensures err_only { OnErr result (IsGrowingAt steps.now self.new.applied self.old.domains) }
 
         // After every step of the list each word is exact.

@@ -29,3 +29,4 @@ pub mod Limiting
 pub mod TicketSums
 pub mod Ended
 pub mod Spared
+pub mod CallerLemmas

@@ -82,8 +82,8 @@ pub record IsBookHistory (b : BookView) : Type 0 where
   pub short : b.room ≤ 65536
 
 -- The limit and the word do not part as far as the book's own calls go: before any change of the
--- limit it is that of the opening, and after one the word that was left carries CPUs times the limit
--- that the state has. Another client of the gate may have changed the word since.
+-- limit it is that of the opening, and after one the word that was left carries CPUs times the
+-- limit that the state has. Another client of the gate may have changed the word since.
 pub record HasItsLimit (b : BookView) : Type 0 where
   pub first : IfNone b.left ((state_of b).limit ≡ b.limit)
   pub since : IfSome b.left (λ word. cap_of word ≡ cap b.cpus (state_of b).limit)

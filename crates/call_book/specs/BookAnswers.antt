@@ -58,8 +58,8 @@ IsAdmit old new p q a ticket (Twice back b) =
     × (reply_to (state_of old) (admission a) ≡ replies.Twice)
 
 -- REGRADE. Where the domain's own test passes, the task's ticket, like all of the book's gate and
--- domain, asks the word, and its answer stands in the entry; elsewhere the word is not asked, and no
--- ticket changes
+-- domain, asks the word, and its answer stands in the entry; elsewhere the word is not asked, and
+-- no ticket changes
 pub record IsRegraded (old new : BookView) (p q : PassView Entry) (number : ℕ)
     (params : ParamsView) (reply : Reply) : Type 0 where
   pub word : Option ℕ

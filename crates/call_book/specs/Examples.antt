@@ -62,8 +62,8 @@ pub limit_changes_the_rate : spelling
 unfolding digits
 limit_changes_the_rate = refl
 
--- a change of a limit in any section makes the header 2, one that the word refused too; a section of
--- a low limit does not, nor does a regrade that the word refused
+-- a change of a limit in any section makes the header 2, one that the word refused too; a section
+-- of a low limit does not, nor does a regrade that the word refused
 pub refused_by_the_word : spelling
     (record { cpus = 1; limit = 524288; entries = call 0 (Limit 131072 (Some 262144)) ∷ [] } ∷ [])
     ≡ codes "dlcalls 2\ndomain 1 524288\nlimit 1 131072 busy 262144\n"

@@ -20,9 +20,11 @@ AreRuns histories states =
 
 -- the logs are of one kind, and one that keeps what it is told has what the history of its domain
 -- tells, and nothing else
-pub record AreTold (wanted : Bool) (histories : List SectionView) (logs : List LogView) : Type 0 where
+pub record AreTold (wanted : Bool) (histories : List SectionView) (logs : List LogView)
+    : Type 0 where
   pub alike : (d : ℕ) (x : LogView) → d < length histories
       → (slice_index_or logs d x).wanted ≡ wanted
   pub told : (d : ℕ) (s : SectionView) (x : LogView) → d < length histories → IsTrue wanted
       → let h = slice_index_or histories d s in
-      (slice_index_or logs d x).happened ≡ told_by_calls (opened h.cpus h.limit) (calls_of h.entries)
+      (slice_index_or logs d x).happened
+      ≡ told_by_calls (opened h.cpus h.limit) (calls_of h.entries)

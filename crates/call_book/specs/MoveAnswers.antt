@@ -110,7 +110,8 @@ IsMove old new a ticket (Twice back b) =
     ComeBack old new a b ticket back × HasRoom old.from old.to a × IsAsPrepared old.from a
     × (reply_to (state_of old.to) (arrival a) ≡ replies.Twice)
 IsMove old new a ticket (Busy seen back b) =
-    ComeBack old new a b ticket back × HasRoom old.from old.to a × IsAsPrepared old.from a × LacksRoom old.to a seen
+    ComeBack old new a b ticket back × HasRoom old.from old.to a × IsAsPrepared old.from a
+    × LacksRoom old.to a seen
 
 -- PREPARE. Nothing is prepared: no such task may depart, or there was no memory though one may
 abbrev pub IsUnprepared : Domain → ℕ → MoveFault → Type 0

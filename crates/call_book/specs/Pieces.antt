@@ -49,9 +49,9 @@ AreGiven tickets blanks = AllZip (λ h b. IsGive h.ticket b) tickets blanks
 abbrev pub word_at : TicketView → ℕ
 word_at u = last_of u.found
 
--- what the word of a ticket's domain says of another bandwidth for it: the ticket has it; or so much
--- is used of the last word that it found, a whole word of the domain's CPUs, that the cap which this
--- same word carries has no room for it in the place of the old one
+-- what the word of a ticket's domain says of another bandwidth for it: the ticket has it; or so
+-- much is used of the last word that it found, a whole word of the domain's CPUs, that the cap
+-- which this same word carries has no room for it in the place of the old one
 abbrev pub IsWord : TicketView → ℕ → TicketView → Option ℕ → Type 0
 IsWord t bw u None = u.bw ≡ bw
 IsWord t bw u (Some used) =

@@ -81,7 +81,8 @@ IsNextDomain text done r (Ok (Some d)) = IsWithin text done (begun d.0 d.1) r
 IsNextDomain text done r (Ok None) = AreRead done × (text ≡ spelling done)
 IsNextDomain text done r (Err e) = IsReadFault text e × IsBehind text done r
 
--- within a section: its next entry, or it is read to its end; where memory ran out, all is as before
+-- within a section: its next entry, or it is read to its end; where memory ran out, all is as
+-- before
 abbrev pub IsNextEntry : List ℕ → List SectionView → SectionView → ReaderView
     → Result (Option Entry) CallsFault → Type 0
 IsNextEntry text before s r (Ok (Some e)) = IsWithin text before (with_entries s (e ∷ [])) r

@@ -32,9 +32,9 @@ fn whole_text(alloc: Global, text: &[u8]) -> Result<Vec<Section>, CallsFault>
 }
 
 /// The 1 to 8 sections that a calls text spells, in one pass over the text. A text with the header
-/// `dlcalls 2` changes the limit of a domain, or has a task that goes to another domain or comes from
-/// one; a text with `dlcalls 1` has none of these. Entries have no reply, and in each section each
-/// client's are numbered 0, 1, 2, .. in their order.
+/// `dlcalls 2` changes the limit of a domain, or has a task that goes to another domain or comes
+/// from one; a text with `dlcalls 1` has none of these. Entries have no reply, and in each section
+/// each client's are numbered 0, 1, 2, .. in their order.
 ///
 /// # Errors
 /// 30 [`CallsFault::BadLine`]: the first line, from 1, at which the text stops being a front of

@@ -260,11 +260,11 @@ fn put_header(out: &mut Vec<u8>, later: bool) -> Result<(), NoMemory>
 }
 
 /// The calls text of sections (own): the one spelling of them, with the header `dlcalls 2` where a
-/// call changes the limit of its domain, or a task departs or arrives, and else `dlcalls 1`. Neither replies nor sequence numbers
-/// are looked at; where the text is read again, there are no replies, and each client's calls are
-/// numbered 0, 1, 2, .. No limit is tested: sections outside those of the format (1 to 8 of them, 1
-/// to 64 CPUs, a limit of 10485 to 1048576, at most 65536 calls, clients 1 to 64, and so on) are
-/// written in the same way, as a text that is not accepted.
+/// call changes the limit of its domain, or a task departs or arrives, and else `dlcalls 1`.
+/// Neither replies nor sequence numbers are looked at; where the text is read again, there are no
+/// replies, and each client's calls are numbered 0, 1, 2, .. No limit is tested: sections outside
+/// those of the format (1 to 8 of them, 1 to 64 CPUs, a limit of 10485 to 1048576, at most 65536
+/// calls, clients 1 to 64, and so on) are written in the same way, as a text that is not accepted.
 ///
 /// # Errors
 /// 12 [`NoMemory`]: a growth was refused; nothing of the text is left.

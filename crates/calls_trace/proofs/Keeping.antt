@@ -12,11 +12,10 @@ use Rattle.domain_run.specs.Domain.{Domain}
 use Rattle.domain_run.specs.Tick.{sum_of, ticked, ticks}
 use Rattle.domain_run.specs.declared.switch.Switch.{Switch}
 use Rattle.domain_run.specs.Passing.{behind}
-use Rattle.domain_run.proofs.Passing.{after_call_behind}
+use Rattle.domain_run.proofs.CallerLemmas.{after_call_behind, with_number_contains}
 use Rattle.domain_run.specs.Run.{after_calls}
 use Rattle.domain_run.specs.Calls.{admit_reply, reply_to, is_refusal, granted, after_call}
 use Rattle.domain_run.specs.Sound.{IsAdmitted}
-use Rattle.domain_run.proofs.CallerLemmas.{with_number_contains}
 use Rattle.calls_trace.specs.Replay.{with_name, named_by, names_after, names_of}
 
 -- ticks admit nobody

@@ -10,7 +10,7 @@ use Rattle.domain_run.specs.Passing.{behind, without_switches}
 use Rattle.domain_run.specs.Run.{after_calls}
 use Rattle.domain_run.specs.Tick.{ticks}
 use Rattle.domain_run.specs.Sound.{IsAdmitted, IsDomain, IsSwitch}
-use Rattle.domain_run.proofs.Passing.{after_calls_behind}
+use Rattle.domain_run.proofs.CallerLemmas.{after_calls_behind}
 use Rattle.switch_text.specs.Names.{Names, named, HasName, HasLine}
 use Rattle.switch_text.specs.Names.{SameNames}
 use Rattle.calls_trace.specs.Replay.{names_of}

@@ -13,8 +13,7 @@ use Rattle.domain_run.specs.Switches.{same_occupant, state_of, switches_from, is
 use Rattle.domain_run.specs.Tick.{prepared, ticked, ticks}
 use Rattle.domain_run.specs.Calls.{reply_to, is_refusal, granted, after_call}
 use Rattle.domain_run.specs.Run.{after_calls}
-use Rattle.domain_run.proofs.Tracing.{AllPairs-append, before_time}
-use Rattle.domain_run.proofs.ToldIn.{HasKnown, has_call, has_opened}
+use Rattle.domain_run.proofs.CallerLemmas.{AllPairs-append, before_time, HasKnown, has_call, has_opened}
 use Rattle.call_book.specs.SectionView.{SectionView}
 use Rattle.call_book.specs.Limits.{IsSection}
 use Rattle.calls_trace.specs.Replay.{calls_of}

@@ -50,7 +50,8 @@ pub(crate) fn text_of(alloc: Global, name: &Name) -> Result<String, NoMemory>
 }
 
 fn put_name(names: &mut IndexMap<u32, String>, number: u32, text: String) -> Result<(), NoMemory>
-    ensures ok { OnOk result (Gives names.new (with_name (named names.old) number (string_bytes text))) }
+    ensures ok { OnOk result (Gives names.new
+        (with_name (named names.old) number (string_bytes text))) }
 {
     match names.insert(number, text) {
         Ok(_) => Ok(()),

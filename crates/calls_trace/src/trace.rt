@@ -37,7 +37,8 @@ fn as_written(placed: &PlacedRun) -> Run<'_>
 /// Runs as they are written.
 fn all_as_written(alloc: Global, placed: &[PlacedRun]) -> Result<Vec<Run<'_>>, NoMemory>
     requires { All IsPlaced placed.now }
-    ensures views { IfOk result (λ v. runs.views v.items ≡ map (λ p. run_in (view_of p)) placed.now) }
+    ensures views { IfOk result (λ v. runs.views v.items
+        ≡ map (λ p. run_in (view_of p)) placed.now) }
     ensures runs { IfOk result (λ v. All runs.IsRun v.items) }
 {
     let mut written = Vec::with_capacity(alloc, placed.len())?;
@@ -74,7 +75,8 @@ fn as_told(placed: &PlacedRun) -> Result<Told<'_>, NoMemory>
 /// What happened in runs as it is written.
 fn all_as_told(alloc: Global, placed: &[PlacedRun]) -> Result<Vec<Told<'_>>, NoMemory>
     requires { All IsPlaced placed.now }
-    ensures views { IfOk result (λ v. told_views v.items ≡ map (λ p. told_in (view_of p)) placed.now) }
+    ensures views { IfOk result (λ v. told_views v.items
+        ≡ map (λ p. told_in (view_of p)) placed.now) }
     ensures told { IfOk result (λ v. All IsTold v.items) }
     ensures count { IfOk result (λ v. length v.items ≡ length placed.now) }
 {

@@ -107,7 +107,8 @@ fn postpone(server: Server, params: &Params, times: u64) -> Server
     requires near { IfSome server.deadline (λ d. d < 2 ^ 48) }
     requires spent { server.left ≤ℤ pos 0 }
     requires low { neg_ℤ (pos (2 ^ 32)) ≤ℤ server.left }
-    ensures deadline { result.deadline ≡ option_map (λ d. d + times * params.now.period) server.deadline }
+    ensures deadline { result.deadline
+        ≡ option_map (λ d. d + times * params.now.period) server.deadline }
     ensures left { result.left ≡ server.left +ℤ pos (times * budget params.now) }
 {
     let deadline = match server.deadline {

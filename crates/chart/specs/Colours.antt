@@ -1,5 +1,5 @@
--- The colours of CPUs (own: to eight, colours that colour-blind readers tell apart; of more, a ramp of
--- five from dark to light), and the colour of a number on them.
+-- The colours of CPUs (own: to eight, colours that colour-blind readers tell apart; of more, a ramp
+-- of five from dark to light), and the colour of a number on them.
 use Rattle.std.specs.Prelude.{ℕ, Bool, ◌+◌, ◌*◌, ◌/◌, ◌==◌, ◌||◌, nat_le, nat_lt, if◌then◌else◌, List, codes, map}
 use Rattle.std.specs.List.{range_with_len}
 

@@ -1,4 +1,5 @@
--- The elements of a row (own): its band and name, the lines between its bars, its bars, and its marks.
+-- The elements of a row (own): its band and name, the lines between its bars, its bars, and its
+-- marks.
 use Rattle.std.specs.Prelude.{ℕ, ◌+◌, ◌-◌, ◌/◌, ◌%◌, ◌==◌, ◌&&◌, Bool, true, nat_le, nat_lt, min, max, if◌then◌else◌, List, [], ◌++◌, length, flat_map, codes, decimal}
 use Rattle.chart_pieces.specs.declared.row.Bar.{Bar}
 use Rattle.chart_pieces.specs.declared.row.Gap.{Gap}
@@ -121,8 +122,8 @@ abbrev pub row_lines : Sheet → ℕ → ChartRowView → List ℕ
 row_lines s place r =
     flat_map (gap_line s place r.name) r.row.gaps ++ flat_map (bar_line s place r) r.row.bars
 
--- ---- NUMBERS OF CPUS, in the middle of what is seen of a bar, where there are several CPUs, the row
--- is tall and the bar wide enough
+-- ---- NUMBERS OF CPUS, in the middle of what is seen of a bar, where there are several CPUs, the
+-- row is tall and the bar wide enough
 
 abbrev pub seen_from : Sheet → Bar → ℕ
 seen_from s b = max b.start s.window.from

@@ -114,7 +114,8 @@ next_job : row_of (window 0 20) (run 1 20
       number = 1;
       bars = bar 0 0 9 ∷ [];
       gaps = [];
-      marks = mark ReleasedAt 0 ∷ mark DueAt 8 ∷ mark ReleasedAt 6 ∷ mark DueAt 14 ∷ mark EndedAt 9 ∷ [];
+      marks = mark ReleasedAt 0 ∷ mark DueAt 8 ∷ mark ReleasedAt 6 ∷ mark DueAt 14 ∷ mark EndedAt 9
+          ∷ [];
     }
 next_job = refl
 

@@ -1,5 +1,5 @@
--- How a task stands: whether a job of it is under way, whether it is throttled, and on which CPU it is
--- (own; ready and throttled as in sched-deadline.rst, "2. Task scheduling").
+-- How a task stands: whether a job of it is under way, whether it is throttled, and on which CPU it
+-- is (own; ready and throttled as in sched-deadline.rst, "2. Task scheduling").
 use Rattle.std.specs.Prelude.{ℕ, Bool, true, false, ◌&&◌, ◌||◌, is_none, if◌then◌else◌, Some, None}
 use Rattle.domain_run.specs.declared.happened.What.{What}
 use Rattle.domain_run.specs.declared.happened.What.TheVariants.{JobEnds, NextReleased, Spent, Cut, Replenished, Released, WokenSpent}
@@ -47,7 +47,7 @@ after (Told what) s = after_told what s
 after (Leaves cpu state) s = after_leaving cpu s
 after (Comes cpu) s = record s { cpu = Some cpu }
 
--- between its bars it is shown where it is throttled, and where it is ready: a job is under way, and
--- it runs on no CPU
+-- between its bars it is shown where it is throttled, and where it is ready: a job is under way,
+-- and it runs on no CPU
 abbrev pub is_shown : Standing → Bool
 is_shown s = is_none s.cpu && (s.throttled || s.works)

@@ -21,8 +21,8 @@ pub record IsWhole (w : Window) (time : ℕ) : Type 0 where
   pub first : w.from ≡ 0
   pub last : time ≤ w.to
 
--- WHAT IS ASKED FOR: a part of a run, to its end where no end is given; at least a microsecond of it is
--- shown, and nothing behind 2^42 us
+-- WHAT IS ASKED FOR: a part of a run, to its end where no end is given; at least a microsecond of
+-- it is shown, and nothing behind 2^42 us
 abbrev pub last_of : Option ℕ → ℕ → ℕ
 last_of None end = end
 last_of (Some to) end = to

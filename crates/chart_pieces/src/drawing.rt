@@ -29,8 +29,8 @@ fn lines_of(alloc: Global, run: &Run<'_>, window: &Window) -> Result<Vec<Line>, 
     Ok(table)
 }
 
-/// What is drawn in a window of each task of a run, in the order of the tasks. Goes once through what
-/// happened, and twice through the switches.
+/// What is drawn in a window of each task of a run, in the order of the tasks. Goes once through
+/// what happened, and twice through the switches.
 ///
 /// # Errors
 /// 12 [`NoMemory`]: a growth was refused; nothing is left.

@@ -1,11 +1,11 @@
-//! The pieces of a chart of a domain's run: where each task ran, wanted a CPU and was throttled, when
-//! its jobs were released and due, and when it ended.
+//! The pieces of a chart of a domain's run: where each task ran, wanted a CPU and was throttled,
+//! when its jobs were released and due, and when it ended.
 //!
-//! Meets the definitions of bars (`specs/Bars.antt`), of how a task stands (`specs/Standing.antt`) and
-//! of rows (`specs/Rows.antt`), of the part of the run that a window (`specs/Window.antt`) shows. To
-//! the crate above it promises that each row is the definition's, of the list of what happened and the
-//! switches that it was given; that all that is drawn has a part in the window; and that over a whole
-//! run the bars of a task sum to its CPU time in the summary.
+//! Meets the definitions of bars (`specs/Bars.antt`), of how a task stands (`specs/Standing.antt`)
+//! and of rows (`specs/Rows.antt`), of the part of the run that a window (`specs/Window.antt`)
+//! shows. To the crate above it promises that each row is the definition's, of the list of what
+//! happened and the switches that it was given; that all that is drawn has a part in the window;
+//! and that over a whole run the bars of a task sum to its CPU time in the summary.
 #![tactic(auto)]
 
 mod drawing;

@@ -1,5 +1,5 @@
-//! The command line of the program: its three commands, their options with defaults, limits and help
-//! texts, and the reading of words by clap.
+//! The command line of the program: its three commands, their options with defaults, limits and
+//! help texts, and the reading of words by clap.
 //!
 //! [`matches_of`] meets the definitions "Commands" (`specs/Commands.antt`) and "Reading of words"
 //! (`specs/Reading.antt`). To the crate above it promises that what it finds is what clap's rules

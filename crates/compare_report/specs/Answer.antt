@@ -13,7 +13,8 @@ use Rattle.compare_report.specs.declared.options.CompareOptions.{CompareOptions}
 use Rattle.compare_report.specs.Reading.{AreReadFrom, Pair, ArePair}
 use Rattle.compare_report.specs.Report.{IsReport}
 
--- what a comparison met: the readers of both texts and the writer, each before the call and after it
+-- what a comparison met: the readers of both texts and the writer, each before the call and after
+-- it
 pub record Streams : Type 0 where
   pub model : Side
   pub recorded : Side

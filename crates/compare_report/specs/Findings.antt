@@ -21,12 +21,14 @@ IsNearestOf shift m rs (Some s) =
     (k : ℕ) × IsNearest shift m rs k × ((d : Run) → s ≡ stretch_of (slice_index_or rs k d))
 
 -- the model's run of this number, and the recorded run that is nearest
-pub record IsMissingAt (shift : ℕ) (name : List ℕ) (t : TaskRuns) (i : ℕ) (x : Missing) : Type 0 where
+pub record IsMissingAt (shift : ℕ) (name : List ℕ) (t : TaskRuns) (i : ℕ) (x : Missing)
+    : Type 0 where
   pub called : x.place.name.now ≡ name
   pub number : x.place.number ≡ i
   pub among : i < length t.model.items
   pub run : (d : Run) → x.place.run ≡ stretch_of (slice_index_or t.model.items i d)
-  pub nearest : (d : Run) → IsNearestOf shift (slice_index_or t.model.items i d) t.recorded.items x.nearest
+  pub nearest : (d : Run) → IsNearestOf shift
+      (slice_index_or t.model.items i d) t.recorded.items x.nearest
 
 -- the task's first run of the model that no recorded run matches, if there is one
 abbrev pub IsMissingOf : ℕ → List ℕ → TaskRuns → Matching → Option Missing → Type 0
@@ -40,21 +42,24 @@ pub record IsOtherAt (name : List ℕ) (t : TaskRuns) (r : Run) (p : Place) : Ty
   pub number : p.number ≡ count_by (λ q. nat_lt q.start r.start) t.recorded.items
   pub run : p.run ≡ stretch_of r
 
--- the task's first recorded run inside the model's time that matches none of the model, if there is one
+-- the task's first recorded run inside the model's time that matches none of the model, if there is
+-- one
 abbrev pub IsOtherOf : ℕ → ℕ → ℕ → List ℕ → TaskRuns → Matching → Option Place → Type 0
 IsOtherOf shift from until name t m None = first_other from until shift m.left.items ≡ None
 IsOtherOf shift from until name t m (Some p) =
     (r : Run) × (first_other from until shift m.left.items ≡ Some r) × IsOtherAt name t r p
 
 -- what is told of a task, where the model's time is from one time until another
-pub record IsFinding (shift from until : ℕ) (name : List ℕ) (t : TaskRuns) (m : Matching) (f : Finding) : Type 0 where
+pub record IsFinding (shift from until : ℕ) (name : List ℕ) (t : TaskRuns) (m : Matching)
+    (f : Finding) : Type 0 where
   pub row : IsRow shift from until name t m f.row
   pub missing : IsMissingOf shift name t m f.missing
   pub other : IsOtherOf shift from until name t m f.other
   pub same : f.same_cpu ≡ same_cpu (pairs_of t.model.items m.partners.items)
 
 -- of each of the first n tasks, in their order
-pub record AreFindings (shift from until : ℕ) (names : List (List ℕ)) (tasks : List TaskRuns) (matchings : List Matching) (n : ℕ) (findings : List Finding) : Type 0 where
+pub record AreFindings (shift from until : ℕ) (names : List (List ℕ)) (tasks : List TaskRuns)
+    (matchings : List Matching) (n : ℕ) (findings : List Finding) : Type 0 where
   pub as_many : length findings ≡ n
   pub each : (j : ℕ) (x : List ℕ) (t : TaskRuns) (m : Matching) (f : Finding) → j < n
       → IsFinding shift from until (slice_index_or names j x) (slice_index_or tasks j t)

@@ -1,5 +1,5 @@
--- The first difference (own): of the earliest runs that match nothing, by their starts; of equals that
--- of the first task.
+-- The first difference (own): of the earliest runs that match nothing, by their starts; of equals
+-- that of the first task.
 use Rattle.std.specs.Prelude.{◌≡◌, ℕ, ◌<◌, ◌≤◌, List, length, slice_index_or, Option, Some, None}
 
 -- among candidates, one a task and some without, the earliest

@@ -7,14 +7,15 @@ use Rattle.recorded_text.specs.Text.{IsRead}
 
 -- the switches of a text, of which there are some; the names of their tasks stand behind those that
 -- were there, as they first come
-pub record AreReadFrom (text : Option (List ℕ)) (before names : List (List ℕ)) (steps : List Step) : Type 0 where
+pub record AreReadFrom (text : Option (List ℕ)) (before names : List (List ℕ)) (steps : List Step)
+    : Type 0 where
   pub read : IfSome text (λ bytes. IsRead bytes names steps)
   pub named : AreNamed names steps
   pub called : names ≡ names_on before (map (step_view names) steps)
   pub some : 0 < length steps
 
--- the model's switches and the recorded ones, and the names of all tasks, of which the first so many
--- are the model's
+-- the model's switches and the recorded ones, and the names of all tasks, of which the first so
+-- many are the model's
 pub record Pair : Type 0 where
   pub names : List (List ℕ)
   pub many : ℕ

@@ -28,5 +28,6 @@ pub record IsReport (asked : CompareOptions) (p : Pair) (text : List ℕ) : Type
   pub compared : Compared
   pub is_compared : IsCompared asked.within (option_map asked_shift asked.shift) tasks compared
   pub findings : List Finding
-  pub are_findings : AreFindings compared.shift (first_start tasks) (last_end tasks) p.names tasks compared.tasks.items (length tasks) findings
+  pub are_findings : AreFindings compared.shift (first_start tasks)
+      (last_end tasks) p.names tasks compared.tasks.items (length tasks) findings
   pub is_text : IsTextOf asked.cpus compared.shift findings text

@@ -14,7 +14,8 @@ IsSpreadOf values None = values ≡ []
 IsSpreadOf values (Some s) = IsSpread values s
 
 -- the row of a task, where the model's time is from one time until another
-pub record IsRow (shift from until : ℕ) (name : List ℕ) (t : TaskRuns) (m : Matching) (r : Row) : Type 0 where
+pub record IsRow (shift from until : ℕ) (name : List ℕ) (t : TaskRuns) (m : Matching) (r : Row)
+    : Type 0 where
   pub called : r.name.now ≡ name
   pub runs : r.runs ≡ length t.model.items
   pub matches : r.matched ≡ matched m.partners.items

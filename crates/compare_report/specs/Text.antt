@@ -11,7 +11,8 @@ use Rattle.compare_report.specs.declared.finding.Missing.{Missing}
 use Rattle.compare_report.specs.declared.finding.Finding.{Finding}
 use Rattle.compare_report.specs.First.{IsFirst}
 
--- by how much the recording's clock is ahead, or behind, under a shift that is counted from -2^61 us
+-- by how much the recording's clock is ahead, or behind, under a shift that is counted from -2^61
+-- us
 abbrev pub shift_told : ℕ → Shift
 shift_told shift = record { behind = nat_lt shift no_shift; us = distance shift no_shift }
 
@@ -36,7 +37,8 @@ told cpus shift fs missing other =
     ++ (header ++ (flat_map (λ f. row_line f.row) fs
     ++ (cpus_told cpus fs ++ differences_told missing other)))
 
--- when each task's first run of the model that matches nothing begins, and its first such recorded run
+-- when each task's first run of the model that matches nothing begins, and its first such recorded
+-- run
 abbrev pub missing_starts : List Finding → List (Option ℕ)
 missing_starts fs = map (λ f. option_map (λ x. x.place.run.start) f.missing) fs
 

@@ -55,8 +55,8 @@ fn read_text<R: Read>(
 }
 
 /// Reads the model's trace to its end, then a recording to its end, sets the runs of the model's
-/// tasks in both beside one another, and writes the report: the shift between both clocks; a row for
-/// each task; where it is asked for, how many matched runs were on the same CPU; and the first
+/// tasks in both beside one another, and writes the report: the shift between both clocks; a row
+/// for each task; where it is asked for, how many matched runs were on the same CPU; and the first
 /// differences, by the clock of the text that has the run.
 ///
 /// `Ok`: what was written is the report of these two texts, and nothing else.
@@ -64,9 +64,9 @@ fn read_text<R: Read>(
 /// # Errors
 /// The first that is met, in the order of reading. [`CompareFault::BadLine`],
 /// [`CompareFault::NoSwitch`], [`CompareFault::Read`] and [`CompareFault::Endless`] of one of the
-/// texts, [`CompareFault::Memory`] where a growth was refused: nothing was written, and of a fault of
-/// the model's text the recording was not read. [`CompareFault::Write`] where the writer failed: it
-/// took exactly so many bytes, the front of the report, and not all.
+/// texts, [`CompareFault::Memory`] where a growth was refused: nothing was written, and of a fault
+/// of the model's text the recording was not read. [`CompareFault::Write`] where the writer failed:
+/// it took exactly so many bytes, the front of the report, and not all.
 pub fn compare_texts<M: Read, R: Read, W: Write>(
     alloc: Global,
     model: &mut Counted<M>,

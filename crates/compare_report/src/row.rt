@@ -40,7 +40,8 @@ fn inside_of(alloc: Global, span: Span, left: &[Run]) -> Result<Vec<Run>, AllocE
     requires from { span.from ≤ 2 ^ 61 }
     requires until { span.until < 2 ^ 61 }
     requires left { All IsShort left.now }
-    ensures { IfOk result (λ v. v.items ≡ filter (is_inside span.from span.until span.shift) left.now) }
+    ensures { IfOk result (λ v. v.items
+        ≡ filter (is_inside span.from span.until span.shift) left.now) }
 {
     let mut runs = Vec::new(alloc);
     for run in left {
@@ -71,8 +72,10 @@ pub(crate) fn row_of<'a>(
     requires until { span.until < 2 ^ 61 }
     requires task { IsSound task.now }
     requires matching { IsSoundMatching matching.now }
-    requires starts { apart.starts.items ≡ map (start_apart span.shift) (pairs_of task.now.model.items matching.now.partners.items) }
-    requires ends { apart.ends.items ≡ map (end_apart span.shift) (pairs_of task.now.model.items matching.now.partners.items) }
+    requires starts { apart.starts.items
+        ≡ map (start_apart span.shift) (pairs_of task.now.model.items matching.now.partners.items) }
+    requires ends { apart.ends.items
+        ≡ map (end_apart span.shift) (pairs_of task.now.model.items matching.now.partners.items) }
     ensures { IfOk result (IsRow span.shift span.from span.until name.now task.now matching.now) }
 {
     let others = inside_of(alloc, span, &matching.left)?;

@@ -28,7 +28,8 @@ fn shift_of(shift: u64) -> Shift
 
 /// Puts the rows of tasks behind a text.
 fn put_rows(out: &mut Vec<u8>, findings: &[Finding<'_>]) -> Result<(), NoMemory>
-    ensures { OnOk result (out.new.items ≡ out.old.items ++ flat_map (λ f. row_line f.row) findings.now) }
+    ensures { OnOk result (out.new.items ≡ out.old.items
+        ++ flat_map (λ f. row_line f.row) findings.now) }
 {
     for finding in findings {
         put_row(out, &finding.row)?;
@@ -85,7 +86,8 @@ fn put_differences(
     missing: Option<Missing<'_>>,
     other: Option<Place<'_>>,
 ) -> Result<(), NoMemory>
-    ensures { OnOk result (out.new.items ≡ out.old.items ++ differences_told missing.entry other.entry) }
+    ensures { OnOk result (out.new.items ≡ out.old.items
+        ++ differences_told missing.entry other.entry) }
 {
     match missing {
         None => match other {
@@ -172,7 +174,8 @@ fn put_all(
     missing: Option<Missing<'_>>,
     other: Option<Place<'_>>,
 ) -> Result<(), NoMemory>
-    ensures { OnOk result (out.new.items ≡ out.old.items ++ told cpus shift findings.now missing.entry other.entry) }
+    ensures { OnOk result (out.new.items ≡ out.old.items
+        ++ told cpus shift findings.now missing.entry other.entry) }
 {
     put_shift(out, shift_of(shift))?;
     put_header(out)?;

@@ -36,7 +36,8 @@ shift_line s = codes "shift " ++ (sign s.behind ++ (seconds s.us ++ codes " s\n"
 -- a half of the distances is at most the first, 95 of 100 at most the second, and all at most the
 -- third; dashes where nothing matched
 abbrev pub spread_columns : ℕ → Option Spread → List ℕ
-spread_columns width None = column width (codes "-") ++ (column 9 (codes "-") ++ column 9 (codes "-"))
+spread_columns width None = column width (codes "-")
+    ++ (column 9 (codes "-") ++ column 9 (codes "-"))
 spread_columns width (Some s) =
     column width (decimal s.half) ++ (column 9 (decimal s.most) ++ column 9 (decimal s.max))
 
@@ -81,7 +82,8 @@ nearest_text (Some s) = codes ", nearest recorded " ++ (stretch_text s ++ codes 
 
 -- the first run of the model that nothing recorded matches
 abbrev pub missing_line : Place → Option Stretch → List ℕ
-missing_line p nearest = codes "first difference: model run " ++ (place_text p ++ nearest_text nearest)
+missing_line p nearest = codes "first difference: model run "
+    ++ (place_text p ++ nearest_text nearest)
 
 -- the first recorded run that matches none of the model
 abbrev pub other_line : Place → List ℕ

@@ -1,8 +1,8 @@
 //! The table of a comparison of a recorded trace with the model's, as a text.
 //!
 //! Meets the definition of the table's lines (`specs/Table.antt`) and of quantiles
-//! (`specs/Quantiles.antt`). To the crate above it promises that each value stands in its column, at
-//! the right, and that a time is written to the microsecond.
+//! (`specs/Quantiles.antt`). To the crate above it promises that each value stands in its column,
+//! at the right, and that a time is written to the microsecond.
 #![tactic(auto)]
 
 mod differing;

@@ -71,7 +71,8 @@ impl<R: Read> Counted<R> {
             n ≡ 0 → 0 < length buf.new → IsAtEnd (R.remaining (inner_of self.new))) }
         ensures kept { IfNone result
             (Keeps (R.remaining (inner_of self.old)) (R.remaining (inner_of self.new))) }
-        ensures faults { faults_of self.new ≡ one_more_unless (is_some result) (faults_of self.old) }
+        ensures faults { faults_of self.new
+            ≡ one_more_unless (is_some result) (faults_of self.old) }
         ensures asked { calls_of self.new
             ≡ calls_of self.old ++ record { most = length buf.new; answer = result } ∷ [] }
     {
@@ -90,7 +91,8 @@ impl<R: Read> Counted<R> {
     /// After an error the bytes read so far are gone.
     pub fn read_all(&mut self, alloc: Global) -> Result<Vec<u8>, ReadFault>
         requires { faults_of self.old < 2 ^ 63 }
-        ensures all { IfOk result (λ v. IfSome (R.remaining (inner_of self.old)) (λ bytes. v.items ≡ bytes)) }
+        ensures all { IfOk result (λ v. IfSome (R.remaining (inner_of self.old))
+            (λ bytes. v.items ≡ bytes)) }
         ensures end { OnOk result (IsAtEnd (R.remaining (inner_of self.new))) }
         ensures err { OnErr result
             (ConsumesSome (R.remaining (inner_of self.old)) (R.remaining (inner_of self.new))) }
@@ -128,7 +130,8 @@ impl<W: Write> Counted<W> {
             Appends (W.contents (inner_of self.old)) (W.contents (inner_of self.new)) (take n bytes.now)) }
         ensures kept { IfNone result
             (Keeps (W.contents (inner_of self.old)) (W.contents (inner_of self.new))) }
-        ensures faults { faults_of self.new ≡ one_more_unless (is_some result) (faults_of self.old) }
+        ensures faults { faults_of self.new
+            ≡ one_more_unless (is_some result) (faults_of self.old) }
         ensures asked { (answer : Option ℕ)
             × (calls_of self.new
             ≡ calls_of self.old ++ record { most = length bytes.now; answer = answer } ∷ [])

@@ -1,5 +1,5 @@
-//! A reader or a writer, and its calls. That a call of [`Port`] is one call of what it holds is seen
-//! in its two methods below, which alone can reach it.
+//! A reader or a writer, and its calls. That a call of [`Port`] is one call of what it holds is
+//! seen in its two methods below, which alone can reach it.
 
 ghost use Rattle.std.specs.Prelude.{◌≡◌, ◌<◌, ◌≤◌, ◌++◌, ◌∷◌, [], length, take, IfSome, IfNone};
 ghost use Rattle.std.specs.Io.KnownBytes.{Appends, Consumes, IsAtEnd, Keeps};

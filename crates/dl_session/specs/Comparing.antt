@@ -48,6 +48,7 @@ comparison_status (NotOpened name) = 3
 comparison_status (Fault fault names) = compare_status fault
 
 -- a comparison that answered Ok ends with no line, another one with its fault
-abbrev pub IsEndOfComparison : Result (Unit {0}) CompareFault → TraceNames → ComparisonEnding → Type 0
+abbrev pub IsEndOfComparison : Result (Unit {0}) CompareFault → TraceNames → ComparisonEnding
+    → Type 0
 IsEndOfComparison (Ok done) names ending = ending ≡ Done
 IsEndOfComparison (Err fault) names ending = ending ≡ Fault fault names

@@ -15,8 +15,8 @@ use Rattle.session.specs.RunEnd.{advance_of, EndsWith}
 abbrev pub history_of : List (List Entry) → ℕ → List Entry
 history_of histories d = slice_index_or histories d []
 
--- EBUSY of a book is by the cap that the domain was opened with, since nobody changes its limit: the
--- sum that was seen is at most this cap, and leaves no room for the task below it
+-- EBUSY of a book is by the cap that the domain was opened with, since nobody changes its limit:
+-- the sum that was seen is at most this cap, and leaves no room for the task below it
 pub record IsOverItsCap (id : SessionId) (t : TaskSpecView) (d seen : ℕ) : Type 0 where
   pub within : seen ≤ cap_in id d
   pub above : cap_in id d < seen + (params_of t.attr).bw
@@ -25,10 +25,11 @@ abbrev pub IsByCap : SessionId → ℕ → TaskSpecView → Answer → Type 0
 IsByCap id d t (Ok (replies.Busy seen)) = Goes id t d → IsOverItsCap id t d seen
 IsByCap id d t _ = Unit {0}
 
--- ANSWERS OF A SCENARIO, for so many clients. There is a lawful answer for each task, and EBUSY of a
--- book is by the cap of its domain; the refusals are those among the answers; nobody but the clients entered anything; in each domain the entries
--- of each client are the calls of its own tasks that were answered there, in the order of tasks,
--- and then its advance; and the advance is the last entry of all
+-- ANSWERS OF A SCENARIO, for so many clients. There is a lawful answer for each task, and EBUSY of
+-- a book is by the cap of its domain; the refusals are those among the answers; nobody but the
+-- clients entered anything; in each domain the entries of each client are the calls of its own
+-- tasks that were answered there, in the order of tasks, and then its advance; and the advance is
+-- the last entry of all
 pub record AnswersScenario (id : SessionId) (clients : ℕ) (tasks : List TaskSpecView)
     (duration : ℕ) (histories : List (List Entry)) (refused : List (ℕ × Refusal)) : Type 0 where
   pub asked : List Asked

@@ -45,8 +45,8 @@ is_part s = nat_lt s.from (last_of s) && nat_le (last_of s) (2 ^ 42)
 abbrev pub span_of : SpanWords → Result Span WordsFault
 span_of w = if is_part (part_of w) then Ok (part_of w) else Err faults.Window
 
--- the window that shows it of a run, whenever that ends, begins where it does, and ends where it does
--- if that is said
+-- the window that shows it of a run, whenever that ends, begins where it does, and ends where it
+-- does if that is said
 pub record IsAsAsked (s : Span) : Type 0 where
   pub from : (end : ℕ) → (window_of s end).from ≡ s.from
   pub to : (end to : ℕ) → s.to ≡ Some to → (window_of s end).to ≡ to

@@ -52,9 +52,9 @@ impl<'a> ComparisonEnding<'a> {
         }
     }
 
-    /// The exit status of the program: 0 where the report was written, 1 for a trace that is none, 2
-    /// where both are standard input, 3 where a file was not opened or reading or writing failed, 4
-    /// for want of memory.
+    /// The exit status of the program: 0 where the report was written, 1 for a trace that is none,
+    /// 2 where both are standard input, 3 where a file was not opened or reading or writing failed,
+    /// 4 for want of memory.
     pub fn status(&self) -> u8
         ensures { result ≡ comparison_status self.now }
     {

@@ -10,9 +10,9 @@
 //! [`replay_as`] is for recorded calls, and [`replay`] for their trace. They are the crate
 //! `calls_trace`'s, with the faults of a session (`specs/Answer.antt`), and meet its definition of
 //! what a replay answers. To the crates above they promise the theorem on `replay`: `Ok` means that
-//! what was written is the trace of the runs of the sections that were read, each on a domain of its
-//! own, or their calls with the replies, and nothing else; each fault means what it says, and where
-//! it is no fault of the writer, nothing was written.
+//! what was written is the trace of the runs of the sections that were read, each on a domain of
+//! its own, or their calls with the replies, and nothing else; each fault means what it says, and
+//! where it is no fault of the writer, nothing was written.
 //!
 //! [`compare_texts`] is for two traces, and the crate `compare_report`'s; how it ends is a
 //! [`ComparisonEnding`] (`specs/Comparing.antt`).

@@ -49,7 +49,8 @@ fn scenario_fault(fault: ScenarioFault) -> SessionFault
 /// Reads a scenario to its end.
 fn read_scenario<R: Read>(alloc: Global, reader: &mut Counted<R>) -> Result<Scenario, SessionFault>
     requires { faults_of reader.old < 2 ^ 63 }
-    ensures ok { (w : Side) → IfOk result (IsScenario (streams (side R.remaining reader.old reader.new) w)) }
+    ensures ok { (w : Side) → IfOk result
+        (IsScenario (streams (side R.remaining reader.old reader.new) w)) }
     ensures reads { OnOk result (HasNoFault (side R.remaining reader.old reader.new)) }
     ensures short { IfOk result (λ s. s.duration_us ≤ 60000000) }
     ensures err { let r : Side = side R.remaining reader.old reader.new in
@@ -120,7 +121,8 @@ fn run_in<N: Names + Send + Sync, T: Turnstile, X: Threads + Wait + Sync>(
     requires some { 0 < many }
     requires duration { duration ≤ 60000000 }
     ensures ok { IfOk result (IsRan N.id tasks.now duration wanted) }
-    ensures err { IfErr result (IsHalted ((0 < duration) × IsFullDomain N.id N.id.clients tasks.now)) }
+    ensures err { IfErr result (IsHalted
+        ((0 < duration) × IsFullDomain N.id N.id.clients tasks.now)) }
 {
     let mut session: Session<N> = Session::open(parts);
     let Ok(clients) = take_clients(alloc, &mut session, many) else {

@@ -183,12 +183,12 @@ pub fn read_limit(rt_runtime: u64, rt_period: u64) -> Option<u64>
     Some(to_ratio(rt_period, rt_runtime))
 }
 
-/// The part of a run that the words ask for. Where they do not say so, it begins with the run, and ends
-/// with it.
+/// The part of a run that the words ask for. Where they do not say so, it begins with the run, and
+/// ends with it.
 ///
 /// # Errors
-/// [`WordsFault::Window`]: the part does not begin before it ends, or before 2^42 us where no end is
-/// said; or it ends behind 2^42 us.
+/// [`WordsFault::Window`]: the part does not begin before it ends, or before 2^42 us where no end
+/// is said; or it ends behind 2^42 us.
 pub fn read_span(words: SpanWords) -> Result<Span, WordsFault>
     ensures span { result ≡ span_of words }
     ensures shown { IfOk result IsAsAsked }

@@ -37,7 +37,8 @@ IsOptionalAt rows name n = (o : Option ℕ) × IsReadAt rows name o × (n ≡ op
 abbrev pub IsShift : ℤ → Type 0
 IsShift us = (neg_ℤ (pos (2 ^ 60)) ≤ℤ us) × (us ≤ℤ pos (2 ^ 60))
 
--- the text is a sign, where it has one, and decimal digits that write the number, which fits 64 bits
+-- the text is a sign, where it has one, and decimal digits that write the number, which fits 64
+-- bits
 pub record SpellsSigned (text : List ℕ) (number : ℤ) : Type 0 where
   pub digits : IsNumeral 10 (without_leading_sign text)
   pub value : signed_digits_value 10 text ≡ number

@@ -45,8 +45,8 @@ abbrev pub IsCutBy : SpanWords → Option Span → Type 0
 IsCutBy words (Some span) = span_of words ≡ Ok span
 IsCutBy words None = uncut words ≡ Ok tt
 
--- what is printed: the text at `print` asks for it, each by a text of its own; and where that asks for
--- nothing, this one. A chart is of that part
+-- what is printed: the text at `print` asks for it, each by a text of its own; and where that asks
+-- for nothing, this one. A chart is of that part
 pub record IsAskedAt {P : Type 0} (text_of : P → List ℕ) (span_in : P → Option Span) (otherwise : P)
     (rows : List Row) (print : P) : Type 0 where
   pub asked : (p : P) → first_of (codes "print") rows ≡ Some (text_of p)

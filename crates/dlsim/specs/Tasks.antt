@@ -67,8 +67,8 @@ IsRunRefusedBy rows (wrong.Options fault) = IsFaultOf rows fault
 IsRunRefusedBy rows (wrong.Clap error) = ⊥
 IsRunRefusedBy rows wrong.BothStdin = ⊥
 
--- with those at the options of `replay`: they ask for no part that a chart can show, or for one beside
--- another text
+-- with those at the options of `replay`: they ask for no part that a chart can show, or for one
+-- beside another text
 abbrev pub IsReplayRefusedBy : List Row → Wrong → Type 0
 IsReplayRefusedBy rows (wrong.Options fault) = IsCutFault rows fault
 IsReplayRefusedBy rows (wrong.Clap error) = ⊥
@@ -88,8 +88,8 @@ IsRefusedBy command w =
     ⊎ (((rows : List Row) × (command ≡ Some (codes "compare", rows)) × IsComparisonRefusedBy rows w)
     ⊎ ((rows : List Row) × (command ≡ Some (codes "replay", rows)) × IsReplayRefusedBy rows w))
 
--- what is wrong: clap's rules refuse the words, or memory ran out; or they accept them, and the words
--- at the options of the command are refused
+-- what is wrong: clap's rules refuse the words, or memory ran out; or they accept them, and the
+-- words at the options of the command are refused
 abbrev pub IsWrong : App → List Text → Wrong → Type 0
 IsWrong app words (wrong.Clap error) = HasKind (fault_of app words) error
 IsWrong app words (wrong.Options fault) =
@@ -98,8 +98,8 @@ IsWrong app words wrong.BothStdin = IsRefusedBy (subcommand_of app words) wrong.
 
 -- what the words of a command line, of which the first is the program's name, ask for: the command
 -- that clap's rules find in them, a run with the options that its words mean, a comparison with its
--- traces and numbers, or a replay with what it prints, and each option of a run and of a replay has a
--- text that it takes; or what is wrong with them
+-- traces and numbers, or a replay with what it prints, and each option of a run and of a replay has
+-- a text that it takes; or what is wrong with them
 pub record IsAskedBy (words : List Text) (r : Result Task Wrong) : Type 0 where
   pub run : HeldNames
   pub replay : HeldNames

@@ -1,11 +1,12 @@
-//! dlsim: a model of SCHED_DEADLINE that writes of a scenario, or of recorded calls, the switches as a
-//! trace, also with what happens between them, the jobs, a summary, or the calls with their replies;
-//! and that compares a trace with a recorded one.
+//! dlsim: a model of SCHED_DEADLINE that writes of a scenario, or of recorded calls, the switches
+//! as a trace, also with what happens between them, the jobs, a summary, or the calls with their
+//! replies; and that compares a trace with a recorded one.
 //!
 //! The program reads its words with clap (`words`), and calls [`dl_session::run`] or
 //! [`dl_session::replay_as`] with standard input and standard output, or
-//! [`dl_session::compare_texts`] with two files or one, and standard input. What it says on standard
-//! error then, and its exit status, are those of the [`Ending`] or the [`ComparisonEnding`].
+//! [`dl_session::compare_texts`] with two files or one, and standard input. What it says on
+//! standard error then, and its exit status, are those of the [`Ending`] or the
+//! [`ComparisonEnding`].
 #![tactic(auto)]
 
 mod comparison;

@@ -99,8 +99,8 @@ fn span_words_of(found: &ArgMatches<'_>) -> SpanWords
     }
 }
 
-/// What is printed of a run: what the text at `print` asks for. Where it asks for nothing, which clap
-/// does not let come, the trace.
+/// What is printed of a run: what the text at `print` asks for. Where it asks for nothing, which
+/// clap does not let come, the trace.
 ///
 /// # Errors
 /// [`WordsFault::Window`] where a chart's part does not begin before it ends;
@@ -260,8 +260,8 @@ fn task_of(alloc: Global, matches: &ArgMatches<'_>) -> Result<Task, Wrong>
 }
 
 /// What words ask for, of which the first is the program's name; or what is wrong with them: first
-/// what clap says of them, then of `run` and `replay` the part that a chart shows, of `run` the list
-/// of domains and the limit, of `compare` that standard input is for one of its traces.
+/// what clap says of them, then of `run` and `replay` the part that a chart shows, of `run` the
+/// list of domains and the limit, of `compare` that standard input is for one of its traces.
 ///
 /// # Errors
 /// [`Wrong::Clap`]: what clap says, also where it is asked for help. Then those of [`task_of`].

@@ -36,6 +36,11 @@ pub use Rattle.domain_run.proofs.OrderGathered.{gathered, gather, gathered_both}
 pub use Rattle.domain_run.proofs.Logging.{tells_none, tells_more, tells_silent}
 pub use Rattle.domain_run.proofs.ToldRising.{IsSooner, IsSoonerUnlessCut, IsRising}
 pub use Rattle.domain_run.proofs.ToldIn.{IsToldIn, run_tells, run_rises, run_cpus}
+pub use Rattle.domain_run.proofs.Passing.{after_call_behind, after_calls_behind, ticks_behind, told_by_ticks_behind}
+pub use Rattle.domain_run.proofs.ToldIn.{HasKnown, has_call, has_opened}
+pub use Rattle.domain_run.proofs.ToldRising.{IsBeginning, IsEnd, beginning_is, ending_is}
+pub use Rattle.domain_run.proofs.ToldSorted.{pairs_first, pairs_rest, length-in_order}
+pub use Rattle.domain_run.proofs.Tracing.{AllPairs-append, before_time}
 
 and_left : (a b : Bool) → (a && b) ≡ true → a ≡ true
 and_left true b e = refl

@@ -10,7 +10,7 @@ use Rattle.grub_rules.specs.Sums.{uinact}
 use Rattle.edf_pick.specs.declared.moves.Moved.{Moved}
 use Rattle.edf_pick.specs.Moves.{moved_from, same_occupant as moved_same}
 use Rattle.edf_pick.specs.Places.{Places}
-use Rattle.edf_pick.proofs.Moving.{same_is}
+use Rattle.edf_pick.proofs.CallerLemmas.{same_is}
 use Rattle.due_times.specs.declared.doubts.Doubts.{Doubts}
 use Rattle.due_times.specs.declared.seats.Seat.{Seat}
 use Rattle.due_times.specs.declared.seats.Basis.{Basis}

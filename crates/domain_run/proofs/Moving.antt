@@ -9,8 +9,7 @@ use Rattle.edf_pick.specs.Changes.{home_on, homed}
 use Rattle.edf_pick.specs.Moves.{moved_from, same_occupant as moved_same}
 use Rattle.edf_pick.specs.Places.{Places, AreSingle, is_task}
 use Rattle.edf_pick.specs.Schedule.{IsAtHome, homed_on, homed_by as homed_all}
-use Rattle.edf_pick.proofs.Moving.{same_is}
-use Rattle.edf_pick.proofs.Resting.{all_homes}
+use Rattle.edf_pick.proofs.CallerLemmas.{same_is, all_homes}
 use Rattle.domain_run.specs.declared.task.Task.{Task}
 use Rattle.domain_run.specs.declared.task.Condition.{Condition}
 use Rattle.domain_run.specs.declared.switch.Switch.{Switch}

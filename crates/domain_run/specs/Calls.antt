@@ -108,8 +108,8 @@ abbrev pub with_limit : ℕ → Domain → Domain
 with_limit limit d = record d { limit = limit }
 
 -- DEPART. A task goes to another domain: it is off the list at once, and its zero-lag time with it.
--- Its number stays among those that were admitted (own; a task has its bandwidth in one root domain,
--- sched-deadline.rst on cpusets)
+-- Its number stays among those that were admitted (own; a task has its bandwidth in one root
+-- domain, sched-deadline.rst on cpusets)
 abbrev pub depart_reply : Option Task → Reply
 depart_reply None = NotListed
 depart_reply (Some t) = Departed

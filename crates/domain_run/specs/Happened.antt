@@ -1,6 +1,6 @@
--- What happens to the tasks of a domain, beside the switches: jobs that are released and end, budgets
--- that are spent and replenished (own; job, release and deadline as in sched(7), "SCHED_DEADLINE",
--- throttling and replenishment as in sched-deadline.rst, "2. Task scheduling").
+-- What happens to the tasks of a domain, beside the switches: jobs that are released and end,
+-- budgets that are spent and replenished (own; job, release and deadline as in sched(7),
+-- "SCHED_DEADLINE", throttling and replenishment as in sched-deadline.rst, "2. Task scheduling").
 use Rattle.std.specs.Prelude.{ℕ, zero, suc, ◌+◌, ◌-◌, ◌==◌, Bool, ◌&&◌, ◌||◌, nat_lt, if◌then◌else◌, List, [], ◌∷◌, ◌++◌, map, filter, position, unwrap_or}
 use Rattle.std.specs.List.{flat_map}
 use Rattle.cbs_rules.specs.Serving.{charged}
@@ -32,8 +32,8 @@ due t = unwrap_or t.server.deadline 0
 abbrev pub job_due : ℕ → Task → ℕ
 job_due time t = time + t.params.deadline
 
--- WHERE A TICK ENDS. A job ends where its script, asked at the end of its work, has anything but more
--- work, or has that behind a late timer: so much work is the next job's
+-- WHERE A TICK ENDS. A job ends where its script, asked at the end of its work, has anything but
+-- more work, or has that behind a late timer: so much work is the next job's
 abbrev pub told_by_segment : ℕ → Task → Bool → Segment → List Happened
 told_by_segment time t late (RunFor n) =
     if late then told time t JobEnds ∷ told time t (NextReleased (job_due time t)) ∷ [] else []
@@ -67,7 +67,8 @@ told_by_replenishment time t =
     if is_throttled t.condition && has_come time t.server.deadline
     then told time t (Replenished (due (replenish_due time t))) ∷ [] else []
 
--- a job is released where a script that was asked has work; a server without budget is throttled then
+-- a job is released where a script that was asked has work; a server without budget is throttled
+-- then
 abbrev pub told_by_wake : ℕ → Task → Task → Segment → List Happened
 told_by_wake time t woken (RunFor n) =
     told time t (Released (job_due time t))

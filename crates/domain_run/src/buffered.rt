@@ -24,9 +24,9 @@ use task_script::{Name, Script};
 const PIECE: usize = 4096;
 
 /// A domain whose switches wait in a buffer, of which the room is made once. No call on it takes
-/// memory, so none can be refused for want of it: an advance stops where the buffer is full, and goes
-/// on once the switches that wait were taken and are forgotten. In contracts it is its domain, whose
-/// switches are those that wait.
+/// memory, so none can be refused for want of it: an advance stops where the buffer is full, and
+/// goes on once the switches that wait were taken and are forgotten. In contracts it is its domain,
+/// whose switches are those that wait.
 #[derive(Drop)]
 pub struct Buffered {
     state: State,
@@ -61,8 +61,8 @@ impl Buffered {
         state
     }
 
-    /// The switches that wait. They rise strictly by time and then by CPU, are before now and on the
-    /// domain's CPUs, and name only tasks that were admitted.
+    /// The switches that wait. They rise strictly by time and then by CPU, are before now and on
+    /// the domain's CPUs, and name only tasks that were admitted.
     pub fn switches(&self) -> &[Switch]
         ensures switches { result.now ≡ self.now.switches }
         ensures domain { IsDomain self.now }
@@ -79,9 +79,9 @@ impl Buffered {
 
     /// Goes on from event to event, by at most so many ticks, and answers how many they were: the
     /// domain and its switches are exactly those of so many single ticks. It stops early where the
-    /// buffer has no room for the switches of one more event; where no switch waits, at least one tick
-    /// is made. Time stays within 2^42 us. Tasks that have left may go off the list; nobody comes, and
-    /// the others keep number, bandwidth and order.
+    /// buffer has no room for the switches of one more event; where no switch waits, at least one
+    /// tick is made. Time stays within 2^42 us. Tasks that have left may go off the list; nobody
+    /// comes, and the others keep number, bandwidth and order.
     pub fn advance(&mut self, n: u64) -> u64
         requires { self.old.time + n ≤ 2 ^ 42 }
         ensures ticks { self.new ≡ tick.ticks result self.old }

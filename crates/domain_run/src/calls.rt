@@ -68,7 +68,8 @@ pub(crate) fn end(task: &mut Task, time: u64)
     }
 }
 
-/// A task that goes to another domain: it stands as one that has left and is due to go off the list.
+/// A task that goes to another domain: it stands as one that has left and is due to go off the
+/// list.
 pub(crate) fn depart(task: &mut Task)
     ensures { task.new ≡ quit task.old }
 {

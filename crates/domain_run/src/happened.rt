@@ -26,8 +26,8 @@ pub enum What {
 }
 
 impl What {
-    /// Its place, 0 to 6, in the order of what happens at one time: what ends a tick comes first, then
-    /// the calls between two ticks, then what begins a tick.
+    /// Its place, 0 to 6, in the order of what happens at one time: what ends a tick comes first,
+    /// then the calls between two ticks, then what begins a tick.
     pub fn rank(self) -> u8
         ensures { result ≡ happened_spec.rank self }
     {
@@ -52,7 +52,7 @@ pub struct Happened {
     pub what: What,
     /// The number of the task.
     pub number: u32,
-    /// The CPU of the domain to which it belongs then, from 0; where a tick begins, once that tick has
-    /// placed its tasks.
+    /// The CPU of the domain to which it belongs then, from 0; where a tick begins, once that tick
+    /// has placed its tasks.
     pub cpu: u16,
 }

@@ -199,8 +199,8 @@ impl Log {
         self.happened.clear();
     }
 
-    /// Room for so much more, where it keeps it; a silent one is as it was. `Err` where a growth was
-    /// refused; it has what it had then.
+    /// Room for so much more, where it keeps it; a silent one is as it was. `Err` where a growth
+    /// was refused; it has what it had then.
     pub fn make_room(&mut self, more: usize) -> Result<(), NoMemory>
         ensures told { Tells self.old [] self.new }
         ensures ok { OnOk result (HasRoom more self.new) }

@@ -2,8 +2,8 @@
 //! where each number is, and who sits on which CPU. A task of the list changes at one place,
 //! [`Roster::turn`], which tells the run queue.
 //!
-//! A task that sits is not charged tick by tick. What callers see is the list with each task charged
-//! up to now, whatever is still owed in it.
+//! A task that sits is not charged tick by tick. What callers see is the list with each task
+//! charged up to now, whatever is still owed in it.
 
 ghost use Rattle.std.specs.Prelude.{◌≡◌, ◌≢◌, ◌==◌, ◌<◌, ◌≤◌, ◌^◌, ◌+◌, ◌-◌, ◌&&◌, ◌++◌, ◌∷◌, [], not, min, All, AllPairs, IfOk, IfSome, IfNone, true, false, find, map, filter, length, option_map, None, replicate, slice_get, slice_index_or, vec_capacity, vec_len};
 ghost use Rattle.attr_check.specs.Ratio.{cap};
@@ -309,7 +309,8 @@ impl Roster {
         requires there { place < length self.old.tasks }
         requires fits { Fits self.old.cpus change.now }
         requires sound { All (IsSound time) self.old.tasks }
-        requires may { (d : Task) → MayMake time change.now (slice_index_or self.old.tasks place d) }
+        requires may { (d : Task) → MayMake time change.now
+            (slice_index_or self.old.tasks place d) }
         ensures cpus { self.new.cpus ≡ self.old.cpus }
         ensures step { IsStep (after_change time change.now) place self.old.tasks self.new.tasks }
         ensures sound { All (IsSound time) self.new.tasks }
@@ -343,7 +344,8 @@ impl Roster {
             (slice_index_or self.old.tasks place d).cpu None ≡ None }
         requires fits { Fits self.old.cpus change.now }
         requires sound { All (IsSound time) self.old.tasks }
-        requires may { (d : Task) → MayMake time change.now (slice_index_or self.old.tasks place d) }
+        requires may { (d : Task) → MayMake time change.now
+            (slice_index_or self.old.tasks place d) }
         ensures cpus { self.new.cpus ≡ self.old.cpus }
         ensures step { IsStep (after_change time change.now) place self.old.tasks self.new.tasks }
         ensures sound { All (IsSound time) self.new.tasks }
@@ -364,7 +366,8 @@ impl Roster {
         requires may { All (λ t. t.number ≡ number → MayMake time change.now t) self.old.tasks }
         ensures cpus { self.new.cpus ≡ self.old.cpus }
         ensures places { self.new.places ≡ self.old.places }
-        ensures tasks { self.new.tasks ≡ map (of_number number (after_change time change.now)) self.old.tasks }
+        ensures tasks { self.new.tasks
+            ≡ map (of_number number (after_change time change.now)) self.old.tasks }
         ensures sound { All (IsSound time) self.new.tasks }
     {
         if let Some(place) = self.place(number) {

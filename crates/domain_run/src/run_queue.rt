@@ -1,6 +1,6 @@
 //! What a domain keeps of its tasks beside their list: the running sums of their bandwidth, the
-//! ready ones in the order of the choice with who stands on each CPU, and when each is due. So a tick
-//! neither sums nor sorts, and looks at those alone that are due or have changed.
+//! ready ones in the order of the choice with who stands on each CPU, and when each is due. So a
+//! tick neither sums nor sorts, and looks at those alone that are due or have changed.
 
 ghost use Rattle.std.specs.Prelude.{◌≡◌, ◌≢◌, ◌<◌, ◌≤◌, ◌+◌, ◌-◌, ◌^◌, ◌∷◌, [], None, length, not, replicate, All, IfOk, IfSome};
 ghost use Rattle.edf_pick.specs.Schedule.{IsAtHome};

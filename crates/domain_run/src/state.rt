@@ -80,8 +80,8 @@ impl Model for State {
 
 impl State {
     /// An empty domain of 1 to 64 CPUs that may give away `limit` of each, 10485 to 1048576 in
-    /// 1/2^20. Room for 256 tasks, for the numbers ever admitted and for the switches of one event is
-    /// made here; after it only [`State::tick`], [`State::begin`], [`State::begin_told`] and
+    /// 1/2^20. Room for 256 tasks, for the numbers ever admitted and for the switches of one event
+    /// is made here; after it only [`State::tick`], [`State::begin`], [`State::begin_told`] and
     /// [`State::leap`] take memory. `Err` where a growth was refused.
     pub fn open(alloc: Global, cpus: u32, limit: u64) -> Result<State, NoMemory>
         requires cpus { IsCpus cpus }
@@ -144,8 +144,8 @@ impl State {
 }
 
 impl State {
-    /// The reply that an admission would get, by the tests in their order. Nothing changes. Takes no
-    /// memory.
+    /// The reply that an admission would get, by the tests in their order. Nothing changes. Takes
+    /// no memory.
     pub fn admit_reply(&self, number: u32, params: &Params) -> Reply
         requires { number < 65536 }
         ensures reply { result ≡ calls.admit_reply self.now number params.now }

@@ -326,7 +326,8 @@ pub(crate) fn begin(
     requires room { vec_len switches.old + length roster.old.places ≤ vec_capacity switches.old }
     ensures cpus { roster.new.cpus ≡ roster.old.cpus }
     ensures tasks { roster.new.tasks
-        ≡ map (parts_spec.with_last_cpu roster.new.places) (tick_spec.prepared time roster.old.tasks) }
+        ≡ map (parts_spec.with_last_cpu roster.new.places)
+        (tick_spec.prepared time roster.old.tasks) }
     ensures prepared { All (IsSound time) (tick_spec.prepared time roster.old.tasks) }
     ensures places { roster.new.places ≡ places_spec.placed (length roster.old.places)
         (tick_spec.candidates (tick_spec.prepared time roster.old.tasks)) roster.old.places }
@@ -366,7 +367,8 @@ pub(crate) fn begin_seated(
     requires room { vec_len switches.old + length roster.old.places ≤ vec_capacity switches.old }
     ensures cpus { roster.new.cpus ≡ roster.old.cpus }
     ensures tasks { roster.new.tasks
-        ≡ map (parts_spec.with_last_cpu roster.new.places) (tick_spec.prepared time roster.old.tasks) }
+        ≡ map (parts_spec.with_last_cpu roster.new.places)
+        (tick_spec.prepared time roster.old.tasks) }
     ensures prepared { All (IsSound time) (tick_spec.prepared time roster.old.tasks) }
     ensures places { roster.new.places ≡ places_spec.placed (length roster.old.places)
         (tick_spec.candidates (tick_spec.prepared time roster.old.tasks)) roster.old.places }
@@ -402,7 +404,8 @@ pub(crate) fn pay_all(
     requires room { HasRoom (3 * length running.now) log.old }
     ensures cpus { roster.new.cpus ≡ roster.old.cpus }
     ensures places { roster.new.places ≡ roster.old.places }
-    ensures tasks { roster.new.tasks ≡ map (paid time running.now ticks budgets.now) roster.old.tasks }
+    ensures tasks { roster.new.tasks
+        ≡ map (paid time running.now ticks budgets.now) roster.old.tasks }
     ensures sound { All (IsSound time) roster.new.tasks }
     ensures told { Tells log.old (telling_spec.told_in_pay time running.now ticks budgets.now
         roster.old.tasks) log.new }

@@ -56,7 +56,8 @@ pub(crate) fn look(task: &Task, time: u64, change: &Change) -> Before
     }
 }
 
-/// Whether a look at a task tells that a change tells nothing: it runs on, with work and budget left.
+/// Whether a look at a task tells that a change tells nothing: it runs on, with work and budget
+/// left.
 #[inline(always)]
 pub(crate) fn tells_nothing(task: &Task, change: &Change) -> bool
     ensures { (time : ℕ) → IsTrue result → telling.told_by_change time change.now task.now ≡ [] }
@@ -115,7 +116,8 @@ fn job_due(task: &Task, time: u64) -> u64
 fn by_replenishment(time: u64, was: Condition, task: &Task) -> Told
     requires narrow { task.now.cpu < 2 ^ 16 }
     ensures { (late : Bool) → result
-        ≡ telling.told_behind time Change.Replenish (record { condition = was; is_late = late }) task.now }
+        ≡ telling.told_behind time Change.Replenish
+        (record { condition = was; is_late = late }) task.now }
 {
     let is_told = was.is_throttled() && task.condition.is_ready();
     let deadline = due(task);
@@ -130,7 +132,8 @@ fn by_unblocking(time: u64, was: Condition, task: &Task) -> Told
     requires narrow { task.now.cpu < 2 ^ 16 }
     requires early { time < 2 ^ 43 }
     ensures { (late : Bool) → result
-        ≡ telling.told_behind time Change.Unblock (record { condition = was; is_late = late }) task.now }
+        ≡ telling.told_behind time Change.Unblock
+        (record { condition = was; is_late = late }) task.now }
 {
     let is_released = was.is_over(time) && task.condition.is_contending();
     let is_spent = was.is_over(time) && task.condition.is_throttled();

@@ -14,8 +14,8 @@ use crate::roster::Roster;
 use due_times::first_marked;
 use edf_pick::marks::without;
 
-/// Who stands on each CPU sits there at its rate, and nobody else sits. A look at those alone that are
-/// in doubt.
+/// Who stands on each CPU sits there at its rate, and nobody else sits. A look at those alone that
+/// are in doubt.
 fn seat_all(roster: &mut Roster, limit: u64)
     requires wide { length roster.old.places ≡ roster.old.cpus }
     requires cpus { (0 < roster.old.cpus) × (roster.old.cpus ≤ 64) }
@@ -42,8 +42,8 @@ fn seat_all(roster: &mut Roster, limit: u64)
 }
 
 /// Of at most so many ticks from the tick under way on as many as pass before a running task ends
-/// its work or its budget, and that one: every task that stands on a CPU has run in each of them, at
-/// its rate. `time` is the end of the tick under way.
+/// its work or its budget, and that one: every task that stands on a CPU has run in each of them,
+/// at its rate. `time` is the end of the tick under way.
 pub(crate) fn leap(roster: &mut Roster, limit: u64, most: u64, time: u64) -> u64
     requires wide { length roster.old.places ≡ roster.old.cpus }
     requires cpus { (0 < roster.old.cpus) × (roster.old.cpus ≤ 64) }

@@ -4,8 +4,8 @@ use crate::workers::{admitted, forever, single_ticks};
 use domain_run::{Buffered, Event};
 use std::test::Fail;
 
-/// An advance stops where the buffer is full, and goes on once the switches that wait are forgotten.
-/// They are those of single ticks.
+/// An advance stops where the buffer is full, and goes on once the switches that wait are
+/// forgotten. They are those of single ticks.
 #[test]
 fn an_advance_stops_where_the_buffer_is_full(rt: HostRuntime) -> Result<(), Fail> {
     let tasks = [forever((2, 8, 8), &[Event::Run(1), Event::Sleep(3)])];

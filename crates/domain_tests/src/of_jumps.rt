@@ -1,4 +1,5 @@
-//! Jumps, by one worker and by several. Worked rows by one worker are what the built program replays.
+//! Jumps, by one worker and by several. Worked rows by one worker are what the built program
+//! replays.
 
 mod by_workers;
 mod turns;

@@ -21,7 +21,8 @@ pub record IsAhead (upto : ℕ) (s : Seat) : Type 0 where
 
 -- what seats keep: none has ended, the timers tell when each does, and there is room for a seat of
 -- each CPU and no more, so they take no more
-pub record AreSeats (upto : ℕ) (seats : List (Option Seat)) (ends : List ℕ) (capacity : ℕ) : Type 0 where
+pub record AreSeats (upto : ℕ) (seats : List (Option Seat)) (ends : List ℕ) (capacity : ℕ)
+    : Type 0 where
   pub early : upto ≤ 2 ^ 62
   pub few : length seats ≤ 64
   pub ahead : All (λ o. IfSome o (IsAhead upto)) seats

@@ -1,13 +1,13 @@
-//! Which CPUs have seats that are known to be right. What happens touches few CPUs, so a leap looks at
-//! those alone.
+//! Which CPUs have seats that are known to be right. What happens touches few CPUs, so a leap looks
+//! at those alone.
 
 ghost use Rattle.std.specs.Prelude.{ℕ, ◌≡◌, ◌≢◌, ◌⊎◌, ◌<◌, ◌≤◌, IsTrue, false};
 ghost use Rattle.std.specs.Int.{bit_at};
 
 use edf_pick::marks::{both, with, without};
 
-/// Which CPUs are in doubt: who stands there may not sit there rightly. The others are right for a sum
-/// of bandwidth and a limit, which are noted.
+/// Which CPUs are in doubt: who stands there may not sit there rightly. The others are right for a
+/// sum of bandwidth and a limit, which are noted.
 #[derive(Clone, Copy, Debug, PartialEq, Eq)]
 pub struct Doubts {
     /// A word with a mark for each CPU that is in doubt.
@@ -88,8 +88,8 @@ impl Doubts {
         }
     }
 
-    /// As `mark`, of a CPU whose seat stays while its inactive bandwidth may be another: it is in doubt
-    /// only where the seat keeps what its rate was worked out from.
+    /// As `mark`, of a CPU whose seat stays while its inactive bandwidth may be another: it is in
+    /// doubt only where the seat keeps what its rate was worked out from.
     #[inline(always)]
     pub fn mark_where_rated(&mut self, cpu: usize)
         ensures free { cpu < 64 → bit_at self.new.cpus cpu ≡ 0 → bit_at self.old.rated cpu ≡ 0 }
@@ -106,8 +106,8 @@ impl Doubts {
         }
     }
 
-    /// A task has left a CPU, or has changed there, and sat on it or did not: where it did the CPU is in
-    /// doubt, and else only where its seat keeps what its rate was worked out from.
+    /// A task has left a CPU, or has changed there, and sat on it or did not: where it did the CPU
+    /// is in doubt, and else only where its seat keeps what its rate was worked out from.
     #[inline(always)]
     pub fn mark_left(&mut self, cpu: usize, sat: bool)
         ensures sat { IsTrue sat → cpu < 64 → bit_at self.new.cpus cpu ≡ 1 }
@@ -157,8 +157,8 @@ impl Doubts {
         self.sum == sum && self.limit == limit
     }
 
-    /// Whether a seat that is right for a sum and a limit may be trusted: it keeps nothing of what its
-    /// rate was worked out from, or they are noted.
+    /// Whether a seat that is right for a sum and a limit may be trusted: it keeps nothing of what
+    /// its rate was worked out from, or they are noted.
     #[inline(always)]
     pub fn may_trust(&self, is_rated: bool, sum: u64, limit: u64) -> bool
         ensures noted { IsTrue result → IsTrue is_rated
@@ -172,8 +172,8 @@ impl Doubts {
         self.is_for(sum, limit)
     }
 
-    /// A CPU whose seat was made just now, for a sum and a limit, is in doubt only where the seat keeps
-    /// what its rate was worked out from, and others are noted.
+    /// A CPU whose seat was made just now, for a sum and a limit, is in doubt only where the seat
+    /// keeps what its rate was worked out from, and others are noted.
     #[inline(always)]
     pub fn clear_for(&mut self, cpu: usize, is_rated: bool, sum: u64, limit: u64)
         requires { cpu < 64 }
@@ -197,8 +197,8 @@ impl Doubts {
         }
     }
 
-    /// Another sum or another limit is noted: then each CPU whose seat keeps what its rate was worked
-    /// out from is in doubt.
+    /// Another sum or another limit is noted: then each CPU whose seat keeps what its rate was
+    /// worked out from is in doubt.
     #[inline(always)]
     pub fn renew(&mut self, sum: u64, limit: u64)
         ensures bare { (i : ℕ) → bit_at self.new.cpus i ≡ 0 → bit_at self.old.cpus i ≡ 0 }

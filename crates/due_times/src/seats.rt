@@ -1,6 +1,6 @@
 //! Who runs since when. What a running task owes for its running is not charged tick by tick: a
-//! seat tells since when it has not been charged and at which rate it runs, so that time goes on for
-//! all of them at once.
+//! seat tells since when it has not been charged and at which rate it runs, so that time goes on
+//! for all of them at once.
 
 ghost use Rattle.std.specs.Prelude.{ℕ, false, IsTrue, is_none, ◌≡◌, ◌≢◌, ◌<◌, ◌≤◌, ◌+◌, ◌^◌, All, IfOk, IfSome, IsSome, IsSomeAnd, None, Some, length, map, option_map, replicate, slice_index_or, slice_set, vec_capacity};
 ghost use Rattle.due_times.specs.Seats as spec;
@@ -39,8 +39,8 @@ pub struct Seat {
     pub end: u64,
 }
 
-/// At which rate a task is to run, and what that was worked out from; nothing where it is the same on
-/// every basis.
+/// At which rate a task is to run, and what that was worked out from; nothing where it is the same
+/// on every basis.
 #[derive(Clone, Copy, Debug, PartialEq, Eq)]
 pub struct Rating {
     /// What a tick takes of its budget, in 1/2^20 us.
@@ -201,8 +201,8 @@ impl Seats {
         if_of(self.get(cpu), number)
     }
 
-    /// What the rate of the task of a number was worked out from, if from anything, where it sits on a
-    /// CPU.
+    /// What the rate of the task of a number was worked out from, if from anything, where it sits
+    /// on a CPU.
     #[inline(always)]
     pub fn basis_of(&self, cpu: usize, number: u32) -> Option<Option<Basis>>
         requires { cpu < length self.now.seats }

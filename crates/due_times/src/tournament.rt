@@ -132,7 +132,8 @@ fn set_leaf(nodes: &mut Vec<u64>, leaf: usize, time: u64)
     requires leaf { leaf < length (spec.leaves nodes.old.items) }
     ensures tree { spec.IsTree nodes.new.items }
     ensures length { length nodes.new.items ≡ length nodes.old.items }
-    ensures leaves { spec.leaves nodes.new.items ≡ slice_set (spec.leaves nodes.old.items) leaf time }
+    ensures leaves { spec.leaves nodes.new.items
+        ≡ slice_set (spec.leaves nodes.old.items) leaf time }
     ensures room { vec_capacity nodes.new ≡ vec_capacity nodes.old }
 {
     let half = half_of(nodes);

@@ -17,6 +17,8 @@ use Rattle.edf_pick.specs.Places.{Places, is_chosen_number, kept, seated_if, sea
 use Rattle.edf_pick.proofs.Before.{before_reverse, before_other, before_past, same_itself, number_differs}
 use Rattle.edf_pick.proofs.Rising.{place, insert_place, rising_with, without_absent}
 use Rattle.edf_pick.proofs.Picked.{map_same, rank_place, place_at}
+pub use Rattle.edf_pick.proofs.Moving.{same_is, moved_length}
+pub use Rattle.edf_pick.proofs.Resting.{all_homes}
 
 -- no two tasks have one number
 abbrev pub IsNumbered : List Candidate → Type 0

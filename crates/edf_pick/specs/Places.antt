@@ -24,8 +24,8 @@ AreSingle places =
     (a b n : ℕ) → slice_index_or places a None ≡ Some n → slice_index_or places b None ≡ Some n
     → a ≡ b
 
--- those of 1 to 64 CPUs, with the room for so many that they were opened with, so they take no more;
--- and a copy of them, from which the next choice tells who stood there before
+-- those of 1 to 64 CPUs, with the room for so many that they were opened with, so they take no
+-- more; and a copy of them, from which the next choice tells who stood there before
 pub record IsPlaces (places before : Places) (capacity before_capacity marks : ℕ) : Type 0 where
   pub some : 0 < length places
   pub few : length places ≤ 64

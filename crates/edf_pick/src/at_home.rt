@@ -17,7 +17,8 @@ pub(crate) fn clear(places: &mut Vec<Option<u32>>, left: u64, taken: u64) -> u64
     requires few { vec_len places.old ≤ 64 }
     requires within { (cpu : ℕ) → bit_at left cpu ≡ 1 → cpu < vec_len places.old }
     requires taken { AreTaken places.old.items taken }
-    ensures gone { (cpu : ℕ) → bit_at left cpu ≡ 1 → slice_index_or places.new.items cpu None ≡ None }
+    ensures gone { (cpu : ℕ) → bit_at left cpu ≡ 1
+        → slice_index_or places.new.items cpu None ≡ None }
     ensures others { (cpu : ℕ) → bit_at left cpu ≡ 0
         → slice_index_or places.new.items cpu None ≡ slice_index_or places.old.items cpu None }
     ensures len { vec_len places.new ≡ vec_len places.old }

@@ -54,8 +54,8 @@ fn look_at_half(queue: &[Candidate], c: &Candidate, place: usize, half: usize) -
     place + half * one_before(queue, c, place + half)
 }
 
-// A look at three tasks at once: one part, two and three parts behind a place. The place, or as many
-// parts further on as there are of them before c.
+// A look at three tasks at once: one part, two and three parts behind a place. The place, or as
+// many parts further on as there are of them before c.
 #[inline(always)]
 fn look_at_parts(queue: &[Candidate], c: &Candidate, place: usize, part: usize) -> usize
     requires rising { order.IsRising queue.now }
@@ -116,7 +116,8 @@ pub(crate) fn find(queue: &[Candidate], c: &Candidate) -> Option<usize>
     ensures place { IfSome result (λ place.
         place ≡ prefix_len (λ a. choice.is_before a c.now) queue.now) }
     ensures nowhere { IfNone result (order.without_candidate c.now queue.now ≡ queue.now) }
-    ensures at { IfSome result (λ place. order.without_candidate c.now queue.now ≡ remove queue.now place) }
+    ensures at { IfSome result (λ place. order.without_candidate c.now queue.now
+        ≡ remove queue.now place) }
 {
     let place = place_of(queue, c);
     if place < queue.len() && is_same(&queue[place], c) {

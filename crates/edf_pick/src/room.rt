@@ -1,5 +1,5 @@
-//! The room in which the tasks of a queue stand, one behind the other: who comes or goes moves those
-//! of the shorter side alone.
+//! The room in which the tasks of a queue stand, one behind the other: who comes or goes moves
+//! those of the shorter side alone.
 
 ghost use Rattle.std.specs.Prelude.{◌≡◌, ◌<◌, ◌≤◌, ◌+◌, [], IfOk, length, slice_index_or, slice_set, vec_capacity};
 ghost use Rattle.std.specs.List.{insert, remove};

@@ -48,7 +48,8 @@ impl Model for Schedule {
 }
 
 impl Schedule {
-    /// No tasks, and 1 to 64 idle CPUs. No other call takes memory. `Err` where the room was refused.
+    /// No tasks, and 1 to 64 idle CPUs. No other call takes memory. `Err` where the room was
+    /// refused.
     pub fn open(alloc: Global, cpus: usize) -> Result<Schedule, AllocError>
         requires some { 0 < cpus }
         requires few { cpus ≤ 64 }
@@ -80,8 +81,8 @@ impl Schedule {
         self.moves.as_slice()
     }
 
-    /// Takes in a task of a number that no task has; if it stands on a CPU, then on the one to which
-    /// it belongs.
+    /// Takes in a task of a number that no task has; if it stands on a CPU, then on the one to
+    /// which it belongs.
     pub fn insert(&mut self, c: Candidate)
         requires few { length self.old.queue < 256 }
         requires numbered { All (λ a. a.number ≢ c.number) self.old.queue }

@@ -12,8 +12,8 @@ use crate::placement::{Placement, settle};
 use crate::queue::Queue;
 use crate::staying::Staying;
 
-// The CPU has this one from now on, or nobody. Where it has that one already, nothing is written but
-// that nobody has moved.
+// The CPU has this one from now on, or nobody. Where it has that one already, nothing is written
+// but that nobody has moved.
 #[inline(always)]
 fn stand(placement: &mut Placement, moves: &mut Moves, stands: Option<u32>)
     requires one { length placement.old ≡ 1 }

@@ -1,5 +1,5 @@
--- The summary of all domains, as a text (own): a table of the tasks, by domain and in their order, one
--- of the CPUs of the machine, and one of the domains.
+-- The summary of all domains, as a text (own): a table of the tasks, by domain and in their order,
+-- one of the CPUs of the machine, and one of the domains.
 use Rattle.std.specs.Prelude.{ℕ, ◌+◌, ◌≤◌, List, [], ◌∷◌, ◌++◌, length, flat_map, Option, Some, None, codes, decimal}
 use Rattle.std.specs.Fmt.{signed_decimal}
 use Rattle.run_figures.specs.declared.figures.Responses.{Responses}
@@ -46,14 +46,16 @@ task_header = codes
 
 -- of the jobs that ended; dashes where none did
 abbrev pub time_columns : Responses → List ℕ
-time_columns r = column 10 (decimal r.least) ++ (column 10 (decimal r.mean) ++ column 10 (decimal r.most))
+time_columns r = column 10 (decimal r.least)
+    ++ (column 10 (decimal r.mean) ++ column 10 (decimal r.most))
 
 abbrev pub known_columns : Responses → List ℕ
 known_columns r = time_columns r ++ column 11 (signed_decimal r.slack)
 
 abbrev pub no_columns : List ℕ
 no_columns =
-    column 10 (codes "-") ++ (column 10 (codes "-") ++ (column 10 (codes "-") ++ column 11 (codes "-")))
+    column 10 (codes "-") ++ (column 10 (codes "-")
+    ++ (column 10 (codes "-") ++ column 11 (codes "-")))
 
 abbrev pub response_columns : Option Responses → List ℕ
 response_columns None = no_columns

@@ -63,7 +63,8 @@ pub(crate) fn put_wide(out: &mut Vec<u8>, width: usize, n: u128) -> Result<(), N
 /// The same of a number that may be below 0.
 pub(crate) fn put_signed(out: &mut Vec<u8>, width: usize, n: i128) -> Result<(), NoMemory>
     requires { width ≤ 15 }
-    ensures { OnOk result (out.new.items ≡ out.old.items ++ columns.column width (signed_decimal n)) }
+    ensures { OnOk result (out.new.items ≡ out.old.items
+        ++ columns.column width (signed_decimal n)) }
 {
     let mut buffer = Buffer::new();
     put_column(out, width, buffer.format(n).as_bytes())

@@ -21,7 +21,8 @@ pub struct DomainJobs<'a> {
 
 /// The columns of its end.
 fn put_end(out: &mut Vec<u8>, job: &Job) -> Result<(), NoMemory>
-    ensures { OnOk result (out.new.items ≡ out.old.items ++ texts.end_columns job.now job.now.ended) }
+    ensures { OnOk result (out.new.items ≡ out.old.items
+        ++ texts.end_columns job.now job.now.ended) }
 {
     match job.ended {
         None => {
@@ -90,8 +91,8 @@ fn put_domain(out: &mut Vec<u8>, domain: &DomainJobs<'_>) -> Result<(), NoMemory
     Ok(())
 }
 
-/// Puts the jobs of all domains behind a text: a header, and a line for each job, by domain, by task,
-/// and in their order.
+/// Puts the jobs of all domains behind a text: a header, and a line for each job, by domain, by
+/// task, and in their order.
 ///
 /// # Errors
 /// 12 [`NoMemory`]: a growth was refused; a part of the text may stand behind what stood before.

@@ -1,9 +1,9 @@
 //! The figures of runs, as texts.
 //!
 //! Meets the definitions of the jobs' text (`specs/Jobs.antt`) and of the summary's
-//! (`specs/Summary.antt`), over the columns of a table (`specs/Columns.antt`). To the crate above it
-//! promises that [`put_jobs`] and [`put_summary`] put exactly that text behind what stands before, or
-//! tell that memory was refused.
+//! (`specs/Summary.antt`), over the columns of a table (`specs/Columns.antt`). To the crate above
+//! it promises that [`put_jobs`] and [`put_summary`] put exactly that text behind what stands
+//! before, or tell that memory was refused.
 #![tactic(auto)]
 
 mod columns;

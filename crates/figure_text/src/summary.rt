@@ -242,9 +242,9 @@ fn put_domains(out: &mut Vec<u8>, domains: &[DomainSummary<'_>]) -> Result<(), N
     Ok(())
 }
 
-/// Puts the summary of 1 to 8 domains of a machine behind a text: a table of their tasks, one of the
-/// CPUs of the machine, counted through, and one of the domains. Times are in microseconds, shares in
-/// hundredths of a per cent, rounded down.
+/// Puts the summary of 1 to 8 domains of a machine behind a text: a table of their tasks, one of
+/// the CPUs of the machine, counted through, and one of the domains. Times are in microseconds,
+/// shares in hundredths of a per cent, rounded down.
 ///
 /// # Errors
 /// 12 [`NoMemory`]: a growth was refused; a part of the text may stand behind what stood before.

@@ -29,7 +29,8 @@ impl Model for Accounts {
 
     ghost view = { λ a. record { all = a.all.items; active = a.active.items; total = a.total } };
 
-    ghost invariant = { λ a. IsBalanced (record { all = a.all.items; active = a.active.items; total = a.total })
+    ghost invariant = { λ a. IsBalanced
+        (record { all = a.all.items; active = a.active.items; total = a.total })
         (vec_capacity a.all) (vec_capacity a.active) };
 }
 
@@ -137,7 +138,8 @@ impl Accounts {
     /// A listed task of this CPU and bandwidth, inactive until now, becomes active: it contends.
     pub fn wake(&mut self, cpu: usize, bw: u64)
         requires { Holds self.old (inactive_share cpu bw) }
-        ensures { Exchanges self.old self.new (inactive_share cpu bw ∷ []) (active_share cpu bw ∷ []) }
+        ensures { Exchanges self.old self.new (inactive_share cpu bw ∷ [])
+            (active_share cpu bw ∷ []) }
     {
         add(&mut self.active, cpu, bw);
     }
@@ -146,7 +148,8 @@ impl Accounts {
     /// contend, and its zero-lag time has come.
     pub fn idle(&mut self, cpu: usize, bw: u64)
         requires { Holds self.old (active_share cpu bw) }
-        ensures { Exchanges self.old self.new (active_share cpu bw ∷ []) (inactive_share cpu bw ∷ []) }
+        ensures { Exchanges self.old self.new (active_share cpu bw ∷ [])
+            (inactive_share cpu bw ∷ []) }
     {
         subtract(&mut self.active, cpu, bw);
     }
@@ -156,7 +159,8 @@ impl Accounts {
     pub fn shift(&mut self, share: &Share, to: usize)
         requires held { Holds self.old share.now }
         requires home { to < length self.old.all }
-        ensures { Exchanges self.old self.new (share.now ∷ []) (record share.now { cpu = to } ∷ []) }
+        ensures { Exchanges self.old self.new (share.now ∷ [])
+            (record share.now { cpu = to } ∷ []) }
     {
         subtract(&mut self.all, share.cpu, share.bw);
         add(&mut self.all, to, share.bw);

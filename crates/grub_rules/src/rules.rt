@@ -28,8 +28,8 @@ fn on_each(sum: u64, cpus: u64) -> u64
     if cpus == 1 { sum } else { sum / cpus }
 }
 
-/// A bandwidth as a share of a limit, in 1/2^20, rounded up: where the limit is a whole CPU it is the
-/// bandwidth itself.
+/// A bandwidth as a share of a limit, in 1/2^20, rounded up: where the limit is a whole CPU it is
+/// the bandwidth itself.
 fn share_of(bw: u64, limit: u64) -> u64
     requires bw { bw ≤ 2 ^ 26 }
     requires limit { (0 < limit) × (limit ≤ 1048576) }

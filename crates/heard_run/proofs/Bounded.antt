@@ -20,7 +20,7 @@ use Rattle.domain_run.specs.Switches.{is_before}
 use Rattle.domain_run.specs.Domain.{Domain}
 use Rattle.domain_run.specs.Tick.{candidates, prepared, begun, ran_if, rate_of, ticks}
 use Rattle.domain_run.specs.Happened.{told, due, job_due, told_by_segment, told_by_work, told_by_budget, told_by_run, told_if_ran, told_by_replenishment, told_by_wake, told_by_unblocking, at_home, told_to_begin, told_by_beginning, told_by_end, told_by_tick, told_by_ticks}
-use Rattle.domain_run.proofs.ToldSorted.{pairs_first, pairs_rest, length-in_order}
+use Rattle.domain_run.proofs.CallerLemmas.{pairs_first, pairs_rest, length-in_order}
 
 -- ---- SWITCHES: they rise strictly, so there is one at most for each time and CPU
 

@@ -1,3 +1,4 @@
 pub mod Bounded
 pub mod Span
 pub mod Pieces
+pub mod CallerLemmas

@@ -12,10 +12,8 @@ use Rattle.domain_run.specs.Sound.{IsDomain, IsSwitch}
 use Rattle.domain_run.specs.Switches.{is_before}
 use Rattle.domain_run.specs.Tick.{ticks}
 use Rattle.domain_run.specs.Happened.{told_by_ticks}
-use Rattle.domain_run.proofs.CallerLemmas.{ticks_time, ticks_cpus}
-use Rattle.domain_run.proofs.Passing.{ticks_behind, told_by_ticks_behind}
-use Rattle.domain_run.proofs.Tracing.{before_time, AllPairs-append}
-use Rattle.jump_run.proofs.Ticks.{ticks_more, told_more}
+use Rattle.domain_run.proofs.CallerLemmas.{ticks_time, ticks_cpus, ticks_behind, told_by_ticks_behind, before_time, AllPairs-append}
+use Rattle.jump_run.proofs.CallerLemmas.{ticks_more, told_more}
 use Rattle.run_figures.specs.Accounting.{AccountingView, IsNextPiece, with_piece}
 use Rattle.run_figures.specs.Runs.{AreTasks}
 use Rattle.run_figures.specs.declared.run.Admitted.{Admitted}

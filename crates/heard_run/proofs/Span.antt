@@ -10,8 +10,7 @@ use Rattle.domain_run.specs.Switches.{same_occupant, state_of, switches_from}
 use Rattle.domain_run.specs.Domain.{Domain}
 use Rattle.domain_run.specs.Tick.{candidates, prepared, begun, ticks}
 use Rattle.domain_run.specs.Happened.{told_by_beginning, told_by_end, told_by_tick, told_by_ticks}
-use Rattle.domain_run.proofs.CallerLemmas.{ticks_time}
-use Rattle.domain_run.proofs.ToldRising.{IsBeginning, IsEnd, beginning_is, ending_is}
+use Rattle.domain_run.proofs.CallerLemmas.{ticks_time, IsBeginning, IsEnd, beginning_is, ending_is}
 
 -- from one time to another
 abbrev pub IsWithin : ℕ → ℕ → Happened → Type 0

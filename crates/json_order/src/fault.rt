@@ -69,7 +69,8 @@ pub struct JsonFault {
 impl fmt::Display for JsonFault {
     ghost use Rattle.std.specs.Prelude.{Some, codes, decimal, ◌++◌};
 
-    ghost output = { λ e. Some (codes "json " ++ (decimal (number_of e.kind) ++ (codes " at " ++ decimal e.at))) };
+    ghost output = { λ e. Some (codes "json "
+        ++ (decimal (number_of e.kind) ++ (codes " at " ++ decimal e.at))) };
 
     fn fmt<W: fmt::Write>(&self, f: &mut fmt::Formatter<W>) -> fmt::Result {
         let number = self.kind.number();

@@ -117,7 +117,8 @@ pub(crate) fn whole_object(members: Members, key: String, value: Tree) -> Result
 /// object does.
 #[inline(always)]
 fn push_item(place: &mut Place, stack: &mut Vec<Frame>, value: Tree) -> Result<(), JsonKind>
-    ensures ok { OnOk result (judged strict (next_move (json_of value) (frames_of stack.old.items) 44)
+    ensures ok { OnOk result (judged strict
+        (next_move (json_of value) (frames_of stack.old.items) 44)
         ≡ Ok (state_of place.new stack.new.items)) }
     ensures err { IfErr result
         (Says (judged strict (next_move (json_of value) (frames_of stack.old.items) 44))) }
@@ -139,7 +140,8 @@ fn push_item(place: &mut Place, stack: &mut Vec<Frame>, value: Tree) -> Result<(
 #[inline(always)]
 fn push_member(place: &mut Place, stack: &mut Vec<Frame>, value: Tree) -> Result<(), JsonKind>
     requires { IsInObject (frames_of stack.old.items) }
-    ensures ok { OnOk result (judged strict (next_move (json_of value) (frames_of stack.old.items) 44)
+    ensures ok { OnOk result (judged strict
+        (next_move (json_of value) (frames_of stack.old.items) 44)
         ≡ Ok (state_of place.new stack.new.items)) }
     ensures err { IfErr result
         (Says (judged strict (next_move (json_of value) (frames_of stack.old.items) 44))) }
@@ -171,7 +173,8 @@ fn next_step(
     value: Tree,
     c: char,
 ) -> Result<(), JsonKind>
-    ensures ok { OnOk result (judged strict (next_move (json_of value) (frames_of stack.old.items) c)
+    ensures ok { OnOk result (judged strict
+        (next_move (json_of value) (frames_of stack.old.items) c)
         ≡ Ok (state_of place.new stack.new.items)) }
     ensures err { IfErr result
         (Says (judged strict (next_move (json_of value) (frames_of stack.old.items) c))) }
@@ -199,7 +202,8 @@ fn behind_step(
     value: Tree,
     c: char,
 ) -> Result<(), JsonKind>
-    ensures ok { OnOk result (judged strict (behind_move (json_of value) (frames_of stack.old.items) c)
+    ensures ok { OnOk result (judged strict
+        (behind_move (json_of value) (frames_of stack.old.items) c)
         ≡ Ok (state_of place.new stack.new.items)) }
     ensures err { IfErr result
         (Says (judged strict (behind_move (json_of value) (frames_of stack.old.items) c))) }

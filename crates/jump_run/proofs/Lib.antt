@@ -1,3 +1,4 @@
 pub mod Ticks
 pub mod Gathering
 pub mod Crewing
+pub mod CallerLemmas

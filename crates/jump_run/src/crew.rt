@@ -15,7 +15,8 @@ use std::thread::Threads;
 use tick_split::{Plan, Slice, Turn, charge_all, plan_all};
 
 /// So many workers, more than one, who are told their turns, and what they are started with. One
-/// worker has no such value at hand, so an advance by one starts no thread and takes no memory here.
+/// worker has no such value at hand, so an advance by one starts no thread and takes no memory
+/// here.
 #[derive(Drop)]
 pub(crate) struct Crew<'a, R, G> {
     rt: &'a R,

@@ -25,7 +25,8 @@ impl<E> Model for Spine<E> {
 
     ghost view = { λ s. record { spine = s.table.shared.table_id; log = s.seat.me.0.log } };
 
-    ghost invariant = { λ s. (s.table.shared.table_id.words ≡ 1) × (s.seat.table_id ≡ s.table.shared.table_id)
+    ghost invariant = { λ s. (s.table.shared.table_id.words ≡ 1)
+        × (s.seat.table_id ≡ s.table.shared.table_id)
         × (s.seat.me ≡ (record { is_spine = true; log = s.seat.me.0.log; passes = [] }, [])) };
 }
 
@@ -40,7 +41,8 @@ impl<E> Spine<E> {
         ensures spine { IfOk result (λ r. r.0.log ≡ []) }
         ensures count { IfOk result (λ r. length r.1.items ≡ clients) }
         ensures passes { IfOk result (λ r. (k : ℕ) → k < clients →
-            slice_get r.1.items k ≡ Some (record { spine = r.0.spine; client = k + 1; entries = [] })) }
+            slice_get r.1.items k ≡ Some
+            (record { spine = r.0.spine; client = k + 1; entries = [] })) }
     {
         let mut passes = Vec::with_capacity(alloc, clients as usize)?;
         let (table, mut seat) = Table::of_words(alloc, &[0], &clients)?;
@@ -112,7 +114,8 @@ fn deal<E>(
     clients: u32,
 )
     requires words { 0 < shared.now.table_id.words }
-    requires seat { (seat.old.table_id ≡ shared.now.table_id) × (seat.old.me ≡ (opened clients, [])) }
+    requires seat { (seat.old.table_id ≡ shared.now.table_id)
+        × (seat.old.me ≡ (opened clients, [])) }
     requires room { (passes.old.items ≡ []) × (clients ≤ vec_capacity passes.old) }
     ensures seat { (seat.new.table_id ≡ seat.old.table_id)
         × (seat.new.me ≡ (record { is_spine = true; log = []; passes = [] }, [])) }

@@ -1,5 +1,5 @@
--- A line of a recording: a switch, as ftrace, `trace-cmd report` or `perf script` print the kernel's
--- event sched_switch, or anything else.
+-- A line of a recording: a switch, as ftrace, `trace-cmd report` or `perf script` print the
+-- kernel's event sched_switch, or anything else.
 --
 --     a-12 [003] d..2. 16.443377: sched_switch: prev_comm=a .. ==> next_comm=b next_pid=13 next_prio=-1
 --     a-12 [003] 16.443377: sched_switch:      a:12 [-1] S ==> b:13 [-1]
@@ -7,8 +7,8 @@
 --
 -- The event's fields are those of the kernel's TP_printk (include/trace/events/sched.h); the short
 -- form is that of libtraceevent's plugin, by which trace-cmd and perf print. Names may have spaces,
--- colons and `=` in them, so the fields are read from the right. What stands of the task that leaves
--- is not looked at (own).
+-- colons and `=` in them, so the fields are read from the right. What stands of the task that
+-- leaves is not looked at (own).
 use Rattle.std.specs.Prelude.{ℕ, ◌+◌, ◌-◌, ◌*◌, ◌/◌, Bool, false, ◌==◌, ◌&&◌, nat_lt, nat_le, if◌then◌else◌, List, [], ◌∷◌, length, take, drop, slice_index, Option, Some, None, codes}
 use Rattle.std.specs.Option.{option_map, option_map_or, option_or}
 use Rattle.std.specs.Char.{is_ascii_digit}
@@ -29,7 +29,8 @@ digits_on n (c ∷ cs) = if is_ascii_digit c then digits_on (n * 10 + (c - 48)) 
 
 -- the number that 1 to 18 digits spell, zeros in front too
 unfoldable pub number_at : List ℕ → Option ℕ
-number_at text = if nat_lt 0 (length text) && nat_le (length text) 18 then digits_on 0 text else None
+number_at text = if nat_lt 0 (length text) && nat_le (length text) 18 then digits_on 0 text
+    else None
 
 -- the microseconds behind the point: six digits, or nine of which the last three are cut off
 unfoldable pub micros_at : List ℕ → Option ℕ
@@ -48,7 +49,8 @@ time_at text = do
 -- what stands in brackets
 unfoldable pub bracketed_at : List ℕ → Option (List ℕ)
 bracketed_at text =
-    if nat_le 2 (length text) && slice_index text 0 == 91 && slice_index text (length text - 1) == 93
+    if nat_le 2 (length text) && slice_index text 0 == 91
+    && slice_index text (length text - 1) == 93
     then Some (take (length text - 2) (drop 1 text)) else None
 
 -- the CPU of a word `[003]`

@@ -219,8 +219,8 @@ fn headed<'a>(head: &[u8], tail: &'a [u8]) -> Line<'a>
 
 /// What a line is, without the LF at its end: a switch, as ftrace, `trace-cmd report` and
 /// `perf script` print the event sched_switch, with or without the column of flags; a line of
-/// sched_switch that has none of these forms; or another line. A sched_switch line is one that has a
-/// time before the event's name. The time is below 2^61. Takes no memory.
+/// sched_switch that has none of these forms; or another line. A sched_switch line is one that has
+/// a time before the event's name. The time is below 2^61. Takes no memory.
 #[tactic(auto, unfolding(crate::specs::Line::line_at))]
 pub fn line_of(line: &[u8]) -> Line<'_>
     ensures value { line_view result ≡ line_at line.now }

@@ -77,7 +77,8 @@ fn end_line(
     requires { AreNamed names.old steps.old.items }
     ensures shown { OnOk result (map (step_view names.new) steps.new.items
         ≡ map (step_view names.old) steps.old.items ++ told (rest.old.items ++ front.now)) }
-    ensures called { OnOk result (names.new ≡ names_on names.old (told (rest.old.items ++ front.now))) }
+    ensures called { OnOk result (names.new
+        ≡ names_on names.old (told (rest.old.items ++ front.now))) }
     ensures good { OnOk result (is_bad_line (rest.old.items ++ front.now) ≡ false) }
     ensures empty { OnOk result (rest.new.items ≡ []) }
     ensures named { OnOk result (AreNamed names.new steps.new.items) }
@@ -107,7 +108,8 @@ fn take_piece(
     requires rest { Lacks 10 rest.old.items }
     ensures so_far { OnOk result ((whole after : List ℕ) →
         IsSoFar whole ((rest.old.items ++ piece.now) ++ after) lines.old (map (step_view names.old) steps.old.items)
-        → IsSoFar whole (rest.new.items ++ after) lines.new (map (step_view names.new) steps.new.items)) }
+        → IsSoFar whole (rest.new.items ++ after) lines.new
+        (map (step_view names.new) steps.new.items)) }
     ensures bad { IfErr result (λ e. (whole after : List ℕ) →
         IsSoFar whole ((rest.old.items ++ piece.now) ++ after) lines.old (map (step_view names.old) steps.old.items)
         → IsFault whole e) }
@@ -136,9 +138,9 @@ fn take_piece(
     }
 }
 
-/// Reads a recording to its end: the switches of its lines, in their order. Names of tasks that come
-/// with a priority below 0 are added to the names behind those that are there, as they first come;
-/// after an error too some may have been added.
+/// Reads a recording to its end: the switches of its lines, in their order. Names of tasks that
+/// come with a priority below 0 are added to the names behind those that are there, as they first
+/// come; after an error too some may have been added.
 ///
 /// # Errors
 /// [`RecordedFault::BadLine`] with the first line of sched_switch that is not as ftrace,

@@ -32,10 +32,11 @@ with_piece a happened switches = record a {
   switches = a.switches ++ switches;
 }
 
--- THE NEXT PIECE of a run, which is cut between two ticks. What happens at a time is told before the
--- switches of that time: what ends a tick may stand at the end of one piece, and the switches of the
--- same time in the next one
-pub record IsNextPiece (a : AccountingView) (happened : List Happened) (switches : List Switch) : Type 0 where
+-- THE NEXT PIECE of a run, which is cut between two ticks. What happens at a time is told before
+-- the switches of that time: what ends a tick may stand at the end of one piece, and the switches
+-- of the same time in the next one
+pub record IsNextPiece (a : AccountingView) (happened : List Happened) (switches : List Switch)
+    : Type 0 where
   -- what was heard is not later than the switches to come
   pub told : All (λ s. All (λ h. h.time ≤ s.time) a.happened) switches
   -- what is to come is later than the switches that were heard

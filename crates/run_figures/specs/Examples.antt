@@ -67,7 +67,8 @@ two_jobs : responses_of (outcomes (job 0 9 (Some 1) 0 ∷ job 10 15 (Some 12) 0 
 two_jobs = refl
 
 -- A LATE TIMER ends a job and releases the next, and what is spent then is spent by the next
-next_job : jobs_of (at 0 1 (Released 8) ∷ at 6 1 JobEnds ∷ at 6 1 (NextReleased 14) ∷ at 6 1 (Spent 8) ∷ []) 1
+next_job : jobs_of (at 0 1 (Released 8) ∷ at 6 1 JobEnds ∷ at 6 1 (NextReleased 14)
+    ∷ at 6 1 (Spent 8) ∷ []) 1
     ≡ job 0 8 (Some 6) 0 ∷ job 6 14 None 1 ∷ []
 next_job = refl
 
@@ -103,7 +104,8 @@ preempted = refl
 -- MIGRATED: to CPU 1, stays there, and back; the first placement is none. Each CPU has its own time
 abbrev moves : List Switch
 moves =
-    switch 0 0 None Running (Some 1) ∷ switch 2 0 (Some 1) Preempted (Some 2) ∷ switch 2 1 None Running (Some 1)
+    switch 0 0 None Running (Some 1) ∷ switch 2 0 (Some 1) Preempted (Some 2)
+    ∷ switch 2 1 None Running (Some 1)
     ∷ switch 3 1 (Some 1) Sleeping None ∷ switch 5 1 None Running (Some 1)
     ∷ switch 6 0 (Some 2) Sleeping (Some 1) ∷ switch 6 1 (Some 1) Preempted None ∷ []
 

@@ -25,8 +25,8 @@ outcome_at job (Some end) =
 abbrev pub outcomes : List Job → List Outcome
 outcomes jobs = flat_map (λ j. outcome_at j j.ended) jobs
 
--- LATE: it ended after its deadline; or it is under way at the end of the run, neither ended nor cut,
--- and its deadline has passed
+-- LATE: it ended after its deadline; or it is under way at the end of the run, neither ended nor
+-- cut, and its deadline has passed
 abbrev pub is_late_at : ℕ → Job → Option ℕ → Bool
 is_late_at time job None = not job.cut && nat_lt job.deadline time
 is_late_at time job (Some end) = nat_lt job.deadline end

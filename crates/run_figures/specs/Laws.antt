@@ -48,7 +48,8 @@ ends (WokenSpent deadline) = false
 -- each job of a task is one release, and each that ended is one end
 pub record AreReleased (happened : List Happened) (t : TaskJobsView) : Type 0 where
   pub released : length t.jobs ≡ count_by (λ h. releases h.what) (of_task t.number happened)
-  pub ended : count_by (λ j. is_some j.ended) t.jobs ≤ count_by (λ h. ends h.what) (of_task t.number happened)
+  pub ended : count_by (λ j. is_some j.ended) t.jobs ≤ count_by (λ h. ends h.what)
+      (of_task t.number happened)
 
 -- what a domain tells of some calls, from its opening on
 abbrev pub IsToldOfCalls : List Happened → Type 0

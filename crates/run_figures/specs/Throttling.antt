@@ -58,8 +58,8 @@ up_to time happened = take_while (λ h. nat_le h.time time) happened
 abbrev pub is_throttled_at : List Happened → ℕ → ℕ → Bool
 is_throttled_at happened number time = is_throttled_by (of_task number (up_to time happened))
 
--- PREEMPTED: a CPU is taken from a task that wants it and has budget left. From one that is throttled
--- it is taken in the same state
+-- PREEMPTED: a CPU is taken from a task that wants it and has budget left. From one that is
+-- throttled it is taken in the same state
 abbrev pub wants_it : PrevState → Bool
 wants_it Running = false
 wants_it Preempted = true

@@ -118,8 +118,8 @@ impl Accounting {
     /// Hears the next piece: what happened and the switches, both in their order. Takes no memory.
     ///
     /// A run is cut into pieces between two ticks: what was heard is not later than the switches of
-    /// this piece, and what happens in this piece is later than the switches that were heard. In all
-    /// there are fewer than 2^64 - 1 of each.
+    /// this piece, and what happens in this piece is later than the switches that were heard. In
+    /// all there are fewer than 2^64 - 1 of each.
     pub fn hear(&mut self, happened: &[Happened], switches: &[Switch])
         requires next { IsNextPiece self.old happened.now switches.now }
         ensures { self.new ≡ with_piece self.old happened.now switches.now }

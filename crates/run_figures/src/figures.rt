@@ -1,7 +1,7 @@
 //! What is told of a run.
 
-/// Of the jobs of a task that ended: how long they took from release to end, in microseconds, and how
-/// far the end was before the deadline.
+/// Of the jobs of a task that ended: how long they took from release to end, in microseconds, and
+/// how far the end was before the deadline.
 #[derive(Clone, Copy, Debug, PartialEq, Eq)]
 pub struct Responses {
     /// The least response.

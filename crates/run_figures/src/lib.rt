@@ -3,8 +3,8 @@
 //! Meets the definitions of jobs (`specs/Jobs.antt`), of throttling and preemption
 //! (`specs/Throttling.antt`), of the time on CPUs (`specs/Stays.antt`) and of the figures
 //! (`specs/Figures.antt`), of a run that is given whole or heard piece by piece
-//! (`specs/Accounting.antt`). To the crate above it promises that each figure is the definition's, of
-//! all that happened and all switches that it was given, and that nothing overflows.
+//! (`specs/Accounting.antt`). To the crate above it promises that each figure is the definition's,
+//! of all that happened and all switches that it was given, and that nothing overflows.
 #![tactic(auto)]
 
 mod accounting;

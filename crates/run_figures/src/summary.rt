@@ -90,8 +90,8 @@ pub(crate) fn cpu_figures(alloc: Global, cpus: &[Cpu]) -> Result<Vec<CpuFigures>
     }
 }
 
-/// The figures of a run: of each task, in the order of the tasks, and of each CPU of the domain. Goes
-/// once through what happened and the switches.
+/// The figures of a run: of each task, in the order of the tasks, and of each CPU of the domain.
+/// Goes once through what happened and the switches.
 ///
 /// # Errors
 /// 12 [`NoMemory`]: a growth was refused; nothing is left.

@@ -21,8 +21,8 @@ use Rattle.call_book.specs.BookAnswers.{IsAdvanced, TellsAdvance}
 use Rattle.call_book.specs.Ending.{EndingView, left_of}
 use Rattle.run_figures.specs.Accounting.{AccountingView}
 use Rattle.heard_run.specs.Heard.{heard_of, heard_after}
-use Rattle.heard_run.proofs.Pieces.{heard_whole}
-use Rattle.call_book.proofs.Growing.{run_grows}
+use Rattle.heard_run.proofs.CallerLemmas.{heard_whole}
+use Rattle.call_book.proofs.CallerLemmas.{run_grows}
 use Rattle.domain_run.specs.Tick.{ticks}
 use Rattle.call_book.specs.SectionView.{SectionView}
 use Rattle.session.specs.declared.fault.EndFault.{EndFault}

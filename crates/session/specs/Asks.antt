@@ -57,8 +57,8 @@ pub record IsOverCap (cpus bw seen : ℕ) : Type 0 where
   pub within : seen ≤ cap
   pub above : cap < seen + bw
 
--- the same of a task and a domain. Of a word it is the cap that this word carried; of a sum, that of
--- the limit that the domain's state had
+-- the same of a task and a domain. Of a word it is the cap that this word carried; of a sum, that
+-- of the limit that the domain's state had
 abbrev pub IsOver : SessionId → TaskSpecView → ℕ → ℕ → Type 0
 IsOver id t d seen = IsOverCap (length (cpus_of id d)) (params_of t.attr).bw seen
 
@@ -220,16 +220,16 @@ RefusesOnlyFullOrMemory (Err _) = ⊥
 RefusesOnlyFullOrMemory (Ok reply) = Unit {0}
 
 -- the word's answer to a regrade to so much, by one call of the gate: a ticket of the domain asked.
--- Where the word refused, the number is what was used of it, and the cap that this same word carried
--- leaves no room for so much in the place of what the ticket has
+-- Where the word refused, the number is what was used of it, and the cap that this same word
+-- carried leaves no room for so much in the place of what the ticket has
 pub record AsksWord (gate : GateId) (d bw : ℕ) (word : Option ℕ) : Type 0 where
   pub was : TicketView
   pub becomes : TicketView
   pub own : IsTicketOf gate d was
   pub answered : IsAnswered was bw becomes word
 
--- what the word has to do with the reply to a regrade: where it refused, the reply is EBUSY with its
--- number; where it did not, a change is one that it granted; and no other reply asked it
+-- what the word has to do with the reply to a regrade: where it refused, the reply is EBUSY with
+-- its number; where it did not, a change is one that it granted; and no other reply asked it
 abbrev pub IsByWord : GateId → ℕ → ℕ → Option ℕ → Reply → Type 0
 IsByWord gate d bw (Some seen) reply = (reply ≡ replies.Busy seen) × AsksWord gate d bw (Some seen)
 IsByWord gate d bw None replies.Changed = AsksWord gate d bw None
@@ -251,8 +251,8 @@ pub record MakesRegrade (id : SessionId) (c c' : ClientView) (d number : ℕ) (p
       (IsRegradeReply id.gate d (length (cpus_of id d)) id.limit number params word)
 
 -- what the word has to do with the reply to a change of the limit: where it refused, the reply is
--- EBUSY with its number; where it did not, the limit is set by it; and no other reply asked it. It was
--- asked by the client's own piece, in this very call
+-- EBUSY with its number; where it did not, the limit is set by it; and no other reply asked it. It
+-- was asked by the client's own piece, in this very call
 abbrev pub IsLimitByWord : ℕ → ℕ → ℕ → BlankView → Option ℕ → Reply → BlankView → Type 0
 IsLimitByWord cpus d limit piece (Some seen) reply back =
     (reply ≡ replies.Busy seen) × AsksForLimit cpus d limit piece back (Some seen)
@@ -260,8 +260,8 @@ IsLimitByWord cpus d limit piece None replies.Set back =
     AsksForLimit cpus d limit piece back None
 IsLimitByWord cpus d limit piece None _ back = back ≡ piece
 
--- the reply to a change of the limit is that of a state of the domain to which some calls led, and of
--- the word; and the piece that asked it is in hand then
+-- the reply to a change of the limit is that of a state of the domain to which some calls led, and
+-- of the word; and the piece that asked it is in hand then
 pub record IsLimitReply (d cpus limit wanted : ℕ) (piece : BlankView) (word : Option ℕ)
     (hand : Option BlankView) (reply : Reply) : Type 0 where
   pub before : List Call

@@ -57,9 +57,9 @@ pub record WasChanged (id : SessionId) (d number : ℕ) (was : Moving) (now : Pa
 
 -- ---- the answers
 
--- The task was prepared as it was listed; the gate granted this piece its bandwidth in the domain to
--- which it comes; both books have their entry, and nothing else; and its old ticket, of the domain
--- that it left, was given back, by a step of its own: what is in hand is its blank
+-- The task was prepared as it was listed; the gate granted this piece its bandwidth in the domain
+-- to which it comes; both books have their entry, and nothing else; and its old ticket, of the
+-- domain that it left, was given back, by a step of its own: what is in hand is its blank
 pub record HasMoved (id : SessionId) (number from to : ℕ) (piece : BlankView) (c c' : ClientView)
     : Type 0 where
   pub task : Moving

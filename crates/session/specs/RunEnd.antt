@@ -81,7 +81,8 @@ pub record AreLogged (duration : ℕ) (wanted : Bool) (f : Finished) : Type 0 wh
   pub logs_count : length f.logs.items ≡ length f.report.histories.items
   pub logs : (d : ℕ) (s : SectionView) (x : LogView) → d < length f.report.histories.items
       → let h = slice_index_or f.report.histories.items d s in
-      IsLogOf wanted (told_at_end duration h.cpus h.limit h.entries) (slice_index_or f.logs.items d x)
+      IsLogOf wanted (told_at_end duration h.cpus h.limit h.entries)
+      (slice_index_or f.logs.items d x)
 
 -- the states are those runs without their switches; all that was heard of each is its switches, and
 -- what client 1's advance tells

@@ -335,8 +335,8 @@ fn ask_apart<N: Names + Send + Sync, A: TasksBrand, T: Turnstile, R: Threads + W
     )
 }
 
-/// Lets the clients ask for their own tasks, and puts their answers together. All that this grows is
-/// taken before a thread is started: room for the threads' handles, for who is back, for who is
+/// Lets the clients ask for their own tasks, and puts their answers together. All that this grows
+/// is taken before a thread is started: room for the threads' handles, for who is back, for who is
 /// refused, and each client in its seat, with room for its answers.
 fn admit_tasks<N: Names + Send + Sync, A: TasksBrand, T: Turnstile, R: Threads + Wait + Sync>(
     rt: &R,

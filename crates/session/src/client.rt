@@ -187,8 +187,8 @@ impl<N: Names> Client<N> {
         }
     }
 
-    /// As [`Client::advance_book`], of a book at its end: an accounting hears its switches, and what
-    /// happens in these ticks, and the book keeps neither.
+    /// As [`Client::advance_book`], of a book at its end: an accounting hears its switches, and
+    /// what happens in these ticks, and the book keeps neither.
     pub(crate) fn hear_book(
         &mut self,
         gate: &Gate,
@@ -280,7 +280,8 @@ impl<N: Names> Client<N> {
         ensures made { Makes self.old self.new (made_by place (admission prepared) result) }
         ensures verdict { IsVerdict (length (cpus_of N.id place)) prepared.params.bw result }
         ensures last { IsLastFound self.new.hand result }
-        ensures gate { AsksGate N.id.gate place prepared.params.bw (Some blank) result self.new.hand }
+        ensures gate { AsksGate N.id.gate place prepared.params.bw
+            (Some blank) result self.new.hand }
     {
         match shared.gate.take(rt, blank, place, prepared.bw()) {
             Take::Taken(ticket) => {
@@ -314,7 +315,8 @@ impl<N: Names> Client<N> {
         requires checked { accepted task.now.attr ≡ Ok params }
         requires own { blank.gate ≡ N.id.gate }
         ensures made { Makes self.old self.new (made_by place (call_of task.now) result) }
-        ensures verdict { IsVerdict (length (cpus_of N.id place)) (params_of task.now.attr).bw result }
+        ensures verdict { IsVerdict (length (cpus_of N.id place))
+            (params_of task.now.attr).bw result }
         ensures last { IsLastFound self.new.hand result }
         ensures gate { AsksGate N.id.gate place (params_of task.now.attr).bw
             (Some blank) result self.new.hand }
@@ -348,7 +350,8 @@ impl<N: Names> Client<N> {
         requires place { IsDomainIndex N.id place }
         requires checked { accepted task.now.attr ≡ Ok params }
         ensures made { Makes self.old self.new (made_by place (call_of task.now) result) }
-        ensures verdict { IsVerdict (length (cpus_of N.id place)) (params_of task.now.attr).bw result }
+        ensures verdict { IsVerdict (length (cpus_of N.id place))
+            (params_of task.now.attr).bw result }
         ensures last { IsLastFound self.new.hand result }
         ensures gate { AsksGate N.id.gate place (params_of task.now.attr).bw
             self.old.hand result self.new.hand }

@@ -74,7 +74,8 @@ fn advance_all<N: Names, R: Threads + Wait>(
     ensures ends { OnOk result (AllEnd duration books.new.items) }
     ensures logs { length logs.new.items ≡ length logs.old.items }
     ensures told { OnOk result (AllTellEnds duration books.new.items logs.old.items logs.new.items) }
-    ensures err { IfErr result (IsStopped (IsFullAmong duration books.new.items client.old client.new)) }
+    ensures err { IfErr result (IsStopped
+        (IsFullAmong duration books.new.items client.old client.new)) }
 {
     for place in 0..books.len() {
         let log = &mut logs[place];

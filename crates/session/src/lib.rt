@@ -3,12 +3,12 @@
 //!
 //! A [`Session`] meets the definitions of which session it is (`specs/SessionId.antt`,
 //! `specs/Options.antt`), of the clients that it hands out (`specs/Clients.antt`), of what a
-//! [`Client`] is answered and what it leaves in the books (`specs/Asks.antt`; for a task that moves,
-//! `specs/Moves.antt`), and of what the session leaves at its end (`specs/Report.antt`). To the crate
-//! above it promises: a call leaves exactly its entry, or none; a move leaves a departure in the one
-//! book and an arrival in the other, or nothing; an admission is answered EINVAL and EPERM exactly
-//! where the definition says; and at the end the histories are legal, and each client's entries in
-//! them are what it entered.
+//! [`Client`] is answered and what it leaves in the books (`specs/Asks.antt`; for a task that
+//! moves, `specs/Moves.antt`), and of what the session leaves at its end (`specs/Report.antt`). To
+//! the crate above it promises: a call leaves exactly its entry, or none; a move leaves a departure
+//! in the one book and an arrival in the other, or nothing; an admission is answered EINVAL and
+//! EPERM exactly where the definition says; and at the end the histories are legal, and each
+//! client's entries in them are what it entered.
 //!
 //! [`admit_all`] lets many clients admit a scenario's tasks at once, each client in a thread of its
 //! own. It meets the definition "Admissions of many clients" (`specs/Admissions.antt`) and

@@ -296,8 +296,8 @@ impl<N: Names, const D: usize> LockedBook<N, D> {
         }
     }
 
-    /// Moves a task to another domain with a client's passes of both. A refusal is told of both books
-    /// as they were.
+    /// Moves a task to another domain with a client's passes of both. A refusal is told of both
+    /// books as they were.
     pub(crate) fn move_to<const E: usize>(
         &mut self,
         to: &mut LockedBook<N, E>,

@@ -208,7 +208,8 @@ impl<N: Names> Client<N> {
         requires own { blank.gate ≡ N.id.gate }
         requires soon { prepared.delay ≡ 0 }
         requires listed { WasListed N.id from prepared.number (moving_as prepared) }
-        ensures moved { OnOk result (HasMoved N.id prepared.number from to blank self.old self.new) }
+        ensures moved { OnOk result
+            (HasMoved N.id prepared.number from to blank self.old self.new) }
         ensures unmoved { IfErr result (λ _. Makes self.old self.new (λ d. [])) }
         ensures why { IfErr result
             (IsWhyUnmoved N.id prepared.number from to (Some blank) self.new.hand) }
@@ -258,20 +259,20 @@ impl<N: Names> Client<N> {
     }
 
     /// Moves a listed task, 1 to 65535, from one domain to another, where it begins anew, without a
-    /// delay and with its whole script, in the list of the other domain: a task has its bandwidth in
-    /// one root domain, and the other one is asked for room first (sched-deadline.rst, on exclusive
-    /// cpusets and root domains; "Bandwidth management"). Tested in this order: `SameDomain` where
-    /// both are one; `Full` where there is no blank in the client's hand, in the pool or in the
-    /// domain where it comes to; under the lock of the domain that it goes from, `Esrch` where no
-    /// such task is listed or it has ended (sched_setattr(2)), and `Enomem` where there is no memory
-    /// for copies of its name and script; the gate's word of the other domain, without a lock, `Busy`
-    /// (EBUSY, sched_setattr(2)), with what is used of it in 1/2^20 of a CPU; and then both books,
-    /// under both locks, as [`call_book::move_task`] tests: `Full`, `Esrch`, `Stale`, `Twice` and
-    /// `Busy`, with the sum of bandwidths. Each book has its entry then, a departure and an arrival,
-    /// and the bandwidth in the domain that the task left is given back to the gate. After a refusal
-    /// nothing stands in a book, nor does a ticket stay behind; the piece is in hand, where there was
-    /// one. It waits for the gate, as long as other clients come between, and for the locks of pool
-    /// and domains, the lower domain's first.
+    /// delay and with its whole script, in the list of the other domain: a task has its bandwidth
+    /// in one root domain, and the other one is asked for room first (sched-deadline.rst, on
+    /// exclusive cpusets and root domains; "Bandwidth management"). Tested in this order:
+    /// `SameDomain` where both are one; `Full` where there is no blank in the client's hand, in the
+    /// pool or in the domain where it comes to; under the lock of the domain that it goes from,
+    /// `Esrch` where no such task is listed or it has ended (sched_setattr(2)), and `Enomem` where
+    /// there is no memory for copies of its name and script; the gate's word of the other domain,
+    /// without a lock, `Busy` (EBUSY, sched_setattr(2)), with what is used of it in 1/2^20 of a
+    /// CPU; and then both books, under both locks, as [`call_book::move_task`] tests: `Full`,
+    /// `Esrch`, `Stale`, `Twice` and `Busy`, with the sum of bandwidths. Each book has its entry
+    /// then, a departure and an arrival, and the bandwidth in the domain that the task left is
+    /// given back to the gate. After a refusal nothing stands in a book, nor does a ticket stay
+    /// behind; the piece is in hand, where there was one. It waits for the gate, as long as other
+    /// clients come between, and for the locks of pool and domains, the lower domain's first.
     pub fn move_task<S: Shares<N>, R: Wait>(
         &mut self,
         rt: &R,

@@ -46,7 +46,8 @@ impl Model for Parts {
     ghost Value = { SessionId };
 
     ghost view = { λ p.
-        id_of p.gate p.books.items (map (λ v. v.items) p.cpu_sets.items) p.limit (vec_len p.hands) p.history p.workers };
+        id_of p.gate p.books.items (map (λ v. v.items) p.cpu_sets.items) p.limit
+        (vec_len p.hands) p.history p.workers };
 
     ghost invariant = { λ p. AreParts
         (id_of p.gate p.books.items (map (λ v. v.items) p.cpu_sets.items) p.limit

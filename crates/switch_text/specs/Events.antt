@@ -16,8 +16,8 @@ pub record ToldView : Type 0 where
   pub names : ℕ → List ℕ
   pub happened : List Happened
 
--- when it is, which it is of what stands at one time, on which CPU of the machine, of which task, and
--- its line
+-- when it is, which it is of what stands at one time, on which CPU of the machine, of which task,
+-- and its line
 pub record Event : Type 0 where
   pub time : ℕ
   pub rank : ℕ

@@ -15,8 +15,8 @@ sliced_trace base names switches = header ++ flat_map (line_of names base) switc
 abbrev pub IsEndOf : List Switch → List Switch → Type 0
 IsEndOf all last = (gone : List Switch) × (all ≡ gone ++ last)
 
--- a run that is written as a text and made no further: of what was made before the slice at hand, all
--- but what a buffer of 64 KiB has was written
+-- a run that is written as a text and made no further: of what was made before the slice at hand,
+-- all but what a buffer of 64 KiB has was written
 pub record IsStopped (text : List Switch → List ℕ) (all hand rest : List Switch)
     (written : ℕ) : Type 0 where
   pub earlier : List Switch

@@ -27,8 +27,8 @@ is_sooner a b = nat_lt a.time b.time || (a.time == b.time && is_first a b)
 abbrev pub is_sooner_unless_cut : Happened → Happened → Bool
 is_sooner_unless_cut a b = not (has_line a.what) || not (has_line b.what) || is_sooner a b
 
--- each of what happens has a line, unless it is a cut; what has one rises strictly by time, and at one
--- time by what it is, CPU and number; and it is little enough to be counted
+-- each of what happens has a line, unless it is a cut; what has one rises strictly by time, and at
+-- one time by what it is, CPU and number; and it is little enough to be counted
 pub record IsTold (t : Told) : Type 0 where
   pub lines : All (HasToldLine t.names.now t.base) t.happened.now
   pub rising : AllPairs (λ a b. IsTrue (is_sooner_unless_cut a b)) t.happened.now

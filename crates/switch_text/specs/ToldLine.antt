@@ -1,5 +1,5 @@
--- The line of what happens to a task. A wakeup is as ftrace prints its event sched_wakeup; the end of
--- a job, a throttle and a replenishment have lines of this project's own, in the same form.
+-- The line of what happens to a task. A wakeup is as ftrace prints its event sched_wakeup; the end
+-- of a job, a throttle and a replenishment have lines of this project's own, in the same form.
 use Rattle.std.specs.Prelude.{ℕ, ◌+◌, ◌/◌, ◌%◌, Bool, true, false, List, [], ◌++◌, codes, decimal, Option, Some, None}
 use Rattle.domain_run.specs.declared.happened.What.{What}
 use Rattle.domain_run.specs.declared.happened.What.TheVariants.{JobEnds, NextReleased, Spent, Cut, Replenished, Released, WokenSpent}
@@ -62,8 +62,8 @@ event_fields names cpu number what =
     ++ last_fields cpu what
     ++ codes "\n"
 
--- the line of what happens in a domain whose CPU 0 is this CPU of the machine, where tasks have these
--- names
+-- the line of what happens in a domain whose CPU 0 is this CPU of the machine, where tasks have
+-- these names
 unfoldable pub told_line_of : (ℕ → List ℕ) → ℕ → Happened → List ℕ
 told_line_of names base h =
     task_part names (stands_in_front h.what h.number)

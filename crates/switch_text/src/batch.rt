@@ -84,7 +84,8 @@ impl Batch {
         ensures err { IfErr result
             (TakesFront (W.contents (inner_of writer.old))
             (W.contents (inner_of writer.new)) self.old) }
-        ensures faults { faults_of writer.new ≡ one_more_unless (is_ok result) (faults_of writer.old) }
+        ensures faults { faults_of writer.new
+            ≡ one_more_unless (is_ok result) (faults_of writer.old) }
     {
         let waiting = self.len;
         match writer.write_all(&self.bytes[..waiting]) {
@@ -108,7 +109,8 @@ impl Batch {
         ensures err { IfErr result
             (TakesFront (W.contents (inner_of writer.old))
             (W.contents (inner_of writer.new)) self.old) }
-        ensures faults { faults_of writer.new ≡ one_more_unless (is_ok result) (faults_of writer.old) }
+        ensures faults { faults_of writer.new
+            ≡ one_more_unless (is_ok result) (faults_of writer.old) }
     {
         if self.is_low() {
             return Ok(0);

@@ -32,7 +32,8 @@ fn next_in<'a, 'b>(run: &'a Run<'b>, index: usize, place: usize) -> Next<'a, 'b>
     requires { place < length run.now.switches.now }
     ensures index { result.index ≡ index }
     ensures run { result.run.now ≡ run.now }
-    ensures switch { result.switch.now ≡ slice_index_or run.now.switches.now place result.switch.now }
+    ensures switch { result.switch.now
+        ≡ slice_index_or run.now.switches.now place result.switch.now }
 {
     Next {
         index,
@@ -41,8 +42,8 @@ fn next_in<'a, 'b>(run: &'a Run<'b>, index: usize, place: usize) -> Next<'a, 'b>
     }
 }
 
-/// How far each of several runs has gone, and their heads; of one run alone the heads are not looked
-/// at.
+/// How far each of several runs has gone, and their heads; of one run alone the heads are not
+/// looked at.
 #[derive(Clone, Copy)]
 pub(crate) struct Merge {
     pub(crate) places: [usize; 8],

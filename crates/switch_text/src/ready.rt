@@ -93,8 +93,8 @@ impl TraceRoom {
         Ok(TraceRoom { slots })
     }
 
-    /// The same, and where a run has many tasks, with the places that were kept back for them. Takes
-    /// no memory: each place stands in the room that was opened.
+    /// The same, and where a run has many tasks, with the places that were kept back for them.
+    /// Takes no memory: each place stands in the room that was opened.
     #[inline(never)]
     pub(crate) fn widened(self, runs: &[Run<'_>]) -> TraceRoom {
         let mut slots = self.slots;

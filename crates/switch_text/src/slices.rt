@@ -93,8 +93,8 @@ fn send_slice<S: Slices, W: Write>(
 }
 
 /// Writes the trace text of the run of one domain while it is made: the header `# tracer: nop`, and
-/// then the line of each switch, slice by slice, as they stand. Takes no memory but the room that it
-/// is given: up to 64 KiB wait in a fixed buffer, which goes out in one write when it is full.
+/// then the line of each switch, slice by slice, as they stand. Takes no memory but the room that
+/// it is given: up to 64 KiB wait in a fixed buffer, which goes out in one write when it is full.
 ///
 /// The slices that were written are gone from `slices`: what is left there is an end of what was,
 /// and nothing where all went out.

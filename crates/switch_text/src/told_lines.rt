@@ -126,7 +126,8 @@ fn put_fields(
     requires room { at + 83 ≤ length out.old }
     ensures place { result ≡ at + length (event_fields (named names.now) cpu number what) }
     ensures short { result ≤ at + 83 }
-    ensures text { take result out.new ≡ take at out.old ++ event_fields (named names.now) cpu number what }
+    ensures text { take result out.new ≡ take at out.old
+        ++ event_fields (named names.now) cpu number what }
 {
     let at = put(out, at, name_of_event(what));
     let at = put(out, at, name_of(names, number).as_bytes());

@@ -63,7 +63,8 @@ fn next_in<'a, 'b>(told: &'a Told<'b>, index: usize, place: usize) -> NextTold<'
     requires { place < length told.now.happened.now }
     ensures index { result.index ≡ index }
     ensures told { result.told.now ≡ told.now }
-    ensures happened { result.happened.now ≡ slice_index_or told.now.happened.now place result.happened.now }
+    ensures happened { result.happened.now
+        ≡ slice_index_or told.now.happened.now place result.happened.now }
 {
     NextTold {
         index,

@@ -212,8 +212,8 @@ pub fn write_trace<W: Write>(runs: &[Run<'_>], writer: &mut Counted<W>) -> Resul
     write_with(runs, &mut slots, writer)
 }
 
-/// As [`write_trace`], where the texts of tasks stand in memory and not on the stack, which may find
-/// no room to grow: 120 KiB of them, and 410 where a run has many tasks.
+/// As [`write_trace`], where the texts of tasks stand in memory and not on the stack, which may
+/// find no room to grow: 120 KiB of them, and 410 where a run has many tasks.
 ///
 /// # Errors
 /// As [`write_trace`].

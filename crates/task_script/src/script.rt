@@ -70,7 +70,8 @@ impl Model for Script {
 
     ghost view = { λ s. record { rounds = s.rounds; phases = s.phases.items } };
 
-    ghost invariant = { λ s. IsLaid (record { rounds = s.rounds; phases = s.phases.items }) s.steps.items };
+    ghost invariant = { λ s. IsLaid
+        (record { rounds = s.rounds; phases = s.phases.items }) s.steps.items };
 }
 
 /// What a script answers when it is asked.

@@ -1,5 +1,5 @@
-//! A comparison whose reader fails. What two traces give is a row of the table that the built program
-//! runs on.
+//! A comparison whose reader fails. What two traces give is a row of the table that the built
+//! program runs on.
 
 use crate::fakes::Giver;
 use compare_report::{CompareFault, CompareOptions, Counted, Input, compare_texts};

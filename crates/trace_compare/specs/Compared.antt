@@ -7,18 +7,24 @@ use Rattle.trace_compare.specs.Pairs.{fits, partners, left_over}
 use Rattle.trace_compare.specs.Shift.{IsShift}
 
 -- the first n tasks are matched
-pub record AreMatched (within shift : ℕ) (tasks : List TaskRuns) (n : ℕ) (matchings : List Matching) : Type 0 where
+pub record AreMatched (within shift : ℕ) (tasks : List TaskRuns) (n : ℕ) (matchings : List Matching)
+    : Type 0 where
   pub as_many : length matchings ≡ n
-  pub takes : (j : ℕ) (t : TaskRuns) (m : Matching) → j < n → (slice_index_or matchings j m).partners.items
-      ≡ partners (fits within shift) (slice_index_or tasks j t).model.items (slice_index_or tasks j t).recorded.items
-  pub leaves : (j : ℕ) (t : TaskRuns) (m : Matching) → j < n → (slice_index_or matchings j m).left.items
-      ≡ left_over (fits within shift) (slice_index_or tasks j t).model.items (slice_index_or tasks j t).recorded.items
+  pub takes : (j : ℕ) (t : TaskRuns) (m : Matching) → j < n
+      → (slice_index_or matchings j m).partners.items
+      ≡ partners (fits within shift) (slice_index_or tasks j t).model.items
+      (slice_index_or tasks j t).recorded.items
+  pub leaves : (j : ℕ) (t : TaskRuns) (m : Matching) → j < n
+      → (slice_index_or matchings j m).left.items
+      ≡ left_over (fits within shift) (slice_index_or tasks j t).model.items
+      (slice_index_or tasks j t).recorded.items
 
 -- the shift that was asked for, or the best
 abbrev pub IsTaken : Option ℕ → ℕ → List TaskRuns → ℕ → Type 0
 IsTaken (Some asked) within tasks shift = shift ≡ asked
 IsTaken None within tasks shift = IsShift within tasks shift
 
-pub record IsCompared (within : ℕ) (asked : Option ℕ) (tasks : List TaskRuns) (c : Compared) : Type 0 where
+pub record IsCompared (within : ℕ) (asked : Option ℕ) (tasks : List TaskRuns) (c : Compared)
+    : Type 0 where
   pub shift : IsTaken asked within tasks c.shift
   pub matched : AreMatched within c.shift tasks (length tasks) c.tasks.items

@@ -35,8 +35,8 @@ same_cpu pairs = length (filter (λ p. p.0.cpu == p.1.cpu) pairs)
 abbrev pub first_missing : List (Option Run) → Option ℕ
 first_missing ps = position is_none ps
 
--- a recorded run inside the model's time: it begins at or behind the model's first start and ends at
--- or before the model's last end
+-- a recorded run inside the model's time: it begins at or behind the model's first start and ends
+-- at or before the model's last end
 abbrev pub is_inside : ℕ → ℕ → ℕ → Run → Bool
 is_inside from until shift r =
     nat_le (from + shift) (r.start + no_shift) && nat_le (r.«end» + no_shift) (until + shift)
@@ -52,8 +52,10 @@ far_from shift m r = start_apart shift (m, r) + end_apart shift (m, r)
 -- the place of the nearest run, the first of equals
 pub record IsNearest (shift : ℕ) (m : Run) (rs : List Run) (k : ℕ) : Type 0 where
   pub within : k < length rs
-  pub least : (j : ℕ) (d : Run) → j < length rs → far_from shift m (slice_index_or rs k d) ≤ far_from shift m (slice_index_or rs j d)
-  pub first : (j : ℕ) (d : Run) → j < k → far_from shift m (slice_index_or rs k d) < far_from shift m (slice_index_or rs j d)
+  pub least : (j : ℕ) (d : Run) → j < length rs
+      → far_from shift m (slice_index_or rs k d) ≤ far_from shift m (slice_index_or rs j d)
+  pub first : (j : ℕ) (d : Run) → j < k
+      → far_from shift m (slice_index_or rs k d) < far_from shift m (slice_index_or rs j d)
 
 -- all runs of the model
 abbrev pub all_runs : List TaskRuns → List Run

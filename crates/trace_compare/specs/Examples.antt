@@ -14,9 +14,11 @@ run start «end» cpu = record { start = start; «end» = «end»; cpu = cpu }
 abbrev no_shift_and : ℕ → ℕ
 no_shift_and n = n + no_shift
 
--- task 0 runs on CPU 0 up to 2000 and on CPU 1 from then on; the run that is still open does not count
+-- task 0 runs on CPU 0 up to 2000 and on CPU 1 from then on; the run that is still open does not
+-- count
 moved :
-    raw_runs 0 (to 0 0 (Some 0) ∷ to 2000 0 None ∷ to 2000 1 (Some 0) ∷ to 2500 1 (Some 7) ∷ to 2600 0 (Some 0) ∷ [])
+    raw_runs 0 (to 0 0 (Some 0) ∷ to 2000 0 None ∷ to 2000 1 (Some 0) ∷ to 2500 1 (Some 7)
+    ∷ to 2600 0 (Some 0) ∷ [])
     ≡ run 0 2000 0 ∷ run 2000 2500 1 ∷ []
 unfolding raw_runs
 moved = refl
@@ -29,11 +31,13 @@ unfolding joined joined_on
 split_by_an_interrupt = refl
 
 -- without noise it stays two
-without_noise : runs_of 0 (run 0 1000 3 ∷ run 1030 2000 3 ∷ []) ≡ run 0 1000 3 ∷ run 1030 2000 3 ∷ []
+without_noise : runs_of 0 (run 0 1000 3 ∷ run 1030 2000 3 ∷ []) ≡ run 0 1000 3 ∷ run 1030 2000 3
+    ∷ []
 unfolding joined joined_on
 without_noise = refl
 
--- the recording's clock is 5 s ahead; the second run ends 1001 us too late, the third is 1000 us late
+-- the recording's clock is 5 s ahead; the second run ends 1001 us too late, the third is 1000 us
+-- late
 one_in_between :
     partners (fits 1000 (no_shift_and 5000000))
     (run 0 2000 0 ∷ run 8000 9000 0 ∷ run 20000 21000 0 ∷ [])

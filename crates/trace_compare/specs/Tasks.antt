@@ -12,10 +12,13 @@ pub record IsSound (t : TaskRuns) : Type 0 where
   pub recorded_short : All IsShort t.recorded.items
 
 -- task j has its runs in both texts
-pub record AreTasksOf (noise : ℕ) (model recorded : List Step) (many : ℕ) (tasks : List TaskRuns) : Type 0 where
+pub record AreTasksOf (noise : ℕ) (model recorded : List Step) (many : ℕ) (tasks : List TaskRuns)
+    : Type 0 where
   pub as_many : length tasks ≡ many
-  pub of_model : (j : ℕ) (d : TaskRuns) → j < many → (slice_index_or tasks j d).model.items ≡ runs_of noise (raw_runs j model)
-  pub of_recorded : (j : ℕ) (d : TaskRuns) → j < many → (slice_index_or tasks j d).recorded.items ≡ runs_of noise (raw_runs j recorded)
+  pub of_model : (j : ℕ) (d : TaskRuns) → j < many
+      → (slice_index_or tasks j d).model.items ≡ runs_of noise (raw_runs j model)
+  pub of_recorded : (j : ℕ) (d : TaskRuns) → j < many
+      → (slice_index_or tasks j d).recorded.items ≡ runs_of noise (raw_runs j recorded)
   pub sound : All IsSound tasks
 
 abbrev pub HaveSmallTimes : List Step → Type 0

@@ -57,7 +57,8 @@ fn take_step(
 ) -> Result<(), AllocError>
     requires { vec_len next.old ≡ 65536 }
     ensures behind { OnOk result ((rest : List Step) →
-        IsBehind next.old.items runs.old.items rest → IsBehind next.new.items runs.new.items (step.now ∷ rest)) }
+        IsBehind next.old.items runs.old.items rest
+        → IsBehind next.new.items runs.new.items (step.now ∷ rest)) }
     ensures many { vec_len next.new ≡ 65536 }
     ensures tasks { OnOk result (vec_len runs.new ≡ vec_len runs.old) }
 {

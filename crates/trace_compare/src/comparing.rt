@@ -29,7 +29,8 @@ fn match_all(
     requires within { within < 2 ^ 61 }
     requires shift { shift < 2 ^ 62 }
     requires tasks { All IsSound tasks.now }
-    ensures matched { IfOk result (λ v. AreMatched within shift tasks.now (length tasks.now) v.items) }
+    ensures matched { IfOk result (λ v. AreMatched within shift tasks.now
+        (length tasks.now) v.items) }
     ensures sound { IfOk result (λ v. All IsSoundMatching v.items) }
 {
     let mut matchings = Vec::new(alloc);
@@ -49,8 +50,8 @@ fn match_all(
 
 /// Matches the runs of all tasks, under the shift that was asked for, or else under the one under
 /// which most of them match ([`find_shift`]). Two runs match where their starts and their ends are
-/// each within so many microseconds of one another; in order of time each run of the model takes the
-/// first recorded one of its task behind those that were taken.
+/// each within so many microseconds of one another; in order of time each run of the model takes
+/// the first recorded one of its task behind those that were taken.
 ///
 /// # Errors
 /// Where a growth was refused.

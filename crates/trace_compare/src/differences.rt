@@ -27,8 +27,8 @@ pub fn missing_of(partners: &[Option<Run>]) -> Option<usize>
     partners.iter().position(|p| p.is_none())
 }
 
-/// Whether a recorded run lies inside the model's time, which is from its first start until its last
-/// end.
+/// Whether a recorded run lies inside the model's time, which is from its first start until its
+/// last end.
 fn lies_inside(from: u64, until: u64, shift: u64, run: &Run) -> bool
     requires from { from ≤ 2 ^ 61 }
     requires until { until < 2 ^ 61 }
@@ -97,9 +97,12 @@ fn add_pair(found: &mut Apart, shift: u64, m: &Run, partner: Option<Run>) -> Res
     requires model { IsShort m.now }
     requires partner { IfSome partner IsShort }
     requires few { found.old.same_cpu < 2 ^ 63 }
-    ensures starts { OnOk result (found.new.starts.items ≡ found.old.starts.items ++ map (start_apart shift) (one_pair m.now partner)) }
-    ensures ends { OnOk result (found.new.ends.items ≡ found.old.ends.items ++ map (end_apart shift) (one_pair m.now partner)) }
-    ensures same { OnOk result (found.new.same_cpu ≡ found.old.same_cpu + same_cpu (one_pair m.now partner)) }
+    ensures starts { OnOk result (found.new.starts.items ≡ found.old.starts.items
+        ++ map (start_apart shift) (one_pair m.now partner)) }
+    ensures ends { OnOk result (found.new.ends.items ≡ found.old.ends.items
+        ++ map (end_apart shift) (one_pair m.now partner)) }
+    ensures same { OnOk result (found.new.same_cpu
+        ≡ found.old.same_cpu + same_cpu (one_pair m.now partner)) }
     ensures few { found.new.same_cpu ≤ found.old.same_cpu + 1 }
 {
     match partner {
@@ -130,8 +133,10 @@ pub fn apart_of(
     requires shift { shift < 2 ^ 62 }
     requires model { All IsShort model.now }
     requires partners { All (λ p. IfSome p IsShort) partners.now }
-    ensures starts { IfOk result (λ a. a.starts.items ≡ map (start_apart shift) (pairs_of model.now partners.now)) }
-    ensures ends { IfOk result (λ a. a.ends.items ≡ map (end_apart shift) (pairs_of model.now partners.now)) }
+    ensures starts { IfOk result (λ a. a.starts.items
+        ≡ map (start_apart shift) (pairs_of model.now partners.now)) }
+    ensures ends { IfOk result (λ a. a.ends.items
+        ≡ map (end_apart shift) (pairs_of model.now partners.now)) }
     ensures same { IfOk result (λ a. a.same_cpu ≡ same_cpu (pairs_of model.now partners.now)) }
 {
     let mut found = Apart {

@@ -40,7 +40,8 @@ fn settle_all(
     requires as_many { length model.now ≡ length recorded.now }
     requires model { AreShortLists model.now }
     requires recorded { AreShortLists recorded.now }
-    ensures { IfOk result (λ v. AreSettled noise model.now recorded.now (length model.now) v.items) }
+    ensures { IfOk result (λ v. AreSettled noise model.now recorded.now
+        (length model.now) v.items) }
 {
     let mut tasks = Vec::new(alloc);
     for j in 0..model.len() {
@@ -80,11 +81,11 @@ fn noise_for(asked: Option<u64>, lists: &[Vec<Run>]) -> u64
     }
 }
 
-/// The runs of the model's tasks in the model's trace and in the recording: those of a task that are
-/// less than the noise apart are one, and those shorter than the noise are left out. A run of a task
-/// is the stretch from a switch to it up to the next switch on that CPU; a last one with no such end
-/// does not count. The tasks are the first so many numbers. If no noise is asked for, it is 100 us
-/// where each of the model's runs is longer, else 0.
+/// The runs of the model's tasks in the model's trace and in the recording: those of a task that
+/// are less than the noise apart are one, and those shorter than the noise are left out. A run of a
+/// task is the stretch from a switch to it up to the next switch on that CPU; a last one with no
+/// such end does not count. The tasks are the first so many numbers. If no noise is asked for, it
+/// is 100 us where each of the model's runs is longer, else 0.
 ///
 /// # Errors
 /// Where a growth was refused.

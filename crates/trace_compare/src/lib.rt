@@ -1,10 +1,10 @@
 //! A recorded trace beside the model's: runs, the shift of the clocks, and which runs match.
 //!
 //! Meets the definitions of a task's runs (`specs/Runs.antt`), of those of all tasks in both texts
-//! (`specs/Tasks.antt`), of matches (`specs/Pairs.antt`) and of the shift (`specs/Shift.antt`), with
-//! worked rows in `specs/Examples.antt`. To the crate above it promises that [`runs_of_tasks`] gives
-//! exactly these runs, that [`find_shift`] gives the shift under which most of them match, and that
-//! [`compare`] matches each run of the model with the first recorded run that fits.
+//! (`specs/Tasks.antt`), of matches (`specs/Pairs.antt`) and of the shift (`specs/Shift.antt`),
+//! with worked rows in `specs/Examples.antt`. To the crate above it promises that [`runs_of_tasks`]
+//! gives exactly these runs, that [`find_shift`] gives the shift under which most of them match,
+//! and that [`compare`] matches each run of the model with the first recorded run that fits.
 #![tactic(auto)]
 
 mod collecting;

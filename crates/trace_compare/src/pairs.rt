@@ -101,7 +101,8 @@ pub(crate) fn match_runs(
     requires recorded { All IsShort rs.now }
     requires model_turn { InTurn ms.now }
     requires recorded_turn { InTurn rs.now }
-    ensures partners { IfOk result (λ x. x.partners.items ≡ partners (fits within shift) ms.now rs.now) }
+    ensures partners { IfOk result (λ x. x.partners.items
+        ≡ partners (fits within shift) ms.now rs.now) }
     ensures left { IfOk result (λ x. x.left.items ≡ left_over (fits within shift) ms.now rs.now) }
     ensures sound { IfOk result IsSoundMatching }
 {

@@ -77,7 +77,8 @@ fn push_from(shifts: &mut Vec<u64>, start: u64, runs: &[Run]) -> Result<(), Allo
     requires runs { All IsShort runs.now }
     ensures shifts { OnOk result (shifts.new.items
         ≡ shifts.old.items ++ map (λ r. r.start + no_shift - start) runs.now) }
-    ensures small { All (λ s. s < 2 ^ 62) shifts.old.items → All (λ s. s < 2 ^ 62) shifts.new.items }
+    ensures small { All (λ s. s < 2 ^ 62) shifts.old.items
+        → All (λ s. s < 2 ^ 62) shifts.new.items }
 {
     for run in runs {
         shifts.push(shift_to(start, run))?;
@@ -89,7 +90,8 @@ fn push_from(shifts: &mut Vec<u64>, start: u64, runs: &[Run]) -> Result<(), Allo
 fn push_shifts(shifts: &mut Vec<u64>, task: &TaskRuns) -> Result<(), AllocError>
     requires { IsSound task.now }
     ensures shifts { OnOk result (shifts.new.items ≡ shifts.old.items ++ shifts_of task.now) }
-    ensures small { All (λ s. s < 2 ^ 62) shifts.old.items → All (λ s. s < 2 ^ 62) shifts.new.items }
+    ensures small { All (λ s. s < 2 ^ 62) shifts.old.items
+        → All (λ s. s < 2 ^ 62) shifts.new.items }
 {
     match task.model.as_slice().first() {
         None => Ok(()),
@@ -166,8 +168,8 @@ fn best_of(within: u64, share: usize, shifts: &[u64], tasks: &[TaskRuns]) -> u64
 }
 
 /// The shift of the recording's clock: of the differences between a recorded start and the model's
-/// first start of that task, for the first 50 recorded starts of each task, the one under which most
-/// of the model's first runs match; the smallest of equals. [`NO_SHIFT`] where there is none.
+/// first start of that task, for the first 50 recorded starts of each task, the one under which
+/// most of the model's first runs match; the smallest of equals. [`NO_SHIFT`] where there is none.
 ///
 /// # Errors
 /// Where a growth was refused.

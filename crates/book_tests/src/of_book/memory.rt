@@ -78,8 +78,8 @@ fn admit_all(
     gone
 }
 
-// Makes the admissions of ADMISSIONS in a book of three entries: whether the memory was gone at each,
-// and what the book ends with.
+// Makes the admissions of ADMISSIONS in a book of three entries: whether the memory was gone at
+// each, and what the book ends with.
 fn admitted_without_memory(
     rt: &impl Abort,
     alloc: Global,

@@ -12,8 +12,8 @@ use Rattle.call_book.specs.LimitAnswers.{AsksForLimit}
 use Rattle.call_book.specs.private.Ledger.{LedgerView}
 use Rattle.call_book.specs.private.Stock.{StockView}
 
--- a book as a contract sees it, of its CPUs and limit, its workers, the word that it left, its history
--- and its pieces
+-- a book as a contract sees it, of its CPUs and limit, its workers, the word that it left, its
+-- history and its pieces
 abbrev pub book_of : ℕ → ℕ → ℕ → Option ℕ → LedgerView → StockView → BookView
 book_of cpus limit workers left l s = record {
   gate = s.gate;

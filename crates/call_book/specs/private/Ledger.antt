@@ -23,8 +23,8 @@ pub record IsHistory (clients room : ℕ) (history : List Entry) : Type 0 where
   pub within : length history ≤ room
   pub short : room ≤ 65536
 
--- what a ledger keeps: its history, which is the spine's list, and the room for so many entries that
--- it was opened with, so it takes no more
+-- what a ledger keeps: its history, which is the spine's list, and the room for so many entries
+-- that it was opened with, so it takes no more
 pub record IsLedger (spine : SpineView Entry) (clients room : ℕ) (history : List Entry)
     (capacity : ℕ) : Type 0 where
   pub log : spine.log ≡ map keyed history

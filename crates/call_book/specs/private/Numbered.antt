@@ -11,7 +11,8 @@ use Rattle.call_book.specs.KeptCall.{call_of}
 abbrev pub entry_of : Numbered → Entry
 entry_of n = record { client = n.client; seq = n.seq; call = call_of n.kept; reply = None }
 
--- within a section: its next entry, or it is read to its end; where memory ran out, all is as before
+-- within a section: its next entry, or it is read to its end; where memory ran out, all is as
+-- before
 abbrev pub IsNextNumbered : List ℕ → List SectionView → SectionView → ReaderView
     → Result (Option Numbered) CallsFault → Type 0
 IsNextNumbered text before s r (Ok (Some n)) =

@@ -10,8 +10,8 @@ pub record StockView : Type 0 where
   pub tickets : List Held
   pub blanks : List BlankView
 
--- what a stock keeps: its pieces, nothing that goes home yet, and the room for 256 of each that it was
--- opened with, so it takes no more
+-- what a stock keeps: its pieces, nothing that goes home yet, and the room for 256 of each that it
+-- was opened with, so it takes no more
 pub record IsStock (gate : GateId) (domain : ℕ) (tickets : List Held) (blanks : List BlankView)
     (home : List TicketView) (held_room free_room home_room : ℕ) : Type 0 where
   pub pieces : ArePieces gate domain tickets blanks

@@ -65,7 +65,8 @@ impl Model for Domain {
 
     ghost view = { λ b. book_of b.cpus b.limit b.workers.count b.left b.ledger b.stock };
 
-    ghost invariant = { λ b. IsBook (book_of b.cpus b.limit b.workers.count b.left b.ledger b.stock) b.state };
+    ghost invariant = { λ b. IsBook
+        (book_of b.cpus b.limit b.workers.count b.left b.ledger b.stock) b.state };
 }
 
 /// What [`Domain::admit`] answers.
@@ -107,8 +108,8 @@ pub enum Limit {
         /// The blank, which last found the word that was left.
         blank: Blank,
     },
-    /// EBUSY 16: more bandwidth is in use than the CPUs times the new limit, by the domain's own sum
-    /// or by the gate's word. Neither has changed. The call stands in the history.
+    /// EBUSY 16: more bandwidth is in use than the CPUs times the new limit, by the domain's own
+    /// sum or by the gate's word. Neither has changed. The call stands in the history.
     Busy {
         /// The blank, as it was but for what it found.
         blank: Blank,
@@ -287,7 +288,8 @@ impl Domain {
     pub fn wake(&mut self, pass: &mut Pass, number: u32) -> Result<Reply, Full>
         requires pass { IsPassOf self.old pass.old }
         requires call { IsCall (Call.Wake number) }
-        ensures entered { IfOk result (EntersAlone self.old self.new pass.old pass.new (Call.Wake number)) }
+        ensures entered { IfOk result
+            (EntersAlone self.old self.new pass.old pass.new (Call.Wake number)) }
         ensures full { IfErr result (λ _. IsRefusedFull self.old self.new pass.old pass.new) }
     {
         if self.ledger.is_full() {
@@ -303,7 +305,8 @@ impl Domain {
     pub fn leave(&mut self, pass: &mut Pass, number: u32) -> Result<Reply, Full>
         requires pass { IsPassOf self.old pass.old }
         requires call { IsCall (Call.Leave number) }
-        ensures entered { IfOk result (EntersAlone self.old self.new pass.old pass.new (Call.Leave number)) }
+        ensures entered { IfOk result
+            (EntersAlone self.old self.new pass.old pass.new (Call.Leave number)) }
         ensures full { IfErr result (λ _. IsRefusedFull self.old self.new pass.old pass.new) }
     {
         if self.ledger.is_full() {
@@ -330,7 +333,8 @@ impl Domain {
         requires pass { IsPassOf self.old pass.old }
         requires gate { gate.now ≡ self.old.gate }
         requires call { IsCall (Call.Regrade number params None) }
-        ensures entered { IfOk result (IsRegraded self.old self.new pass.old pass.new number params) }
+        ensures entered { IfOk result
+            (IsRegraded self.old self.new pass.old pass.new number params) }
         ensures full { IfErr result (λ _. IsRefusedFull self.old self.new pass.old pass.new) }
     {
         if self.ledger.is_full() {
@@ -350,11 +354,11 @@ impl Domain {
     /// Changes what the domain may give away of each CPU, 10485 to 1048576 in 1/2^20, as
     /// [`State::set_limit`](domain_run::State::set_limit) does, in the gate's word too: it stands
     /// for a write to sched_rt_runtime_us (sched-deadline.rst, "System wide settings"). Tested in
-    /// this order: the history is full; the sum of bandwidths is above CPUs times the new limit, and
-    /// then the word is not asked; more than that is used of the word, which is asked by
+    /// this order: the history is full; the sum of bandwidths is above CPUs times the new limit,
+    /// and then the word is not asked; more than that is used of the word, which is asked by
     /// [`Gate::limit`](bw_gate::Gate::limit), again as long as other clients come between. Where it
-    /// is set, the word carries the new cap and the state has the new limit. The reply is entered, a
-    /// refusal too, and the blank comes back in each case. Takes no memory.
+    /// is set, the word carries the new cap and the state has the new limit. The reply is entered,
+    /// a refusal too, and the blank comes back in each case. Takes no memory.
     pub fn limit<R: Wait>(
         &mut self,
         rt: &R,
@@ -519,8 +523,8 @@ fn ask_word<R: Wait>(
     stock.regrade(rt, gate, number, params.bandwidth())
 }
 
-/// The blank asks the word for a limit where the domain's own test passes: the blank, and the number
-/// with which the word refused, where it did.
+/// The blank asks the word for a limit where the domain's own test passes: the blank, and the
+/// number with which the word refused, where it did.
 fn ask_limit<R: Wait>(
     rt: &R,
     gate: &Gate,

@@ -35,7 +35,8 @@ impl Model for Ledger {
       history = l.entries.items;
     } };
 
-    ghost invariant = { λ l. IsLedger l.spine l.clients l.room l.entries.items (vec_capacity l.entries) };
+    ghost invariant = { λ l. IsLedger l.spine l.clients l.room l.entries.items
+        (vec_capacity l.entries) };
 }
 
 impl Ledger {

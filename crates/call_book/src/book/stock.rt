@@ -47,7 +47,8 @@ impl Model for Stock {
       blanks = s.blanks.items;
     } };
 
-    ghost invariant = { λ s. IsStock s.gate s.domain s.held.items s.blanks.items s.home.items (vec_capacity s.held)
+    ghost invariant = { λ s. IsStock s.gate s.domain s.held.items s.blanks.items s.home.items
+        (vec_capacity s.held)
         (vec_capacity s.blanks) (vec_capacity s.home) };
 }
 
@@ -140,8 +141,8 @@ impl Stock {
         take_out(&mut self.held, number)
     }
 
-    /// The ticket of a task asks the gate for another bandwidth: what is used of the word with which
-    /// it refused, where it did.
+    /// The ticket of a task asks the gate for another bandwidth: what is used of the word with
+    /// which it refused, where it did.
     pub(crate) fn regrade<R: Wait>(
         &mut self,
         rt: &R,
@@ -154,7 +155,8 @@ impl Stock {
         requires held { list_any (is_held number) self.old.tickets ≡ true }
         ensures stock { self.new ≡ record self.old { tickets = self.new.tickets } }
         ensures asked { AsksTheWord number bw self.old.tickets self.new.tickets result }
-        ensures within { IfSome result (λ used. used ≤ cpus_of self.old.gate self.old.domain * 1048576) }
+        ensures within { IfSome result
+            (λ used. used ≤ cpus_of self.old.gate self.old.domain * 1048576) }
         ensures own { All (λ h. IsTicketOf self.old.gate self.old.domain h.ticket) self.old.tickets }
     {
         regrade_held(rt, gate, &mut self.held, number, bw)

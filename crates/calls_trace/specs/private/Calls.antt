@@ -49,8 +49,8 @@ ticks_given (Limit limit word) = 0
 ticks_given (Depart number) = 0
 ticks_given (Arrive number name params script) = 0
 
--- What is used of a call of a section while it is made, in a form that a ghost field may keep: a fact
--- that goes by cases, as `IsCall` of call_book does, it may not.
+-- What is used of a call of a section while it is made, in a form that a ghost field may keep: a
+-- fact that goes by cases, as `IsCall` of call_book does, it may not.
 pub record IsReady (c : Call) : Type 0 where
   pub numbered : IsNumber (number_given c)
   pub soon : delay_given c ≤ 1000000000

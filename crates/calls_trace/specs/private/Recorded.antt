@@ -29,8 +29,8 @@ abbrev pub HaveNames : List ℕ → (ℕ → List ℕ) → Type 0
 HaveNames used names =
     (n : ℕ) → IsAdmitted used n → (0 < length (names n)) × (length (names n) ≤ 15)
 
--- an admission or an arrival that was granted gives its number parameters, and so does a change that
--- was; an entry with any other reply, or with none, gives none
+-- an admission or an arrival that was granted gives its number parameters, and so does a change
+-- that was; an entry with any other reply, or with none, gives none
 abbrev pub params_where : Call → Option Reply → (ℕ → ParamsView) → (ℕ → ParamsView)
 params_where (Admit number name params delay script) (Some Admitted) given =
     with_params given number params

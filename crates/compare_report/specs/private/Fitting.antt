@@ -12,10 +12,13 @@ use Rattle.trace_compare.specs.declared.pairs.Matching.{Matching}
 pub record AreFitting (tasks : List TaskRuns) (matchings : List Matching) : Type 0 where
   pub as_many : length matchings ≡ length tasks
   pub each : (j : ℕ) (t : TaskRuns) (m : Matching) → j < length tasks
-      → length (slice_index_or matchings j m).partners.items ≡ length (slice_index_or tasks j t).model.items
+      → length (slice_index_or matchings j m).partners.items
+      ≡ length (slice_index_or tasks j t).model.items
 
 -- the text of what is told of these tasks
-pub record IsReportOfRuns (cpus : Bool) (names : List (List ℕ)) (tasks : List TaskRuns) (compared : Compared) (text : List ℕ) : Type 0 where
+pub record IsReportOfRuns (cpus : Bool) (names : List (List ℕ)) (tasks : List TaskRuns)
+    (compared : Compared) (text : List ℕ) : Type 0 where
   pub findings : List Finding
-  pub are_findings : AreFindings compared.shift (first_start tasks) (last_end tasks) names tasks compared.tasks.items (length tasks) findings
+  pub are_findings : AreFindings compared.shift (first_start tasks)
+      (last_end tasks) names tasks compared.tasks.items (length tasks) findings
   pub is_text : IsTextOf cpus compared.shift findings text

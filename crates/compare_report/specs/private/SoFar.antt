@@ -5,7 +5,8 @@ pub record IsLeast (starts : List (Option ℕ)) (i : ℕ) (found : ℕ × ℕ) :
   pub within : found.0 < i
   pub is : slice_index_or starts found.0 None ≡ Some found.1
   pub least : (k other : ℕ) → k < i → slice_index_or starts k None ≡ Some other → found.1 ≤ other
-  pub first : (k other : ℕ) → k < found.0 → slice_index_or starts k None ≡ Some other → found.1 < other
+  pub first : (k other : ℕ) → k < found.0 → slice_index_or starts k None ≡ Some other
+      → found.1 < other
 
 abbrev pub IsSoFar : List (Option ℕ) → ℕ → Option (ℕ × ℕ) → Type 0
 IsSoFar starts i None = (k : ℕ) → k < i → slice_index_or starts k None ≡ None

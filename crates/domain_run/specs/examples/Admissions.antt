@@ -90,7 +90,8 @@ regrade_by_the_word = refl
 -- THE LIMIT: not below what the tasks have; then it holds for admissions, up and down
 abbrev limits : List Call
 limits =
-    admit 1 (plain 2 8 8) short ∷ Limit 131072 None ∷ Limit 262144 None ∷ admit 2 (plain 2 8 8) short
+    admit 1 (plain 2 8 8) short ∷ Limit 131072 None ∷ Limit 262144 None
+    ∷ admit 2 (plain 2 8 8) short
     ∷ Limit 1048576 None ∷ admit 3 (plain 2 8 8) short ∷ []
 
 limit_replies : replies_to (opened 1 524288) limits
@@ -142,8 +143,8 @@ sleeper_zero_lag = refl
 sleeper_gone : zero_lag_in (run_of 1 1048576 (sleeper 2)) 1 ≡ None
 sleeper_gone = refl
 
--- A TASK MOVES: it runs when it departs at 1, and is off the list at once, and its bandwidth with it;
--- its number does not come back. Where it arrives, at 5, it begins anew: its deadline is 13
+-- A TASK MOVES: it runs when it departs at 1, and is off the list at once, and its bandwidth with
+-- it; its number does not come back. Where it arrives, at 5, it begins anew: its deadline is 13
 abbrev goer : List Call
 goer =
     admit 1 (plain 4 8 8) (forever (event.Run 2 ∷ event.Sleep 6 ∷ [])) ∷ Advance 1 ∷ Depart 1 ∷ []

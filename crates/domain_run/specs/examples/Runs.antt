@@ -127,10 +127,11 @@ carried_switches : (carried 25).switches
     ∷ switch 24 0 None Running (Some 1) ∷ []
 carried_switches = refl
 
--- THE LIMIT CHANGES THE RATE: 524288 a tick while the whole CPU may be given away, and 699051 from 4
--- on, where three quarters may; what was charged before stays charged
+-- THE LIMIT CHANGES THE RATE: 524288 a tick while the whole CPU may be given away, and 699051 from
+-- 4 on, where three quarters may; what was charged before stays charged
 abbrev slowed : List Call → Domain
-slowed more = run_of 1 1048576 (admit 1 (reclaiming 4 8 8) (once (Run 1000 ∷ [])) ∷ Advance 4 ∷ more)
+slowed more = run_of 1 1048576 (admit 1 (reclaiming 4 8 8) (once (Run 1000 ∷ [])) ∷ Advance 4
+    ∷ more)
 
 abbrev slower : ℕ → List Call
 slower n = Limit 786432 None ∷ Advance n ∷ []

@@ -1,5 +1,5 @@
--- Who starts on a CPU belongs to it, and the switches, by the CPUs that a choice gave to another one, for
--- the code's own contracts.
+-- Who starts on a CPU belongs to it, and the switches, by the CPUs that a choice gave to another
+-- one, for the code's own contracts.
 use Rattle.std.specs.Prelude.{ℕ, ◌<◌, ◌≡◌, List, fold, All, length, slice_index_or, Option, Some}
 use Rattle.grub_rules.specs.Accounts.{AccountsView, AreAccounts}
 use Rattle.edf_pick.specs.declared.moves.Moved.{Moved}
@@ -18,9 +18,10 @@ use Rattle.domain_run.specs.private.Waiting.{owed_all, AllWait}
 abbrev pub AreWithin : ℕ → List Moved → Type 0
 AreWithin cpus moves = All (λ m. m.cpu < cpus) moves
 
--- what is kept of the tasks beside the schedule: the sums are those of the list, and each seat has its
--- task's charges
-pub record AreCounted (accounts : AccountsView) (seats : SeatsView) (tasks : List Task) : Type 0 where
+-- what is kept of the tasks beside the schedule: the sums are those of the list, and each seat has
+-- its task's charges
+pub record AreCounted (accounts : AccountsView) (seats : SeatsView) (tasks : List Task)
+    : Type 0 where
   pub sums : AreAccounts accounts (shares (owed_all seats tasks))
   pub roster : IsRoster (owed_all seats tasks)
   pub waits : AllWait seats.seats tasks

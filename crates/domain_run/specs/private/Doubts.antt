@@ -43,21 +43,24 @@ AreSettled d cpus places seats tasks =
     (cpu : ℕ) → IsTrusted d cpus (occupant places cpu) seats tasks cpu
 
 -- so it is on each CPU but for those that a choice has given to another one
-abbrev pub AreSettledBut : List Moved → Doubts → ℕ → Places → List (Option Seat) → List Task → Type 0
+abbrev pub AreSettledBut : List Moved → Doubts → ℕ → Places → List (Option Seat) → List Task
+    → Type 0
 AreSettledBut moves d cpus places seats tasks =
     (cpu : ℕ) → All (λ m. m.cpu ≢ cpu) moves
     → IsTrusted d cpus (occupant places cpu) seats tasks cpu
 
 -- who was trusted on another CPU still is
-abbrev pub KeepsTrust : ℕ → ℕ → Doubts → List (Option Seat) → List Task → Doubts → List (Option Seat)
+abbrev pub KeepsTrust : ℕ → ℕ → Doubts → List (Option Seat) → List Task → Doubts
+    → List (Option Seat)
     → List Task → Type 0
 KeepsTrust cpus cpu old before was new after now =
     (i : ℕ) → (o : Option ℕ) → i ≢ cpu → IsTrusted old cpus o before was i
     → IsTrusted new cpus o after now i
 
--- marks have come, and none has gone; on a CPU without one the seat has not changed, nor the inactive
--- bandwidth, if the seat keeps what its rate was worked out from
-pub record IsMarked (rated old new : ℕ) (before after : List (Option Seat)) (was now : List Task) : Type 0 where
+-- marks have come, and none has gone; on a CPU without one the seat has not changed, nor the
+-- inactive bandwidth, if the seat keeps what its rate was worked out from
+pub record IsMarked (rated old new : ℕ) (before after : List (Option Seat)) (was now : List Task)
+    : Type 0 where
   pub bare : (cpu : ℕ) → bit_at new cpu ≡ 0 → bit_at old cpu ≡ 0
   pub seats : (cpu : ℕ) → cpu < 64 → bit_at new cpu ≡ 0
       → slice_index_or after cpu None ≡ slice_index_or before cpu None

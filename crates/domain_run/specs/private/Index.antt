@@ -2,8 +2,8 @@
 use Rattle.std.specs.Prelude.{ℕ, ◌<◌, ◌≡◌, ◌≢◌, List, length, All, slice_index_or}
 use Rattle.domain_run.specs.declared.task.Task.{Task}
 
--- what an index keeps: a place for each number, and the room that it was opened with, so it takes no
--- more
+-- what an index keeps: a place for each number, and the room that it was opened with, so it takes
+-- no more
 pub record IsIndex (noted : List ℕ) (capacity : ℕ) : Type 0 where
   pub all : length noted ≡ 65536
   pub room : capacity ≡ 65536

@@ -45,9 +45,9 @@ HasLeft place old new =
     ⊎ ((d : Task) → new.seats ≡ left_of (slice_index_or new.tasks place d)
     (left_of (slice_index_or old.tasks place d) old.seats))
 
--- what a roster keeps: its run queue counts its list, each seat has its task's charges, who stands on
--- a CPU that is not in doubt sits there rightly, there is a place for each CPU, and the room for 256
--- tasks that it was opened with, so it takes no more
+-- what a roster keeps: its run queue counts its list, each seat has its task's charges, who stands
+-- on a CPU that is not in doubt sits there rightly, there is a place for each CPU, and the room for
+-- 256 tasks that it was opened with, so it takes no more
 pub record IsKept (queue : RunQueue) (seats : SeatsView) (tasks : List Task) (capacity : ℕ)
     (doubts : Doubts) : Type 0 where
   pub counted : IsCounted (length queue.accounts.all) queue (owed_all seats tasks)

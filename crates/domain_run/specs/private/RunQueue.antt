@@ -23,7 +23,13 @@ ready_at t = if is_ready t.condition then Some (candidate_of t).deadline else No
 
 -- a task as the sums see it, and as the choice does, and when it is due
 abbrev pub standing_of : Task → Standing
-standing_of t = record { bw = (share_of t).bw; active = (share_of t).active; ready = ready_at t; due = due_of t }
+standing_of t = record {
+  bw = (share_of t).bw;
+  active =
+      (share_of t).active;
+  ready = ready_at t;
+  due = due_of t;
+}
 
 -- what the sums see of one that belongs to a CPU
 abbrev pub share_on : ℕ → Standing → Share
@@ -75,7 +81,8 @@ without_ready (Some c) queue = without_candidate c queue
 
 -- the task at a place of those that are counted, of a number, which belongs to a CPU, may turn from
 -- `before` to `after`
-pub record MayTurn (place number cpu : ℕ) (queue : RunQueue) (before after : Standing) : Type 0 where
+pub record MayTurn (place number cpu : ℕ) (queue : RunQueue) (before after : Standing)
+    : Type 0 where
   pub within : place < length queue.timers
   pub held : Holds queue.accounts (share_on cpu before)
   pub fits : queue.accounts.total - before.bw + after.bw < 2 ^ 64
@@ -86,8 +93,10 @@ pub record MayTurn (place number cpu : ℕ) (queue : RunQueue) (before after : S
   pub homed : IfSome (candidate_at number cpu after.ready) (λ c. IsAtHome queue.schedule.places c)
 
 -- it has
-pub record HasTurned (place number cpu : ℕ) (before after : Standing) (old new : RunQueue) : Type 0 where
-  pub sums : Exchanges old.accounts new.accounts (share_on cpu before ∷ []) (share_on cpu after ∷ [])
+pub record HasTurned (place number cpu : ℕ) (before after : Standing) (old new : RunQueue)
+    : Type 0 where
+  pub sums : Exchanges old.accounts new.accounts (share_on cpu before ∷ [])
+      (share_on cpu after ∷ [])
   pub order : ((before.ready ≡ after.ready) × (new.schedule.queue ≡ old.schedule.queue))
       ⊎ (new.schedule.queue ≡ with_ready (candidate_at number cpu after.ready)
       (without_ready (candidate_at number cpu before.ready) old.schedule.queue))
@@ -95,9 +104,10 @@ pub record HasTurned (place number cpu : ℕ) (before after : Standing) (old new
   pub due : ((before.due ≡ after.due) × (new.timers ≡ old.timers))
       ⊎ (new.timers ≡ slice_set old.timers place after.due)
 
--- what a state keeps: a domain, whose CPUs its roster has too, who stands on its CPUs, where that is
--- listed, and for that list the room for so many that it was opened with, so it takes no more. Its
--- switches have the room of one event's at least, so where none waits there is room for an event
+-- what a state keeps: a domain, whose CPUs its roster has too, who stands on its CPUs, where that
+-- is listed, and for that list the room for so many that it was opened with, so it takes no more.
+-- Its switches have the room of one event's at least, so where none waits there is room for an
+-- event
 pub record IsState (d : Domain) (cpus : ℕ) (is_listed : Bool) (running : List ℕ)
     (running_capacity switch_capacity : ℕ) : Type 0 where
   pub domain : IsDomain d

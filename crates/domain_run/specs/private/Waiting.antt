@@ -48,8 +48,8 @@ abbrev pub IsRatedBy : Option Basis → ℕ → Task → Type 0
 IsRatedBy None rate t = (b : Basis) → rate ≡ rate_by b t
 IsRatedBy (Some b) rate t = rate ≡ rate_by b t
 
--- a seat's task: it is ready, the seat has its rate, and neither its work nor its budget ends before
--- the seat does
+-- a seat's task: it is ready, the seat has its rate, and neither its work nor its budget ends
+-- before the seat does
 pub record Waits (s : Seat) (t : Task) : Type 0 where
   pub ready : IsTrue (is_ready t.condition)
   pub worked : s.end - s.since ≤ t.work

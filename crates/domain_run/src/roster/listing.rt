@@ -110,7 +110,8 @@ pub(super) fn drop_left(tasks: &mut Vec<Task>, queue: &mut RunQueue, index: &mut
     true
 }
 
-// Tasks that have left go off the list. Those before the first that is due at once stay as they are.
+// Tasks that have left go off the list. Those before the first that is due at once stay as they
+// are.
 #[inline(never)]
 fn drop_due(tasks: &mut Vec<Task>, queue: &mut RunQueue, index: &mut Index)
     requires { IsCounted (length queue.old.accounts.all) queue.old tasks.old.items }

@@ -34,8 +34,10 @@ impl Roster {
     /// The place of the task of a number, where it is listed and belongs to a CPU.
     fn place_on(&self, number: u32, cpu: usize) -> Option<usize>
         ensures there { IfSome result (IsAt self.now.tasks number) }
-        ensures home { IfSome result (λ place. (d : Task) → (slice_index_or self.now.tasks place d).cpu ≡ cpu) }
-        ensures absent { IfNone result (All (λ t. t.number ≡ number → t.cpu ≡ cpu → ⊥) self.now.tasks) }
+        ensures home { IfSome result
+            (λ place. (d : Task) → (slice_index_or self.now.tasks place d).cpu ≡ cpu) }
+        ensures absent { IfNone result
+            (All (λ t. t.number ≡ number → t.cpu ≡ cpu → ⊥) self.now.tasks) }
     {
         let Some(place) = self.place(number) else {
             return None;
@@ -65,7 +67,8 @@ impl Roster {
         requires there { cpu < self.old.cpus }
         requires some { 0 < ticks }
         requires early { time < 2 ^ 43 }
-        requires ends { IfSome (slice_index_or self.old.seats cpu None) (λ s. self.old.clock + ticks ≤ s.end) }
+        requires ends { IfSome (slice_index_or self.old.seats cpu None)
+            (λ s. self.old.clock + ticks ≤ s.end) }
         requires sound { All (IsSound time) self.old.tasks }
         ensures cpus { self.new.cpus ≡ self.old.cpus }
         ensures places { self.new.places ≡ self.old.places }
@@ -95,11 +98,13 @@ impl Roster {
         requires some { 0 < ticks }
         requires early { time < 2 ^ 43 }
         requires clock { self.old.clock + ticks ≤ 2 ^ 62 }
-        requires ends { (cpu : ℕ) → IfSome (slice_index_or self.old.seats cpu None) (λ s. self.old.clock + ticks ≤ s.end) }
+        requires ends { (cpu : ℕ) → IfSome (slice_index_or self.old.seats cpu None)
+            (λ s. self.old.clock + ticks ≤ s.end) }
         requires sound { All (IsSound time) self.old.tasks }
         ensures cpus { self.new.cpus ≡ self.old.cpus }
         ensures places { self.new.places ≡ self.old.places }
-        ensures tasks { self.new.tasks ≡ map (spec.passed time ticks self.old.seats) self.old.tasks }
+        ensures tasks { self.new.tasks
+            ≡ map (spec.passed time ticks self.old.seats) self.old.tasks }
         ensures sound { All (IsSound time) self.new.tasks }
     {
         let end = self.seats.upto() + ticks;

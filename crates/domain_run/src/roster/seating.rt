@@ -223,12 +223,13 @@ impl Roster {
         }
     }
 
-    /// Whether the task of a number sits on a CPU at its rate, and nobody else does, by what the rate
-    /// was worked out from.
+    /// Whether the task of a number sits on a CPU at its rate, and nobody else does, by what the
+    /// rate was worked out from.
     #[inline(always)]
     fn sits_rightly(&self, cpu: usize, number: u32, limit: u64) -> bool
         requires there { cpu < self.now.cpus }
-        ensures { IsTrue result → IsSettled (Some number) (basis_in self.now.cpus limit self.now.tasks cpu)
+        ensures { IsTrue result → IsSettled (Some number)
+            (basis_in self.now.cpus limit self.now.tasks cpu)
             (slice_index_or self.now.seats cpu None) }
     {
         match self.seats.basis_of(cpu, number) {
@@ -241,7 +242,8 @@ impl Roster {
     #[inline(always)]
     fn is_right(&self, cpu: usize, occupant: Option<u32>, limit: u64) -> bool
         requires there { cpu < self.now.cpus }
-        ensures { IsTrue result → IsSettled occupant (basis_in self.now.cpus limit self.now.tasks cpu)
+        ensures { IsTrue result → IsSettled occupant
+            (basis_in self.now.cpus limit self.now.tasks cpu)
             (slice_index_or self.now.seats cpu None) }
     {
         match occupant {
@@ -250,8 +252,8 @@ impl Roster {
         }
     }
 
-    /// Marks of the CPUs that are in doubt: on each other one who stands there, if anyone does, sits
-    /// there at its rate, and nobody else does.
+    /// Marks of the CPUs that are in doubt: on each other one who stands there, if anyone does,
+    /// sits there at its rate, and nobody else does.
     #[inline(always)]
     pub(crate) fn doubtful(&mut self, limit: u64) -> u64
         requires few { self.old.cpus ≤ 64 }
@@ -264,8 +266,8 @@ impl Roster {
         self.doubts.cpus
     }
 
-    /// A CPU, where who stands sits rightly, is in doubt no more. Where the rate can change that is so
-    /// only if what it was looked at for is noted.
+    /// A CPU, where who stands sits rightly, is in doubt no more. Where the rate can change that is
+    /// so only if what it was looked at for is noted.
     #[inline(always)]
     fn trust(&mut self, cpu: usize, limit: u64)
         requires there { cpu < self.old.cpus }

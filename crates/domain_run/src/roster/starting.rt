@@ -217,7 +217,8 @@ fn seat_next(
         ≡ map (homed_here occupant cpu) (waiting.owed_all seats.old tasks.old.items) }
     ensures clock { seats.new.upto ≡ seats.old.upto }
     ensures seats { length seats.new.seats ≡ length seats.old.seats }
-    ensures here { doubts_spec.IsTrusted doubts.new (length accounts.old.all) occupant seats.new.seats
+    ensures here { doubts_spec.IsTrusted doubts.new
+        (length accounts.old.all) occupant seats.new.seats
         (waiting.owed_all seats.new tasks.new.items) cpu }
     ensures trust { doubts_spec.KeepsTrust (length accounts.old.all) cpu doubts.old seats.old.seats
         (waiting.owed_all seats.old tasks.old.items) doubts.new seats.new.seats

@@ -1,5 +1,5 @@
-//! A change of one listed task, of which the run queue is told. Before it changes it is charged what
-//! it owes, and leaves its seat.
+//! A change of one listed task, of which the run queue is told. Before it changes it is charged
+//! what it owes, and leaves its seat.
 
 ghost use Rattle.std.specs.Prelude.{◌≡◌, ◌<◌, ◌≤◌, All, IfSome, None, Some, is_some, length, slice_index_or, vec_capacity};
 ghost use Rattle.domain_run.specs.declared.task.Task.{Task};
@@ -28,8 +28,8 @@ pub(super) fn charge(task: &mut Task, seat: Seat, upto: u64)
     task.work -= ticks;
 }
 
-/// A task is charged what it owes, and leaves its seat. One that is not ready sits nowhere. Whether it
-/// sat.
+/// A task is charged what it owes, and leaves its seat. One that is not ready sits nowhere. Whether
+/// it sat.
 #[inline(always)]
 pub(super) fn settle(task: &mut Task, seats: &mut Seats) -> bool
     requires { waiting.WaitsIf seats.old.seats task.old }
@@ -88,8 +88,8 @@ pub(super) fn leave_other(seats: &mut Seats, left: usize, cpu: usize, number: u3
     }
 }
 
-/// Makes a change of a task as it is once it is charged. It belongs to its CPU still, and has no seat
-/// there then. Whether it had one.
+/// Makes a change of a task as it is once it is charged. It belongs to its CPU still, and has no
+/// seat there then. Whether it had one.
 #[inline(always)]
 fn turn_one(
     task: &mut Task,

@@ -201,8 +201,8 @@ impl State {
 
     /// Takes a task off the list, for another domain: at once, and its bandwidth and its zero-lag
     /// time with it. [`Reply::NotListed`] where no task of this number is listed, or it has ended;
-    /// else [`Reply::Departed`]. Its number is not admitted here again. Where it refuses, nothing has
-    /// changed. Takes no memory.
+    /// else [`Reply::Departed`]. Its number is not admitted here again. Where it refuses, nothing
+    /// has changed. Takes no memory.
     pub fn depart(&mut self, number: u32) -> Reply
         ensures reply { result ≡ calls.reply_to self.old (Call.Depart number) }
         ensures domain { self.new ≡ calls.after_call self.old (Call.Depart number) }

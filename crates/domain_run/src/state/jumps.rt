@@ -15,10 +15,10 @@ use crate::sweep;
 use no_memory::NoMemory;
 
 impl State {
-    /// As [`State::begin_told`], in the room that is there: whether there was any for a switch of each
-    /// CPU beside those so far. Where there is none, nothing has changed, and nothing is told. There is
-    /// where no switch waits. Who stands on the CPUs is not listed where that has changed. Takes no
-    /// memory.
+    /// As [`State::begin_told`], in the room that is there: whether there was any for a switch of
+    /// each CPU beside those so far. Where there is none, nothing has changed, and nothing is told.
+    /// There is where no switch waits. Who stands on the CPUs is not listed where that has changed.
+    /// Takes no memory.
     #[inline(always)]
     pub(super) fn begin_in_room(&mut self, log: &mut Log) -> bool
         requires early { self.old.time < 2 ^ 42 }
@@ -71,10 +71,10 @@ impl State {
         self.is_listed = true;
     }
 
-    /// As [`State::begin`], and the log is told what that tells: replenishments, releases, and wakes
-    /// without budget, each on the CPU to which its task belongs once all are placed, in the order of
-    /// "Happened". Room for it, and for what the tick's end will tell, is made first: on `Err`
-    /// nothing has changed, and nothing is told.
+    /// As [`State::begin`], and the log is told what that tells: replenishments, releases, and
+    /// wakes without budget, each on the CPU to which its task belongs once all are placed, in the
+    /// order of "Happened". Room for it, and for what the tick's end will tell, is made first: on
+    /// `Err` nothing has changed, and nothing is told.
     pub fn begin_told(&mut self, log: &mut Log) -> Result<(), NoMemory>
         requires { self.old.time < 2 ^ 42 }
         ensures ok { OnOk result (self.new ≡ jump.under_way self.old) }
@@ -112,7 +112,8 @@ impl State {
     pub fn running(&self, i: usize) -> Option<Running>
         requires { jump.IsUnderWay self.now }
         ensures running { result ≡ jump.running self.now i }
-        ensures there { IsTrue (is_some result) ↔ (i < length (jump.running_numbers self.now.curr)) }
+        ensures there { IsTrue (is_some result) ↔
+            (i < length (jump.running_numbers self.now.curr)) }
         ensures few { length (jump.running_numbers self.now.curr) ≤ 64 }
         ensures some { IfSome result (λ r. 0 < r.work) }
         ensures lifted { IfSome result (λ r. pos 0 <ℤ r.left) }
@@ -161,7 +162,8 @@ impl State {
         requires early { self.old.time + ticks ≤ 2 ^ 42 + 1 }
         requires charged { jump.AreCharged self.old ticks budgets.now }
         requires room { HasRoomToEnd log.old }
-        ensures domain { (d : Domain) → self.old ≡ jump.under_way d → self.new ≡ tick.ticks ticks d }
+        ensures domain { (d : Domain) → self.old ≡ jump.under_way d
+            → self.new ≡ tick.ticks ticks d }
         ensures told { (d : Domain) → self.old ≡ jump.under_way d
             → Tells log.old (told_by_last_end ticks d) log.new }
         ensures quiet { (d : Domain) → self.old ≡ jump.under_way d

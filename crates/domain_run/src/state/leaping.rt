@@ -23,17 +23,18 @@ impl State {
         requires early { self.old.time + most ≤ 2 ^ 42 + 1 }
         ensures some { 0 < result }
         ensures most { result ≤ most }
-        ensures domain { (d : Domain) → self.old ≡ jump.under_way d → self.new ≡ tick.ticks result d }
+        ensures domain { (d : Domain) → self.old ≡ jump.under_way d
+            → self.new ≡ tick.ticks result d }
     {
         let ticks = to_event::leap(&mut self.roster, self.limit, most, self.time);
         self.time += ticks - 1;
         ticks
     }
 
-    /// Begins a tick in the room that is there, of which no log is told: whether there was any for a
-    /// switch of each CPU beside those so far. Where there is none, nothing has changed. There is where
-    /// no switch waits. Who starts on a CPU sits there at once, and who stands on the CPUs is not listed
-    /// where that has changed. Takes no memory.
+    /// Begins a tick in the room that is there, of which no log is told: whether there was any for
+    /// a switch of each CPU beside those so far. Where there is none, nothing has changed. There is
+    /// where no switch waits. Who starts on a CPU sits there at once, and who stands on the CPUs is
+    /// not listed where that has changed. Takes no memory.
     #[inline(always)]
     fn begin_seated(&mut self) -> bool
         requires { self.old.time < 2 ^ 42 }
@@ -95,10 +96,10 @@ impl State {
 
     /// Goes on to the next event, by at most so many ticks, and answers how many they were: the
     /// state and its switches are exactly those of so many single ticks. A running task is charged
-    /// only once its work or its budget ends, or its rate changes; what callers see is as if it were
-    /// charged in each tick. Tasks that have left may go off the list; nobody comes, and the others
-    /// keep number, bandwidth and order. Room for the switches is made first: on `Err` nothing has
-    /// changed.
+    /// only once its work or its budget ends, or its rate changes; what callers see is as if it
+    /// were charged in each tick. Tasks that have left may go off the list; nobody comes, and the
+    /// others keep number, bandwidth and order. Room for the switches is made first: on `Err`
+    /// nothing has changed.
     pub fn leap(&mut self, most: u64) -> Result<u64, NoMemory>
         requires some { 0 < most }
         requires early { self.old.time + most ≤ 2 ^ 42 }

@@ -1,5 +1,5 @@
-//! What a state lends of a listed task: its name, its script and its number, and what it takes along
-//! to another domain.
+//! What a state lends of a listed task: its name, its script and its number, and what it takes
+//! along to another domain.
 
 ghost use Rattle.std.specs.Prelude.{◌≡◌, ◌≢◌, ◌<◌, All, AllPairs, IfOk, IfSome, option_map};
 ghost use Rattle.std.specs.Option.{option_copied};

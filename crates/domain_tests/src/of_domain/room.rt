@@ -47,8 +47,8 @@ fn calls_take_no_memory(rt: HostRuntime) -> Result<(), Fail> {
     Ok(())
 }
 
-/// A domain of three CPUs is opened with room for a switch of each. A tick of an empty one finds it,
-/// and takes no more.
+/// A domain of three CPUs is opened with room for a switch of each. A tick of an empty one finds
+/// it, and takes no more.
 #[test]
 fn a_tick_takes_room_for_its_switches_alone(rt: HostRuntime) -> Result<(), Fail> {
     let mut states = admitted(rt.alloc(), 3, &[])?;

@@ -165,8 +165,8 @@ fn pieces_of_each_step(rt: HostRuntime) -> Result<(), Fail> {
 }
 
 /// An empty domain has room for the switches of a tick. With the growth after its opening refused
-/// (`rt try --test --fail-alloc 18`) this fails at its assertion, since that growth is the one behind:
-/// neither a tick nor one worker asked for any.
+/// (`rt try --test --fail-alloc 18`) this fails at its assertion, since that growth is the one
+/// behind: neither a tick nor one worker asked for any.
 #[test]
 fn one_worker_takes_no_memory(rt: HostRuntime) -> Result<(), Fail> {
     let mut states = admitted(rt.alloc(), 1, &[])?;

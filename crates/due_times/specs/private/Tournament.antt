@@ -1,6 +1,6 @@
--- A tournament of times, for the code's own contracts: each inner node is the least of the four below
--- it, and the leaves are the second half. So the nodes of a level are 4, 16, 64 or 256, behind as many
--- that it has no use for.
+-- A tournament of times, for the code's own contracts: each inner node is the least of the four
+-- below it, and the leaves are the second half. So the nodes of a level are 4, 16, 64 or 256,
+-- behind as many that it has no use for.
 use Rattle.std.specs.Prelude.{ℕ, ◌+◌, ◌*◌, ◌/◌, ◌<◌, ◌≤◌, ◌≡◌, ◌≢◌, min, List, length, drop, slice_index_or}
 use Rattle.due_times.specs.Timers.{IsSize}
 

@@ -1,5 +1,5 @@
--- The choice, while those who wait are looked at one after another: some stay where they stand, some
--- have been chosen and stand nowhere, and the others wait.
+-- The choice, while those who wait are looked at one after another: some stay where they stand,
+-- some have been chosen and stand nowhere, and the others wait.
 use Rattle.std.specs.Prelude.{ℕ, ◌≡◌, ◌≢◌, ◌≤◌, ◌+◌, ◌*◌, ◌^◌, ◌⊎◌, ◌++◌, true, false, if◌then◌else◌, List, [], ◌∷◌, length, slice_set, All, AllPairs, Option, Some}
 use Rattle.std.specs.List.{sum_by}
 use Rattle.edf_pick.specs.declared.candidate.Candidate.{Candidate}
@@ -20,7 +20,8 @@ chosen_movers places c movers = if is_home places c then movers else movers ++ c
 
 -- the movers rise, stand nowhere and are before all who wait; there are no more chosen tasks than
 -- CPUs
-pub record IsChoosing (stays : List (Option Candidate)) (movers waiting : List Candidate) (places : Places) : Type 0 where
+pub record IsChoosing (stays : List (Option Candidate)) (movers waiting : List Candidate)
+    (places : Places) : Type 0 where
   pub len : length stays ≡ length places
   pub numbered : AllPairs (λ a b. a.number ≢ b.number) (held stays ++ (movers ++ waiting))
   pub on : AreOn stays places
@@ -41,7 +42,8 @@ abbrev pub AreBefore : List Candidate → List Candidate → Type 0
 AreBefore chosen waiting = All (λ a. All (λ b. is_before a b ≡ true) waiting) chosen
 
 -- the choice is made
-pub record IsChosen (stays : List (Option Candidate)) (movers waiting : List Candidate) (places : Places) : Type 0 where
+pub record IsChosen (stays : List (Option Candidate)) (movers waiting : List Candidate)
+    (places : Places) : Type 0 where
   pub choosing : IsChoosing stays movers waiting places
   pub all : AreAll stays movers waiting places
   pub first : AreBefore (held stays) waiting

@@ -39,8 +39,8 @@ marked mark [] = []
 marked mark (c ∷ chosen) =
     if mark 0 == 1 then c ∷ marked (λ i. mark (suc i)) chosen else marked (λ i. mark (suc i)) chosen
 
--- marked are the CPUs from which somebody goes, and no CPU where a chosen task is at home; who stands
--- on a marked CPU stays only as a mover
+-- marked are the CPUs from which somebody goes, and no CPU where a chosen task is at home; who
+-- stands on a marked CPU stays only as a mover
 pub record AreLeaving (chosen : List Candidate) (places : Places) (movers marks : ℕ) : Type 0 where
   pub within : (cpu : ℕ) → bit_at marks cpu ≡ 1 → cpu < length places
   pub only : (cpu : ℕ) → bit_at marks cpu ≡ 1

@@ -7,7 +7,8 @@ use Rattle.edf_pick.specs.Choice.{is_before}
 pub record IsSearched (c : Candidate) (queue : List Candidate) (place width : ℕ) : Type 0 where
   pub bound : place + width ≤ length queue
   pub below : (k : ℕ) (d : Candidate) → k < place → is_before (slice_index_or queue k d) c ≡ true
-  pub above : (k : ℕ) (d : Candidate) → place + width ≤ k → k < length queue → is_before (slice_index_or queue k d) c ≡ false
+  pub above : (k : ℕ) (d : Candidate) → place + width ≤ k → k < length queue
+      → is_before (slice_index_or queue k d) c ≡ false
 
 -- one for the task at a place that is before c, none for another
 pub record IsOneBefore (c : Candidate) (queue : List Candidate) (place n : ℕ) : Type 0 where

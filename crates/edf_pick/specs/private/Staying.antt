@@ -25,7 +25,8 @@ pub record IsLatest (keys : List Candidate) (from to : ℕ) (c : Candidate) : Ty
 
 -- who stays on a CPU belongs to it; the latest of each eight is known, or the eight are marked; and
 -- no key is behind the top
-pub record IsStaying (cpus busy marks : ℕ) (keys most : List Candidate) (unknown : ℕ) (top : Candidate) : Type 0 where
+pub record IsStaying (cpus busy marks : ℕ) (keys most : List Candidate) (unknown : ℕ)
+    (top : Candidate) : Type 0 where
   pub few : cpus ≤ 64
   pub full : length keys ≡ 64
   pub eight : length most ≡ 8

@@ -37,7 +37,8 @@ AreOn stays places = (cpu : ℕ) (c : Candidate) → slice_index_or stays cpu No
 
 -- as many CPUs as places, no two tasks have one number, who stays stands at home, and who waits and
 -- stands does so at home
-pub record IsWaiting (stays : List (Option Candidate)) (waiting : List Candidate) (places : Places) : Type 0 where
+pub record IsWaiting (stays : List (Option Candidate)) (waiting : List Candidate) (places : Places)
+    : Type 0 where
   pub len : length stays ≡ length places
   pub numbered : AllPairs (λ a b. a.number ≢ b.number) (held stays ++ waiting)
   pub on : AreOn stays places
@@ -57,9 +58,10 @@ abbrev pub is_there : Candidate → Option Candidate → Bool
 is_there c None = false
 is_there c (Some d) = is_same d c
 
--- the task of the deadline and the number of c is there no more, and it is known whether it was; who
--- stays and who waits is at home as before
-pub record HasLeft (c : Candidate) (stays : List (Option Candidate)) (waiting : List Candidate) (now : List (Option Candidate)) (rest : List Candidate) (was : Bool) : Type 0 where
+-- the task of the deadline and the number of c is there no more, and it is known whether it was;
+-- who stays and who waits is at home as before
+pub record HasLeft (c : Candidate) (stays : List (Option Candidate)) (waiting : List Candidate)
+    (now : List (Option Candidate)) (rest : List Candidate) (was : Bool) : Type 0 where
   pub all : all_of now rest ≡ without_candidate c (all_of stays waiting)
   pub there : was ≡ has_candidate c (all_of stays waiting)
   pub is : (places : Places) → IsWaiting stays waiting places → IsWaiting now rest places

@@ -50,7 +50,8 @@ has_text slots others ks key =
     or_beside (finds (window (mark_of key) slots) ks (mark_of key) key) (contains_text others key)
 
 -- the table of these keys, and of no others
-pub record Table (slots : List Slot) (others : BTreeSet (String Global)) (ks : List (List ℕ)) : Type 0 where
+pub record Table (slots : List Slot) (others : BTreeSet (String Global)) (ks : List (List ℕ))
+    : Type 0 where
   pub wide : 8 < length slots
   pub numbers : All (λ s. s.number ≤ length ks) slots
   pub beside : (key : List ℕ) → contains_text others key ≡ true → has_key ks key ≡ true

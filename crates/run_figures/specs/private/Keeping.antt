@@ -20,7 +20,8 @@ view_of h tasks = record {
 }
 
 -- its tables are what the definitions make of all that was heard
-pub record IsKept (a : AccountingView) (ts : List Told) (rs : List Ran) (cs : List Cpu) : Type 0 where
+pub record IsKept (a : AccountingView) (ts : List Told) (rs : List Ran) (cs : List Cpu)
+    : Type 0 where
   pub told : ts ≡ map (told_by a.time a.happened a.switches) a.tasks
   pub within : All (IsWithin (length a.happened)) ts
   pub ran : rs ≡ map (ran_by a.time a.switches) a.tasks

@@ -121,9 +121,10 @@ with_preemption s t =
 
 -- what happened up to a place, and the switches up to a place
 abbrev pub so_far : ℕ → List Happened → List Switch → ℕ → ℕ → ℕ → Told
-so_far time happened switches j k number = record (told_all time (take j happened) (untold number)) {
-  preempted = count_by (preempts happened number) (take k switches);
-}
+so_far time happened switches j k number = record
+    (told_all time (take j happened) (untold number)) {
+      preempted = count_by (preempts happened number) (take k switches);
+    }
 
 -- all that happened, and all switches
 abbrev pub told_by : ℕ → List Happened → List Switch → ℕ → Told

@@ -36,8 +36,8 @@ pub record AreOfOne (id : SessionId) (passes : List (PassView Entry)) : Type 0 w
   pub each : (d : ℕ) (x : PassView Entry) → d < length passes
       → IsPassAt id client d (slice_index_or passes d x)
 
--- nothing can be prepared: in a state of the domain no such task may depart, or one may, and there was
--- no memory
+-- nothing can be prepared: in a state of the domain no such task may depart, or one may, and there
+-- was no memory
 abbrev pub IsUnpreparedAt : SessionId → ℕ → ℕ → MoveFault → Type 0
 IsUnpreparedAt id d number faults.NotListed = WouldReply id d (Depart number) replies.NotListed
 IsUnpreparedAt id d number faults.Memory = WouldReply id d (Depart number) replies.Departed

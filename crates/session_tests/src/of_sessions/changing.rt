@@ -12,8 +12,8 @@ use std::sync::atomic::AtomicUsize;
 use std::test::Fail;
 use std::thread::{Threads, map_vec};
 
-// A client's calls of one round: the ninth changes the limit four times; each other admits a task of
-// half a CPU, regrades it to a quarter and lets it leave.
+// A client's calls of one round: the ninth changes the limit four times; each other admits a task
+// of half a CPU, regrades it to a quarter and lets it leave.
 fn round_of(alloc: Global, client: u32, round: u32) -> Option<String> {
     if client == 9 {
         return String::from_str(

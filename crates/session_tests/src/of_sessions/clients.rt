@@ -175,13 +175,13 @@ const RACE: &[u8] =
     b"dlcalls 1\ndomain 2 996147\nadmit 1 1 t 500 1000 1000 - 0 -1:1{r100,s900}\nadmit 1 2 t 500 1000 1000 - 0 -1:1{r100,s900}\nadmit 1 3 t 500 1000 1000 - 0 -1:1{r100,s900}\nadmit 1 4 t 500 1000 1000 - 0 -1:1{r100,s900}\nadmit 1 5 t 500 1000 1000 - 0 -1:1{r100,s900}\nadmit 1 6 t 500 1000 1000 - 0 -1:1{r100,s900}\nadmit 1 7 t 500 1000 1000 - 0 -1:1{r100,s900}\nadmit 1 8 t 500 1000 1000 - 0 -1:1{r100,s900}\n";
 
 // waiting: a refused wake is entered too. most_ticks_of_a_call: all ticks of a call are made, up to
-// the most that one may ask for. regrade: the word goes with the book. limit_calls: the limit is not
-// set below what the task has; then it holds for admissions, down and up. limit_in_a_full_book: a
-// book that is full changes no limit. full_book. number_twice: a number is admitted once, and that
-// the book is full is found first. admission_race: the others are refused by the word alone.
-// full_domain_and_no_bandwidth: 2 of 100 is refused at the word and stands nowhere, and 2 us of 4 s,
-// which is no bandwidth, is admitted still. refused_then_given_back: two thirds of a CPU leave no
-// room for as much again, until the task has left and its bandwidth is back.
+// the most that one may ask for. regrade: the word goes with the book. limit_calls: the limit is
+// not set below what the task has; then it holds for admissions, down and up. limit_in_a_full_book:
+// a book that is full changes no limit. full_book. number_twice: a number is admitted once, and
+// that the book is full is found first. admission_race: the others are refused by the word alone.
+// full_domain_and_no_bandwidth: 2 of 100 is refused at the word and stands nowhere, and 2 us of 4
+// s, which is no bandwidth, is admitted still. refused_then_given_back: two thirds of a CPU leave
+// no room for as much again, until the task has left and its bandwidth is back.
 const ROWS: [Row; 11] = [
     (
         1024,

@@ -144,7 +144,8 @@ fn trace_in_slices(rt: HostRuntime) -> Result<(), Fail> {
     Ok(())
 }
 
-// A writer that fails while the run is made: exactly so many bytes went out, the front of the trace.
+// A writer that fails while the run is made: exactly so many bytes went out, the front of the
+// trace.
 #[test]
 fn writer_fails_between_slices(rt: HostRuntime) -> Result<(), Fail> {
     let never = (usize::MAX, usize::MAX);

@@ -1,5 +1,5 @@
--- What happens and switches at once: what is left of both, and which comes next. The events text knows
--- nothing of these words.
+-- What happens and switches at once: what is left of both, and which comes next. The events text
+-- knows nothing of these words.
 use Rattle.std.specs.Prelude.{ℕ, ◌≡◌, ◌+◌, ◌*◌, ◌<◌, ◌≤◌, ◌^◌, IsTrue, Bool, not, ◌||◌, nat_lt, if◌then◌else◌, List, [], ◌++◌, length, map, slice_index, Option, Some, None}
 use Rattle.switch_text.specs.declared.run.Run.{Run}
 use Rattle.switch_text.specs.declared.told.Told.{Told}
@@ -28,11 +28,13 @@ of_entry e = record { time = e.time; rank = 7; cpu = e.cpu; number = 0; line = e
 
 -- what happens, and then the switches, of each domain from its places on
 abbrev pub left_events : List Run → List Told → EventPlaces → List Event
-left_events runs told p = left_told (told_views told) p.told ++ map of_entry (left_of (views runs) p.switches)
+left_events runs told p = left_told (told_views told) p.told
+    ++ map of_entry (left_of (views runs) p.switches)
 
 -- how much is left, cuts too
 abbrev pub count_events : List Run → List Told → EventPlaces → ℕ
-count_events runs told p = count_left (told_views told) p.told + length (left_of (views runs) p.switches)
+count_events runs told p = count_left (told_views told) p.told + length
+    (left_of (views runs) p.switches)
 
 -- the places behind the next
 abbrev pub after_next : EventPlaces → NextEvent → EventPlaces
@@ -52,7 +54,8 @@ abbrev pub first_of : Option NextTold → Option Next → Option NextEvent
 first_of None None = None
 first_of None (Some s) = Some (NextEvent.Switch s)
 first_of (Some n) None = Some (NextEvent.Told n)
-first_of (Some n) (Some s) = if goes_first n s then Some (NextEvent.Told n) else Some (NextEvent.Switch s)
+first_of (Some n) (Some s) = if goes_first n s then Some (NextEvent.Told n)
+    else Some (NextEvent.Switch s)
 
 -- the line goes first, and then the lines of what is left behind it
 pub record IsStep (before after : List Event) (line : List ℕ) : Type 0 where
@@ -69,8 +72,10 @@ abbrev pub CanShow : List Run → NextEvent → Type 0
 CanShow runs (NextEvent.Told n) = IsTrue (is_shown n.happened.now) → IsShown n
 CanShow runs (NextEvent.Switch n) = IsPrinted n × IsRunAt runs n
 
-pub record IsNextEvent (runs : List Run) (told : List Told) (p : EventPlaces) (n : NextEvent) : Type 0 where
-  pub step : IsStep (left_events runs told p) (left_events runs told (after_next p n)) (line_of_next n)
+pub record IsNextEvent (runs : List Run) (told : List Told) (p : EventPlaces) (n : NextEvent)
+    : Type 0 where
+  pub step : IsStep (left_events runs told p) (left_events runs told (after_next p n))
+      (line_of_next n)
   pub smaller : count_events runs told (after_next p n) < count_events runs told p
   pub places : CanStep p n
   pub shown : CanShow runs n

@@ -1,5 +1,5 @@
--- The lines of runs, without the header: what goes out behind what waits. The trace text knows nothing
--- of these words.
+-- The lines of runs, without the header: what goes out behind what waits. The trace text knows
+-- nothing of these words.
 use Rattle.std.specs.Prelude.{ℕ, ◌+◌, ◌*◌, ◌≤◌, List, ◌++◌, length, Option}
 use Rattle.std.specs.List.{flat_map}
 use Rattle.domain_run.specs.declared.switch.Switch.{Switch}
@@ -28,8 +28,8 @@ pub record IsSending (before after : Option (List ℕ)) (first : List ℕ) (runs
 abbrev pub lines_by : ℕ → (ℕ → List ℕ) → List Switch → List ℕ
 lines_by base names switches = flat_map (line_of names base) switches
 
--- of the trace of a run so many bytes went out, these wait, and the lines of the rest of its switches
--- are still to be made
+-- of the trace of a run so many bytes went out, these wait, and the lines of the rest of its
+-- switches are still to be made
 pub record IsSlicing (before after : Option (List ℕ)) (base : ℕ) (names : ℕ → List ℕ)
     (all rest : List Switch) (sent : ℕ) (waiting : List ℕ) : Type 0 where
   pub sends : Sends before after (sliced_trace base names all) sent

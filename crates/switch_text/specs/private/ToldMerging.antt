@@ -29,8 +29,8 @@ count_left [] places = 0
 count_left (t ∷ told) [] = 0
 count_left (t ∷ told) (p ∷ places) = length (drop p t.happened) + count_left told places
 
--- an event of this domain that is left, before those left before it, and not behind those left behind
--- it
+-- an event of this domain that is left, before those left before it, and not behind those left
+-- behind it
 pub record IsToldAhead (told : List ToldView) (places : List ℕ) (i : ℕ) (e : Event) : Type 0 where
   pub before : List Event
   pub after : List Event
@@ -50,13 +50,16 @@ pub record IsShown (n : NextTold) : Type 0 where
 
 -- the next of all, or a cut, without which as much is left to be written
 abbrev pub IsNextOrCut : List Told → List ℕ → NextTold → Bool → Type 0
-IsNextOrCut told places n true = IsToldAhead (told_views told) places n.index (next_told_event n) × IsShown n
-IsNextOrCut told places n false = left_told (told_views told) (stepped places n.index) ≡ left_told (told_views told) places
+IsNextOrCut told places n true = IsToldAhead (told_views told) places n.index (next_told_event n)
+    × IsShown n
+IsNextOrCut told places n false = left_told (told_views told) (stepped places n.index)
+    ≡ left_told (told_views told) places
 
 pub record IsNextTold (told : List Told) (places : List ℕ) (n : NextTold) : Type 0 where
   pub inside : n.index < length told
   pub place : slice_index places n.index + 1 < 2 ^ 64
-  pub smaller : count_left (told_views told) (stepped places n.index) < count_left (told_views told) places
+  pub smaller : count_left (told_views told) (stepped places n.index) < count_left
+      (told_views told) places
   pub next : IsNextOrCut told places n (is_shown n.happened.now)
 
 -- nothing is left, or what comes next is found

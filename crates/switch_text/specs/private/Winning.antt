@@ -1,5 +1,5 @@
--- Several runs at once, by their heads: which of them comes first, of each two, of each four and of all.
--- The trace text knows nothing of these words.
+-- Several runs at once, by their heads: which of them comes first, of each two, of each four and of
+-- all. The trace text knows nothing of these words.
 use Rattle.std.specs.Prelude.{ℕ, zero, suc, ◌≡◌, ◌+◌, ◌-◌, ◌*◌, ◌<◌, ◌≤◌, ◌^◌, ◌==◌, ◌&&◌, ◌||◌, nat_lt, Bool, true, false, List, [], ◌∷◌, length, drop, slice_index, slice_index_or}
 use Rattle.switch_text.specs.declared.heads.Head.{Head}
 use Rattle.switch_text.specs.declared.heads.Heads.{Heads}
@@ -21,8 +21,8 @@ is_sooner a b = nat_lt a.time b.time || (a.time == b.time && nat_lt a.cpu b.cpu)
 abbrev pub head_in : List Head → ℕ → Head
 head_in heads i = slice_index_or heads i (record { time = 0; cpu = 0 })
 
--- of the heads from one up to another this one comes first, and of those of one time and CPU the first
--- does
+-- of the heads from one up to another this one comes first, and of those of one time and CPU the
+-- first does
 pub record Wins (heads : List Head) (from to i : ℕ) : Type 0 where
   pub low : from ≤ i
   pub high : i < to

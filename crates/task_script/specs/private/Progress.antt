@@ -38,7 +38,8 @@ pub record IsProgress (s : ScriptView) (p : Progress) : Type 0 where
   pub phase : p.phase < length s.phases
   pub first : p.first ≡ first_of s.phases p.phase
   pub there : (q : PhaseView) → slice_get s.phases p.phase ≡ Some q → IsInPhase q p
-  pub kept : (reference : ℕ) → IsCursor (record { script = s; place = place_of s p; reference = reference })
+  pub kept : (reference : ℕ) → IsCursor
+      (record { script = s; place = place_of s p; reference = reference })
 
 -- what a cursor keeps: its counters, and the event to which they come
 pub record Comes (s : ScriptView) (p : Progress) (coming : Option Event) : Type 0 where

@@ -14,4 +14,5 @@ pub record IsBestSoFar (score_at : ℕ → ℕ) (shifts : List ℕ) (n : ℕ) (b
   pub among : Contains shifts best.shift
   pub value : best.score ≡ score_at best.shift
   pub most : (k : ℕ) → k < n → score_at (slice_index shifts k) ≤ best.score
-  pub smallest : (k : ℕ) → k < n → score_at (slice_index shifts k) ≡ best.score → best.shift ≤ slice_index shifts k
+  pub smallest : (k : ℕ) → k < n → score_at (slice_index shifts k) ≡ best.score
+      → best.shift ≤ slice_index shifts k

@@ -8,11 +8,13 @@ use Rattle.trace_compare.specs.Pairs.{no_shift, fits}
 -- the recorded run begins or ends before the model's, by more than is allowed
 abbrev pub IsEarly : ℕ → ℕ → Run → Run → Type 0
 IsEarly within shift m r =
-    (r.start + no_shift + within < m.start + shift) ⊎ (r.«end» + no_shift + within < m.«end» + shift)
+    (r.start + no_shift + within < m.start + shift) ⊎
+    (r.«end» + no_shift + within < m.«end» + shift)
 
 abbrev pub IsLate : ℕ → ℕ → Run → Run → Type 0
 IsLate within shift m r =
-    (m.start + shift + within < r.start + no_shift) ⊎ (m.«end» + shift + within < r.«end» + no_shift)
+    (m.start + shift + within < r.start + no_shift) ⊎
+    (m.«end» + shift + within < r.«end» + no_shift)
 
 abbrev pub IsMeeting : ℕ → ℕ → Run → Run → Meeting → Type 0
 IsMeeting within shift m r Fit = fits within shift m r ≡ true

@@ -46,7 +46,8 @@ impl Model for EndingBook {
       heard = b.heard;
     } };
 
-    ghost invariant = { λ b. IsEnding (book_of b.cpus b.limit b.workers.count b.left b.ledger b.stock)
+    ghost invariant = { λ b. IsEnding
+        (book_of b.cpus b.limit b.workers.count b.left b.ledger b.stock)
         b.heard b.state };
 }
 
@@ -137,7 +138,8 @@ impl EndingBook {
         ensures heard { IfOk result (λ r. r.accounting
             ≡ heard_after n r.ticks (state_of self.old.book)) }
         ensures forgotten { IfOk result (λ _. self.new.heard ≡ true) }
-        ensures stopped { IfErr result (IsNotAdvanced self.old.book self.new.book pass.old pass.new) }
+        ensures stopped { IfErr result
+            (IsNotAdvanced self.old.book self.new.book pass.old pass.new) }
     {
         if self.ledger.is_full() {
             return Err(AdvanceError::Full);
@@ -180,7 +182,8 @@ impl EndingBook {
         ensures history { IsBookHistory self.book }
         ensures own { All (λ p. p.entries ≡ own_entries p.client self.book.history) passes.items }
         ensures held { HoldsTickets result.state self.book.tickets }
-        ensures sums { sum_of self.book.domain result.tickets.items ≡ tick.sum_of result.state.tasks }
+        ensures sums { sum_of self.book.domain result.tickets.items
+            ≡ tick.sum_of result.state.tasks }
         ensures homes { All (IsTicketOf self.book.gate self.book.domain) result.tickets.items }
         ensures spare { All (λ b. b.gate ≡ self.book.gate) result.blanks.items }
         ensures few { length result.tickets.items + length result.blanks.items ≤ 256 }

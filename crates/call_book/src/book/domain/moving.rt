@@ -119,7 +119,8 @@ impl Domain {
         requires call { IsCall (Call.Depart number) }
         ensures number { IfOk result (λ p. p.number ≡ number) }
         ensures soon { IfOk result (λ p. p.delay ≡ 0) }
-        ensures task { IfOk result (λ p. moving_in (state_of self.now) number ≡ Some (moving_as p)) }
+        ensures task { IfOk result (λ p. moving_in (state_of self.now) number
+            ≡ Some (moving_as p)) }
         ensures fault { IfErr result (IsUnprepared (state_of self.now) number) }
     {
         let Some((name, params, script)) = self.state.moving(number) else {
@@ -146,7 +147,8 @@ impl Domain {
         requires soon { prepared.delay ≡ 0 }
         requires free { length self.old.history < self.old.room }
         requires granted { reply_to (state_of self.old) (arrival prepared) ≡ Reply.Admitted }
-        ensures came { Enters self.old self.new pass.old pass.new (arrival prepared) Reply.Admitted }
+        ensures came { Enters self.old self.new pass.old pass.new
+            (arrival prepared) Reply.Admitted }
         ensures held { self.new.tickets
             ≡ self.old.tickets ++ record { number = prepared.number; ticket = ticket } ∷ [] }
         ensures handed { self.old.blanks ≡ self.new.blanks ++ option_to_list result }
@@ -167,7 +169,8 @@ impl Domain {
         requires blank { IfSome blank (λ b. b.gate ≡ self.old.gate) }
         requires free { length self.old.history < self.old.room }
         requires listed { reply_to (state_of self.old) (Call.Depart number) ≡ Reply.Departed }
-        ensures left { Enters self.old self.new pass.old pass.new (Call.Depart number) Reply.Departed }
+        ensures left { Enters self.old self.new pass.old pass.new
+            (Call.Depart number) Reply.Departed }
         ensures taken { IsTakenOut number self.old.tickets self.new.tickets result }
         ensures kept { self.new.blanks ≡ self.old.blanks ++ option_to_list blank }
         ensures own { IsTicketOf self.old.gate self.old.domain result }
@@ -219,10 +222,10 @@ fn judge(from: &Domain, to: &Domain, prepared: &Prepared) -> Verdict
 /// Tested in this order: [`Move::Full`] where a history is full or 256 tasks are listed where it
 /// comes to; [`Move::NotListed`]; [`Move::Stale`] where the task is not as it was prepared;
 /// [`Move::Twice`]; [`Move::Busy`] where the sum of bandwidths there, which the book tests itself,
-/// leaves no room. Else a departure is entered in the one book and an arrival in the other: the task
-/// is off the one list at once, its zero-lag time with it, and on the other one, where it begins
-/// anew; its old ticket comes out, and a blank that the other book keeps goes to this one. A refusal
-/// stands in no history and hands back what it was given. Takes no memory.
+/// leaves no room. Else a departure is entered in the one book and an arrival in the other: the
+/// task is off the one list at once, its zero-lag time with it, and on the other one, where it
+/// begins anew; its old ticket comes out, and a blank that the other book keeps goes to this one. A
+/// refusal stands in no history and hands back what it was given. Takes no memory.
 pub fn move_task(
     from: &mut Domain,
     from_pass: &mut Pass,

@@ -5,7 +5,7 @@ use Rattle.call_book.specs.Limits.{IsCall}
 use Rattle.call_book.specs.Reader.{begun, with_entries}
 use Rattle.call_book.specs.KeptCall.{IsNextCall, IsNextKept, call_of}
 use Rattle.call_book.specs.declared.kept_call.Kept.{Kept}
-use Rattle.call_book.proofs.Readers.{section_within}
+use Rattle.call_book.proofs.CallerLemmas.{section_within}
 use Rattle.calls_trace.specs.Replay.{calls_of}
 use Rattle.calls_trace.proofs.ReadRuns.{calls_push}
 use Rattle.calls_trace.proofs.kept_section.section_read.Goals as goal

@@ -10,7 +10,7 @@ use Rattle.call_book.specs.Limits.{IsCall}
 use Rattle.call_book.specs.Reader.{begun, with_entries}
 use Rattle.call_book.specs.KeptCall.{IsNextCall, IsNextKept, call_of}
 use Rattle.call_book.specs.declared.kept_call.Kept.{Kept}
-use Rattle.call_book.proofs.Readers.{section_within}
+use Rattle.call_book.proofs.CallerLemmas.{section_within}
 use Rattle.switch_text.specs.Names.{named}
 use Rattle.calls_trace.specs.Replay.{names_after}
 use Rattle.calls_trace.specs.Told.{params_after}

@@ -3,7 +3,7 @@ use Rattle.std.specs.Prelude.{All}
 use Rattle.std.proofs.lemmas.List.Elements.{All-nil}
 use Rattle.std.proofs.lemmas.Result.{err_from_is_err_and}
 use Rattle.call_book.specs.Reader.{IsNextDomain}
-use Rattle.call_book.proofs.Readers.{whole_none}
+use Rattle.call_book.proofs.CallerLemmas.{whole_none}
 use Rattle.calls_trace.specs.private.Replaying.{IsPlaced, view_of}
 use Rattle.calls_trace.proofs.read_text.read_text.Goals as goal
 

@@ -3,7 +3,7 @@ use Rattle.std.specs.Prelude.{All}
 use Rattle.attr_check.specs.Ratio.{cap}
 use Rattle.edf_pick.specs.declared.moves.Moved.{Moved}
 use Rattle.edf_pick.specs.Places.{placed}
-use Rattle.edf_pick.proofs.Moving.{moved_length}
+use Rattle.edf_pick.proofs.CallerLemmas.{moved_length}
 use Rattle.domain_run.specs.declared.run_queue.RunQueue.{RunQueue}
 use Rattle.domain_run.specs.Parts.{with_last_cpu}
 use Rattle.domain_run.specs.Sound.{IsApart}
