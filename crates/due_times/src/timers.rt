@@ -130,8 +130,8 @@ impl Timers {
         requires { place < length self.old }
         ensures { self.new ≡ remove self.old place }
     {
+        self.tournament.remove(place, self.count);
         self.count -= 1;
-        self.tournament.remove(place);
     }
 
     /// Whether a task may be due at a time: the first time has come. Where it says no, none is due.

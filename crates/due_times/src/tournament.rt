@@ -2,7 +2,7 @@
 
 ghost use Rattle.std.specs.Prelude.{ℕ, ◌≡◌, ◌<◌, ◌≤◌, ◌+◌, ◌*◌, ◌/◌, ◌^◌, ◌-◌, ◌++◌, ◌∷◌, [], length, slice_index_or, slice_set, replicate, IfOk, vec_len, vec_capacity};
 ghost use Rattle.std.specs.List.{remove};
-ghost use Rattle.due_times.specs.Timers.{least, AreLater, IsSize};
+ghost use Rattle.due_times.specs.Timers.{least, AreLater, AreNever, IsSize};
 ghost use Rattle.due_times.specs.private.Tournament as spec;
 
 use no_memory::NoMemory;
@@ -211,11 +211,57 @@ fn widen(nodes: &mut Vec<u64>)
     build(nodes);
 }
 
-// The time of a leaf goes: those behind it come one place nearer, and the last never comes.
-fn remove_leaf(nodes: &mut Vec<u64>, leaf: usize)
-    requires tree { spec.IsTree nodes.old.items }
+// Of the nodes from one up to another each is made the least of the four below it, which are none
+// of them. Then those above them may not be right.
+fn renew(nodes: &mut Vec<u64>, first: usize, end: usize)
+    requires others { spec.IsTreeOutside first end nodes.old.items }
+    requires some { 0 < first }
+    requires ordered { first ≤ end }
+    requires apart { end ≤ 4 * first }
+    requires inner { end ≤ length nodes.old.items / 4 }
     requires few { length nodes.old.items ≤ 512 }
-    requires leaf { leaf < length (spec.leaves nodes.old.items) }
+    ensures others { spec.IsTreeOutside (first / 4) ((end + 3) / 4) nodes.new.items }
+    ensures length { length nodes.new.items ≡ length nodes.old.items }
+    ensures leaves { spec.leaves nodes.new.items ≡ spec.leaves nodes.old.items }
+    ensures room { vec_capacity nodes.new ≡ vec_capacity nodes.old }
+{
+    for at in first..end {
+        nodes[at] = least_below(nodes, at);
+    }
+}
+
+// The nodes above the leaves from one up to another are made anew, level by level.
+fn renew_above(nodes: &mut Vec<u64>, from: usize, end: usize)
+    requires others { spec.IsTreeOutside (from / 4) ((end + 3) / 4) nodes.old.items }
+    requires size { IsSize (length nodes.old.items / 2) }
+    requires low { length nodes.old.items / 2 ≤ from }
+    requires ordered { from ≤ end }
+    requires high { end ≤ length nodes.old.items }
+    ensures tree { spec.IsTree nodes.new.items }
+    ensures length { length nodes.new.items ≡ length nodes.old.items }
+    ensures leaves { spec.leaves nodes.new.items ≡ spec.leaves nodes.old.items }
+    ensures room { vec_capacity nodes.new ≡ vec_capacity nodes.old }
+{
+    // The first node of a level; none above the root.
+    let mut level = nodes.len() / 8;
+    let mut first = from / 4;
+    let mut last = (end + 3) / 4;
+    while level > 0 {
+        renew(nodes, first, last);
+        level /= 4;
+        first /= 4;
+        last = (last + 3) / 4;
+    }
+}
+
+// The time of a leaf goes, where those from `count` on never come: those behind it come one place
+// nearer, and the last never comes. No node but those above the leaves that have moved changes.
+fn remove_leaf(nodes: &mut Vec<u64>, leaf: usize, count: usize)
+    requires tree { spec.IsTree nodes.old.items }
+    requires size { IsSize (length nodes.old.items / 2) }
+    requires leaf { leaf < count }
+    requires fits { count ≤ length (spec.leaves nodes.old.items) }
+    requires never { AreNever (spec.leaves nodes.old.items) count }
     requires room { vec_capacity nodes.old ≡ 512 }
     ensures tree { spec.IsTree nodes.new.items }
     ensures length { length nodes.new.items ≡ length nodes.old.items }
@@ -226,7 +272,7 @@ fn remove_leaf(nodes: &mut Vec<u64>, leaf: usize)
     let half = nodes.len() / 2;
     nodes.remove(half + leaf);
     nodes.push_reserved(NEVER);
-    build(nodes);
+    renew_above(nodes, half + leaf, half + count);
 }
 
 // The first leaf behind the highest node above this one, or itself, that has not come; up to there
@@ -340,12 +386,15 @@ impl Tournament {
         set_leaf(&mut self.nodes, place, time);
     }
 
-    /// The time at a place goes: those behind it come one place nearer, and the last never comes.
-    pub(crate) fn remove(&mut self, place: usize)
-        requires { place < length self.old }
+    /// The time at a place goes, where those from `count` on never come: those behind it come one
+    /// place nearer, and the last never comes.
+    pub(crate) fn remove(&mut self, place: usize, count: usize)
+        requires there { place < count }
+        requires fits { count ≤ length self.old }
+        requires never { AreNever self.old count }
         ensures { self.new ≡ remove self.old place ++ (2 ^ 64 - 1) ∷ [] }
     {
-        remove_leaf(&mut self.nodes, place);
+        remove_leaf(&mut self.nodes, place, count);
     }
 
     /// The first of the times.

@@ -21,6 +21,12 @@ pub record IsTreeBut (at : ℕ) (nodes : List ℕ) : Type 0 where
 abbrev pub IsTree : List ℕ → Type 0
 IsTree nodes = IsTreeBut 0 nodes
 
+-- each inner node but those from one up to another
+pub record IsTreeOutside (from end : ℕ) (nodes : List ℕ) : Type 0 where
+  pub fours : length nodes ≡ 4 * (length nodes / 4)
+  pub before : (i : ℕ) → 1 ≤ i → i < length nodes / 4 → i < from → IsLeast nodes i
+  pub behind : (i : ℕ) → 1 ≤ i → i < length nodes / 4 → end ≤ i → IsLeast nodes i
+
 abbrev pub leaves : List ℕ → List ℕ
 leaves nodes = drop (length nodes / 2) nodes
 
