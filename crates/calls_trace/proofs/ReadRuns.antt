@@ -1,5 +1,5 @@
 -- The calls of a section, from its first entry on, and its run so far.
-use Rattle.std.proofs.Common.{◌≡◌, ℕ, Bool, true, false, cond, List, [], ◌∷◌, ◌++◌, refl, sym, ap, ◌∙◌, append_assoc, append-nil}
+use Rattle.std.proofs.Common.{◌≡◌, ℕ, Bool, true, false, cond, List, [], ◌∷◌, ◌++◌, refl, sym, ap, subst, ◌∙◌, append_assoc, append-nil}
 use Rattle.std.proofs.lemmas.List.{map-append}
 use Rattle.attr_check.specs.ParamsView.{ParamsView}
 use Rattle.domain_run.specs.declared.call.Call.{Call}
@@ -14,7 +14,7 @@ use Rattle.call_book.specs.SectionView.{SectionView}
 use Rattle.call_book.specs.Reader.{with_entries}
 use Rattle.switch_text.specs.Names.{Names, named}
 use Rattle.calls_trace.specs.Replay.{calls_of, names_of, names_after, no_names}
-use Rattle.calls_trace.specs.Told.{domain_of, told_of, params_of, params_after, no_params}
+use Rattle.calls_trace.specs.Told.{domain_of, told_of, params_in, params_of, params_after, no_params}
 use Rattle.calls_trace.specs.private.Replaying.{AreNamed, Gives, Given, GivesParams, given_in, IsRunOf, IsToldOf}
 
 -- ---- one call more
@@ -62,19 +62,18 @@ both_told : (w : Bool) (hs told : List Happened) → cond w hs [] ++ cond w told
 both_told true hs told = refl
 both_told false hs told = refl
 
-pub told_more : (wanted : Bool) (s : SectionView) (e : Entry) (d : Domain) (was given : Given) (before after : LogView) → d ≡ domain_of s → IsToldOf wanted s was before → GivesParams given (params_after d e.call (given_in was)) → Tells before (told_by_call d e.call) after
+pub told_more : (wanted : Bool) (s : SectionView) (e : Entry) (d : Domain) (was given : Given) (before after : LogView) → d ≡ domain_of s → IsToldOf wanted s was before → GivesParams given (cond before.wanted (params_after d e.call (given_in was)) (given_in was)) → Tells before (told_by_call d e.call) after
     → IsToldOf wanted (with_entries s (e ∷ [])) given after
 told_more wanted s e d was given before after run told gives tells =
     let start = opened s.cpus s.limit in
     let calls = calls_of s in
     let call_told = told_by_call d e.call in
-    let params : given_in was ≡ params_of start calls no_params = λ i n. told.params n i in
     let all : params_after (after_calls start calls) e.call (params_of start calls no_params) ≡ params_of start (calls_of (with_entries s (e ∷ []))) no_params =
     sym (params_push start calls e.call no_params) ∙ ap (λ (cs : List Call). params_of start cs no_params) (sym (calls_push s e)) in
     let told_all : told_of s ++ call_told ≡ told_of (with_entries s (e ∷ [])) =
     ap (λ (x : Domain). told_of s ++ told_by_call x e.call) run ∙ sym (told_push start calls e.call) ∙ ap (told_by_calls start) (sym (calls_push s e)) in
     record {
-      params = λ n. gives n ∙ ap (λ (x : Domain). params_after x e.call (given_in was) n) run ∙ ap (λ (f : ℕ → ParamsView). params_after (after_calls start calls) e.call f n) params ∙ ap (λ (f : ℕ → ParamsView). f n) all;
+      params = known wanted all told.params (subst (λ (w : Bool). GivesParams given (cond w (params_after d e.call (given_in was)) (given_in was))) told.alike gives);
       alike = tells.wanted ∙ told.alike;
       told = ap (λ (w : Bool). cond w after.happened []) tells.wanted
           ∙ ap (λ (hs : List Happened). cond before.wanted hs []) tells.happened
@@ -84,8 +83,19 @@ told_more wanted s e d was given before after run told gives tells =
           ∙ both_told wanted (told_of s) call_told
           ∙ ap (λ (hs : List Happened). cond wanted hs []) told_all;
     }
+  where
+    known : (w : Bool) → params_after (domain_of s) e.call (params_in s) ≡ params_in (with_entries s (e ∷ [])) → GivesParams was (cond w (params_in s) no_params) → GivesParams given (cond w (params_after d e.call (given_in was)) (given_in was))
+        → GivesParams given (cond w (params_in (with_entries s (e ∷ []))) no_params)
+    known true all has gives = λ n.
+        let params : given_in was ≡ params_in s = λ i m. has m i in
+        gives n ∙ ap (λ (x : Domain). params_after x e.call (given_in was) n) run ∙ ap (λ (f : ℕ → ParamsView). params_after (domain_of s) e.call f n) params ∙ ap (λ (f : ℕ → ParamsView). f n) all
+    known false all has gives = λ n. gives n ∙ has n
 
 -- no call yet
 pub none_told : (w : Bool) → ◌≡◌ {A = List Happened} [] (cond w [] [])
 none_told true = refl
 none_told false = refl
+
+pub none_given : (w : Bool) (n : ℕ) → no_params n ≡ cond w no_params no_params n
+none_given true n = refl
+none_given false n = refl

@@ -126,12 +126,16 @@ params_are d (e ∷ entries) given legal =
     ap (params_given_by_all entries) here ∙ params_are (after_call d e.call) entries (params_after d e.call given) others
 
 -- what a history leaves: its parameters, and what its log was told
-pub told_is : (s : SectionView) (given : Given) (log : LogView) (entries : List Entry) → IsLegal s.cpus s.limit s.entries → entries ≡ s.entries → GivesParams given (params_given_by_all entries no_params)
+pub told_is : (s : SectionView) (given : Given) (log : LogView) (entries : List Entry) → IsLegal s.cpus s.limit s.entries → entries ≡ s.entries → GivesParams given (cond log.wanted (params_given_by_all entries no_params) no_params)
     → (IsTrue log.wanted → log.happened ≡ told_of s) → IsToldOf log.wanted s given log
 told_is s given log entries legal same gives told =
     let are = ap (λ (es : List Entry). params_given_by_all es no_params) same ∙ params_are (opened s.cpus s.limit) s.entries no_params legal in
-    record { params = λ n. gives n ∙ ap (λ (f : ℕ → ParamsView). f n) are; alike = refl; told = hears log.wanted log.happened (told_of s) told }
+    record { params = known log.wanted are gives; alike = refl; told = hears log.wanted log.happened (told_of s) told }
   where
+    known : (w : Bool) → params_given_by_all entries no_params ≡ params_in s → GivesParams given (cond w (params_given_by_all entries no_params) no_params) → GivesParams given (cond w (params_in s) no_params)
+    known true are gives = λ n. gives n ∙ ap (λ (f : ℕ → ParamsView). f n) are
+    known false are gives = gives
+
     hears : (w : Bool) (hs ts : List Happened) → (IsTrue w → hs ≡ ts) → cond w hs [] ≡ cond w ts []
     hears true hs ts same = same refl
     hears false hs ts same = refl

@@ -13,7 +13,7 @@ use Rattle.call_book.specs.Limits.{IsCall, IsSection}
 use Rattle.calls_trace.specs.declared.kept_section.KeptSection.{KeptSection}
 use Rattle.calls_trace.specs.private.Kept.{IsKeptSection}
 use Rattle.calls_trace.specs.Replay.{names_of, names_after}
-use Rattle.calls_trace.specs.Told.{params_of, params_after}
+use Rattle.calls_trace.specs.Told.{no_params}
 use Rattle.calls_trace.specs.private.Replaying.{heard}
 
 pub left_names : (d r : Domain) (c : Call) (cs all : List Call) (was is end : ℕ → List ℕ) → all ≡ c ∷ cs → r ≡ after_call d c → ((n : ℕ) → is n ≡ names_after d c was n) → ((n : ℕ) → names_of d all was n ≡ end n) → (n : ℕ) → names_of r cs is n ≡ end n
@@ -21,11 +21,9 @@ left_names d r c cs all was is end same made each left n =
     let are : is ≡ names_after d c was = λ i m. each m i in
     ap (λ (x : Domain). names_of x cs is n) made ∙ ap (λ (f : ℕ → List ℕ). names_of (after_call d c) cs f n) are ∙ sym (ap (λ (xs : List Call). names_of d xs was n) same) ∙ left n
 
--- the same of parameters
-pub left_params : (d r : Domain) (c : Call) (cs all : List Call) (was is end : ℕ → ParamsView) → all ≡ c ∷ cs → r ≡ after_call d c → ((n : ℕ) → is n ≡ params_after d c was n) → ((n : ℕ) → params_of d all was n ≡ end n) → (n : ℕ) → params_of r cs is n ≡ end n
-left_params d r c cs all was is end same made each left n =
-    let are : is ≡ params_after d c was = λ i m. each m i in
-    ap (λ (x : Domain). params_of x cs is n) made ∙ ap (λ (f : ℕ → ParamsView). params_of (after_call d c) cs f n) are ∙ sym (ap (λ (xs : List Call). params_of d xs was n) same) ∙ left n
+-- where a log is not wanted no parameters are kept
+pub none_kept : (w : Bool) (all was is : ℕ → ParamsView) → w ≡ false → ((n : ℕ) → is n ≡ cond w all was n) → ((n : ℕ) → was n ≡ no_params n) → (n : ℕ) → is n ≡ no_params n
+none_kept w all was is silent each none n = each n ∙ ap (λ (b : Bool). cond b all was n) silent ∙ none n
 
 -- ---- the calls that are kept are calls of a section
 

@@ -17,7 +17,7 @@ use Rattle.switch_text.specs.Names.{Names, named, HasName, HasLine}
 use Rattle.switch_text.specs.Telling.{HasToldLine, is_sooner_unless_cut}
 use Rattle.calls_trace.specs.declared.placed_run.PlacedRun.{PlacedRun}
 use Rattle.calls_trace.specs.Replay.{calls_of}
-use Rattle.calls_trace.specs.Told.{domain_of, names_in, told_of, params_in}
+use Rattle.calls_trace.specs.Told.{domain_of, names_in, told_of, no_params, params_in}
 use Rattle.calls_trace.specs.private.Replaying.{AreNamed, IsRunOf, IsToldOf, given_in, heard, PlacedView, view_of, view_at, views_from, IsPlaced}
 use Rattle.calls_trace.proofs.ToldLines.{told_lines, told_rises}
 
@@ -37,11 +37,12 @@ pub view_is : (wanted : Bool) (r : PlacedRun) (s : SectionView) → IsRunOf s r.
 view_is wanted r s is told =
     let made : Domain → (ℕ → List ℕ) → (ℕ → ParamsView) → List Happened → PlacedView = λ d f g hs. record { base = r.base; domain = d; names = f; given = g; happened = hs } in
     let names : named r.run.names ≡ names_in s = λ i n. is.called n i in
-    let given : given_in r.run.given ≡ params_in s = λ i n. told.params n i in
+    let known : ℕ → ParamsView = cond wanted (params_in s) no_params in
+    let given : given_in r.run.given ≡ known = λ i n. told.params n i in
     ap (λ (d : Domain). made d (named r.run.names) (given_in r.run.given) (heard r.run.log)) is.domain
     ∙ ap (λ (f : ℕ → List ℕ). made (domain_of s) f (given_in r.run.given) (heard r.run.log)) names
     ∙ ap (λ (g : ℕ → ParamsView). made (domain_of s) (names_in s) g (heard r.run.log)) given
-    ∙ ap (made (domain_of s) (names_in s) (params_in s)) told.told
+    ∙ ap (made (domain_of s) (names_in s) known) told.told
 
 -- calls change no CPUs
 pub calls_cpus : (d : Domain) (calls : List Call) → (after_calls d calls).cpus ≡ d.cpus

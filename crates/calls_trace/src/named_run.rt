@@ -1,6 +1,6 @@
 //! The run of the calls of a section.
 
-ghost use Rattle.std.specs.Prelude.{◌≡◌, ◌<◌, ◌≤◌, ◌+◌, ◌^◌, [], OnOk, IfOk, All, IsTrue, vec_len};
+ghost use Rattle.std.specs.Prelude.{◌≡◌, ◌<◌, ◌≤◌, ◌+◌, ◌^◌, [], OnOk, IfOk, All, IsTrue, if◌then◌else◌, vec_len};
 ghost use Rattle.std.specs.String.{string_bytes};
 ghost use Rattle.task_script.specs.NameView.{IsName};
 ghost use Rattle.domain_run.specs.declared.call.Call.TheVariants as Call;
@@ -32,7 +32,8 @@ use std::alloc::Global;
 pub(crate) struct RunWithNames {
     pub(crate) state: State,
     pub(crate) names: IndexMap<u32, String>,
-    /// The parameters of each number that was admitted, as they are now.
+    /// The parameters of each number that was admitted, as they are now, where the log is wanted;
+    /// else nothing. No text is made of them without what happens.
     pub(crate) given: IndexMap<u32, Params>,
     /// What happens, where that is asked for.
     pub(crate) log: Log,
@@ -112,17 +113,33 @@ impl RunWithNames {
         }
     }
 
-    /// Keeps the name and the parameters of a task that is admitted.
+    /// Keeps the parameters of a task, where the log is wanted.
+    fn keep_params(&mut self, number: u32, params: Params) -> Result<(), NoMemory>
+        ensures state { self.new.state ≡ self.old.state }
+        ensures names { self.new.names ≡ self.old.names }
+        ensures given { OnOk result (GivesParams self.new.given (if self.old.log.wanted
+            then with_params (given_in self.old.given) number params
+            else given_in self.old.given)) }
+        ensures log { self.new.log ≡ self.old.log }
+    {
+        if self.log.is_wanted() {
+            put_params(&mut self.given, number, params)?;
+        }
+        Ok(())
+    }
+
+    /// Keeps the name of a task that is admitted, and its parameters where the log is wanted.
     fn know(&mut self, number: u32, text: String, params: Params) -> Result<(), NoMemory>
         ensures state { self.new.state ≡ self.old.state }
         ensures names { OnOk result (Gives self.new.names
             (with_name (named self.old.names) number (string_bytes text))) }
-        ensures given { OnOk result (GivesParams self.new.given
-            (with_params (given_in self.old.given) number params)) }
+        ensures given { OnOk result (GivesParams self.new.given (if self.old.log.wanted
+            then with_params (given_in self.old.given) number params
+            else given_in self.old.given)) }
         ensures log { self.new.log ≡ self.old.log }
     {
         put_name(&mut self.names, number, text)?;
-        put_params(&mut self.given, number, params)
+        self.keep_params(number, params)
     }
 
     /// Admits a task; its name and its parameters are kept where it is admitted.
@@ -145,8 +162,9 @@ impl RunWithNames {
             OnOk result (Gives self.new.names
             (names_after self.old.state call (named self.old.names))) }
         ensures given { let call = Call.Admit number name params delay script in
-            OnOk result (GivesParams self.new.given
-            (params_after self.old.state call (given_in self.old.given))) }
+            OnOk result (GivesParams self.new.given (if self.old.log.wanted
+            then params_after self.old.state call (given_in self.old.given)
+            else given_in self.old.given)) }
         ensures named { OnOk result (AreNamed self.new.state self.new.names) }
         ensures time { OnOk result (self.new.state.time ≡ self.old.state.time) }
         ensures log { self.new.log ≡ self.old.log }
@@ -165,12 +183,14 @@ impl RunWithNames {
         ensures state { OnOk result
             (self.new.state ≡ after_call self.old.state (Call.Regrade number params word)) }
         ensures names { self.new.names ≡ self.old.names }
-        ensures given { OnOk result (GivesParams self.new.given
-            (params_after self.old.state (Call.Regrade number params word) (given_in self.old.given))) }
+        ensures given { let call = Call.Regrade number params word in
+            OnOk result (GivesParams self.new.given (if self.old.log.wanted
+            then params_after self.old.state call (given_in self.old.given)
+            else given_in self.old.given)) }
         ensures log { self.new.log ≡ self.old.log }
     {
         match self.state.regrade(number, params, word) {
-            Reply::Changed => put_params(&mut self.given, number, params),
+            Reply::Changed => self.keep_params(number, params),
             _ => Ok(()),
         }
     }
@@ -212,8 +232,9 @@ impl RunWithNames {
         ensures state { OnOk result (self.new.state ≡ after_call self.old.state call) }
         ensures names { OnOk result (Gives self.new.names
             (names_after self.old.state call (named self.old.names))) }
-        ensures given { OnOk result (GivesParams self.new.given
-            (params_after self.old.state call (given_in self.old.given))) }
+        ensures given { OnOk result (GivesParams self.new.given (if self.old.log.wanted
+            then params_after self.old.state call (given_in self.old.given)
+            else given_in self.old.given)) }
         ensures told { OnOk result
             (Tells self.old.log (told_by_call self.old.state call) self.new.log) }
         ensures named { OnOk result (AreNamed self.new.state self.new.names) }
@@ -261,8 +282,9 @@ impl RunWithNames {
         ensures state { OnOk result (self.new.state ≡ after_call self.old.state (call_of kept)) }
         ensures names { OnOk result (Gives self.new.names
             (names_after self.old.state (call_of kept) (named self.old.names))) }
-        ensures given { OnOk result (GivesParams self.new.given
-            (params_after self.old.state (call_of kept) (given_in self.old.given))) }
+        ensures given { OnOk result (GivesParams self.new.given (if self.old.log.wanted
+            then params_after self.old.state (call_of kept) (given_in self.old.given)
+            else given_in self.old.given)) }
         ensures told { OnOk result
             (Tells self.old.log (told_by_call self.old.state (call_of kept)) self.new.log) }
         ensures named { OnOk result (AreNamed self.new.state self.new.names) }
@@ -360,6 +382,22 @@ fn params_given(alloc: Global, entries: &[Entry]) -> Result<IndexMap<u32, Params
     Ok(given)
 }
 
+/// The parameters that entries leave, by number, where they are wanted; else none.
+fn params_if(
+    alloc: Global,
+    entries: &[Entry],
+    wanted: bool,
+) -> Result<IndexMap<u32, Params>, NoMemory>
+    ensures given { IfOk result (λ given. GivesParams given
+        (if wanted then params_given_by_all entries.now no_params else no_params)) }
+{
+    if wanted {
+        params_given(alloc, entries)
+    } else {
+        Ok(IndexMap::new(alloc))
+    }
+}
+
 /// The names of the tasks of a history, by number, as its replies tell them.
 pub(crate) fn names_of(alloc: Global, history: &Section) -> Result<IndexMap<u32, String>, NoMemory>
     requires { IsLegal history.now.cpus history.now.limit history.now.entries }
@@ -377,7 +415,7 @@ pub(crate) fn params_of(alloc: Global, history: &Section) -> Result<IndexMap<u32
 }
 
 /// The run that a history led to, which is not made again: its state, what its log was told, and
-/// the names and the parameters that its replies tell.
+/// the names that its replies tell, and the parameters where the log is wanted.
 pub(crate) fn recorded(
     alloc: Global,
     history: &Section,
@@ -392,7 +430,7 @@ pub(crate) fn recorded(
     ensures told { IfOk result (λ r. IsToldOf log.wanted history.now r.given r.log) }
 {
     let names = names_given(alloc, &history.entries)?;
-    let given = params_given(alloc, &history.entries)?;
+    let given = params_if(alloc, &history.entries, log.is_wanted())?;
     Ok(RunWithNames {
         state,
         names,

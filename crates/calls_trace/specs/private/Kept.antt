@@ -9,10 +9,9 @@ use Rattle.call_book.specs.Limits.{IsSection, AreRead}
 use Rattle.call_book.specs.Reader.{ReaderView, IsBehind, IsWithin}
 use Rattle.switch_text.specs.Names.{named}
 use Rattle.calls_trace.specs.Replay.{calls_of, names_of}
-use Rattle.calls_trace.specs.Told.{domain_of, names_in, params_of, params_in}
+use Rattle.calls_trace.specs.Told.{domain_of, names_in}
 use Rattle.calls_trace.specs.declared.kept_section.KeptSection.{KeptSection}
 use Rattle.calls_trace.specs.declared.named_run.RunWithNames.{RunWithNames}
-use Rattle.calls_trace.specs.private.Replaying.{given_in}
 
 -- for how many names it needs room
 abbrev pub room_of : Call → ℕ
@@ -56,7 +55,6 @@ pub record IsReadSection (text : List ℕ) (before : List SectionView) (reader :
 pub record IsMadeUpTo (s : SectionView) (left : List Call) (r : RunWithNames) : Type 0 where
   pub domain : after_calls r.state left ≡ domain_of s
   pub called : (n : ℕ) → names_of r.state left (named r.names) n ≡ names_in s n
-  pub params : (n : ℕ) → params_of r.state left (given_in r.given) n ≡ params_in s n
 
 -- the text spells one section, and its calls are kept
 pub record IsOnly (text : List ℕ) (k : KeptSection) : Type 0 where

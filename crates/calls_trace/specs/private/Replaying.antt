@@ -62,9 +62,9 @@ GivesParams given wanted = (n : ℕ) → given_in given n ≡ wanted n
 abbrev pub heard : LogView → List Happened
 heard log = if log.wanted then log.happened else []
 
--- the parameters that the calls of a section leave, and what they tell a log that wants it
+-- the parameters that the calls of a section leave, and what they tell, to a log that wants it
 pub record IsToldOf (wanted : Bool) (s : SectionView) (given : Given) (log : LogView) : Type 0 where
-  pub params : GivesParams given (params_in s)
+  pub params : GivesParams given (if wanted then params_in s else no_params)
   pub alike : log.wanted ≡ wanted
   pub told : heard log ≡ (if wanted then told_of s else [])
 
@@ -93,7 +93,7 @@ view_at wanted base s = record {
   base = base;
   domain = domain_of s;
   names = names_in s;
-  given = params_in s;
+  given = if wanted then params_in s else no_params;
   happened = if wanted then told_of s else [];
 }
 

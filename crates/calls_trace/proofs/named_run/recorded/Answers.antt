@@ -1,5 +1,8 @@
-use Rattle.std.proofs.Common.{◌≡◌, ◌∙◌, ap}
+use Rattle.std.proofs.Common.{◌≡◌, Bool, cond, ◌∙◌, ap, subst}
 use Rattle.call_book.specs.SectionView.{SectionView}
+use Rattle.calls_trace.specs.Told.{no_params}
+use Rattle.calls_trace.specs.private.Recorded.{params_given_by_all}
+use Rattle.calls_trace.specs.private.Replaying.{GivesParams}
 use Rattle.calls_trace.proofs.Recorded.{run_is, told_is}
 use Rattle.calls_trace.proofs.named_run.recorded.Goals as goal
 
@@ -10,5 +13,6 @@ returns c =
     let same_here : c.deref-2.result.now ≡ s.entries = c.deref-2.ensures.value ∙ ap (λ (x : SectionView). x.entries) c.history.view_is in
     record {
       run = run_is s c.args.state c.in_ok-names.names c.deref.result.now c.requires.section c.requires.legal c.requires.state same c.in_ok-names.ensures.names;
-      told = told_is s c.in_ok-given.given c.args.log c.deref-2.result.now c.requires.legal same_here c.in_ok-given.ensures.given c.requires.told;
+      told = told_is s c.in_ok-given.given c.args.log c.deref-2.result.now c.requires.legal same_here
+          (subst (λ (w : Bool). GivesParams c.in_ok-given.given (cond w (params_given_by_all c.deref-2.result.now no_params) no_params)) c.is_wanted.ensures c.in_ok-given.ensures.given) c.requires.told;
     }

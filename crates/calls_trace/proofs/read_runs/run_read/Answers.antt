@@ -1,4 +1,4 @@
-use Rattle.std.proofs.Common.{◌≡◌, false, true, ◌∷◌, [], Option, Ok, refl, sym, ap, subst, ◌∙◌, arith, length-append}
+use Rattle.std.proofs.Common.{◌≡◌, cond, false, true, ◌∷◌, [], Option, Ok, refl, sym, ap, subst, ◌∙◌, arith, length-append}
 use Rattle.std.specs.Prelude.{IfSome}
 use Rattle.domain_run.specs.Domain.{Domain}
 use Rattle.domain_run.specs.Sound.{IsAdmitted}
@@ -15,7 +15,7 @@ use Rattle.switch_text.specs.Names.{named}
 use Rattle.calls_trace.specs.Replay.{names_after}
 use Rattle.calls_trace.specs.Told.{params_after}
 use Rattle.calls_trace.specs.private.Replaying.{given_in}
-use Rattle.calls_trace.proofs.ReadRuns.{run_more, told_more, none_told}
+use Rattle.calls_trace.proofs.ReadRuns.{run_more, told_more, none_told, none_given}
 use Rattle.calls_trace.proofs.Sections.{unheard}
 use Rattle.calls_trace.proofs.read_runs.run_read.Goals as goal
 
@@ -43,7 +43,7 @@ loop-run-init c =
           called = made.names;
           all_named = λ n h. let no : false ≡ true = subst (λ (d : Domain). IsAdmitted d.used n) made.state h in absurd cc;
         };
-        told = record { params = made.given; alike = made.wanted; told = unheard r.log c.args.wanted made.wanted made.untold ∙ none_told c.args.wanted };
+        told = record { params = λ n. made.given n ∙ none_given c.args.wanted n; alike = made.wanted; told = unheard r.log c.args.wanted made.wanted made.untold ∙ none_told c.args.wanted };
         early = let time = ap (λ (d : Domain). d.time) made.state in omega (arith, time);
       };
       never_more = omega arith;
@@ -81,7 +81,7 @@ loop-run-preserved c =
             run = run_more m.section e was.state is.state was.names is.names m.run (made.state ∙ ap (after_call was.state) call)
                 (λ n. made.names n ∙ ap (λ (x : Call). names_after was.state x (named was.names) n) call) made.named;
             told = told_more c.args.wanted m.section e was.state was.given is.given was.log is.log m.run.domain m.told
-                (λ n. made.given n ∙ ap (λ (x : Call). params_after was.state x (given_in was.given) n) call)
+                (λ n. made.given n ∙ ap (λ (x : Call). cond was.log.wanted (params_after was.state x (given_in was.given)) (given_in was.given) n) call)
                 (subst (λ (x : Call). Tells was.log (told_by_call was.state x) is.log) call made.told);
             early = let early = m.early in omega (arith, early, made.time, length-append m.section.entries (e ∷ []));
           };

@@ -2,7 +2,6 @@ use Rattle.std.proofs.Common.{◌≡◌, ℕ, List, true, false, [], ◌∷◌, 
 use Rattle.std.specs.Prelude.{All}
 use Rattle.std.proofs.lemmas.List.{length-map}
 use Rattle.std.proofs.lemmas.List.Elements.{All-head, All-tail}
-use Rattle.attr_check.specs.ParamsView.{ParamsView}
 use Rattle.domain_run.specs.declared.call.Call.{Call}
 use Rattle.domain_run.specs.Domain.{Domain, opened}
 use Rattle.domain_run.specs.Run.{after_calls}
@@ -10,9 +9,9 @@ use Rattle.domain_run.specs.Sound.{IsAdmitted}
 use Rattle.call_book.specs.Limits.{IsCall}
 use Rattle.switch_text.specs.Names.{named}
 use Rattle.calls_trace.specs.Replay.{names_of, no_names, calls_of}
-use Rattle.calls_trace.specs.Told.{names_in, params_in, params_of, no_params}
+use Rattle.calls_trace.specs.Told.{names_in, params_after}
 use Rattle.calls_trace.specs.private.Replaying.{given_in}
-use Rattle.calls_trace.proofs.Sections.{kept_calls, left_names, left_params, unheard}
+use Rattle.calls_trace.proofs.Sections.{kept_calls, left_names, none_kept, unheard}
 use Rattle.calls_trace.proofs.kept_section.KeptSection.run.Goals as goal
 
 pub open-requires-clause-cpus : goal.open-requires-clause-cpus
@@ -32,7 +31,6 @@ calls-init c =
     let many : length left ≡ length r.section.entries = ap (λ (cs : List Call). length cs) (back ∙ r.same.same_calls) ∙ length-map r.section.entries (λ e. e.call) in
     let time = ap (λ (d : Domain). d.time) made.state in
     let nobody : named run.names ≡ no_names = λ i m. made.names m i in
-    let nothing : given_in run.given ≡ no_params = λ i m. made.given m i in
     record {
       made = λ s same.
           let start = opened s.cpus s.limit in
@@ -44,14 +42,11 @@ calls-init c =
                 ap (λ (cs : List Call). names_of run.state cs (named run.names) n) all
                 ∙ ap (λ (d : Domain). names_of d (calls_of s) (named run.names) n) state
                 ∙ ap (λ (f : ℕ → List ℕ). names_of start (calls_of s) f n) nobody;
-            params = λ n.
-                ap (λ (cs : List Call). params_of run.state cs (given_in run.given) n) all
-                ∙ ap (λ (d : Domain). params_of d (calls_of s) (given_in run.given) n) state
-                ∙ ap (λ (f : ℕ → ParamsView). params_of start (calls_of s) f n) nothing;
           };
       are = subst (All IsCall) (sym back) (kept_calls r.section kept r.is r.same);
       all_named = λ n h. let no : false ≡ true = subst (λ (d : Domain). IsAdmitted d.used n) made.state h in absurd cc;
       silent = made.wanted;
+      unknown = made.given;
       early = omega (arith, many, time, r.is.most_entries);
     }
 
@@ -83,11 +78,11 @@ calls-preserved c =
           record {
             domain = ap (λ (d : Domain). after_calls d rest) done.state ∙ sym (ap (after_calls was.state) more) ∙ m.domain;
             called = left_names was.state is.state k rest all (named was.names) (named is.names) (names_in s) more done.state done.names m.called;
-            params = left_params was.state is.state k rest all (given_in was.given) (given_in is.given) (params_in s) more done.state done.given m.params;
           };
       are = All-tail IsCall k rest (subst (All IsCall) more i.are);
       all_named = done.named;
       silent = done.told.wanted ∙ i.silent;
+      unknown = none_kept was.log.wanted (params_after was.state k (given_in was.given)) (given_in was.given) (given_in is.given) i.silent done.given i.unknown;
       early = omega (arith, i.early, long, done.time);
     }
 
@@ -106,11 +101,9 @@ returns-clause-run c = λ s is same.
 pub returns-clause-told : goal.returns-clause-told
 returns-clause-told c = λ s is same.
     let i = c.calls.invariant in
-    let m = i.made s same in
     let r = c.calls.run in
-    let none : ◌≡◌ {A = List Call} c.calls.left [] = c.in_default.ensures.next.0 in
     record {
-      params = λ n. sym (ap (λ (cs : List Call). params_of r.state cs (given_in r.given) n) none) ∙ m.params n;
+      params = i.unknown;
       alike = i.silent;
       told = unheard r.log false i.silent (λ no. absurd cc);
     }

@@ -3,7 +3,8 @@ use Rattle.std.specs.Prelude.{All}
 use Rattle.call_book.specs.SectionView.{SectionView}
 use Rattle.call_book.specs.Limits.{IsCall}
 use Rattle.calls_trace.specs.private.Kept.{IsKeptSection, IsMadeUpTo}
-use Rattle.calls_trace.specs.private.Replaying.{AreNamed}
+use Rattle.calls_trace.specs.Told.{no_params}
+use Rattle.calls_trace.specs.private.Replaying.{AreNamed, GivesParams}
 use Rattle.calls_trace.proofs.kept_section.KeptSection.run.Given as goal
 
 abbrev pub invariant-calls : goal.invariant-calls
@@ -12,6 +13,7 @@ invariant-calls l = record {
   are : All IsCall l.left;
   all_named : AreNamed l.run.state l.run.names;
   silent : l.run.log.wanted ≡ false;
+  unknown : GivesParams l.run.given no_params;
   early : l.run.state.time + length l.left * 60000000 ≤ 2 ^ 42;
 }
 
