@@ -61,7 +61,7 @@ loop-next-preserved g c =
       room = omega (arith, c.append_line.ensures.short, c.in-Ok.ensures.room);
       many = c.append_line.ensures.many;
       slots = c.append_line.ensures.slots;
-      texts = c.append_line.ensures.texts;
+      texts = c.look_ahead.ensures;
       faults = c.in-Ok.ensures.faults ∙ c.loop-next.invariant.faults;
     }
 
@@ -89,3 +89,9 @@ returns-in-Err-clause-stopped g c =
     let bound = c.loop-next.invariant.sending.bound in
     let lt = c.in-Err.ensures.err.some_left in
     omega (arith, bound, lt, c.together.ensures)
+
+pub look_ahead-requires-clause-index : goal.look_ahead-requires-clause-index
+look_ahead-requires-clause-index g c = omega (arith, c.in-Some.ensures.run.inside, c.requires.1.0)
+
+pub look_ahead-requires-clause-texts : goal.look_ahead-requires-clause-texts
+look_ahead-requires-clause-texts g c = c.append_line.ensures.texts
