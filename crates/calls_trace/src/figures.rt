@@ -242,9 +242,11 @@ pub(crate) fn write_summary_of<W: Write>(
     requires few { length placed.now ≤ 8 }
     requires faults { faults_of writer.old < 2 ^ 63 }
     ensures ok { OnOk result
-        (IsWritten (side W.contents writer.old writer.new) (text_of_runs texts.Summary placed.now)) }
+        (IsWritten (side W.contents writer.old writer.new)
+        (text_of_runs texts.Summary placed.now)) }
     ensures err { IfErr result
-        (IsUnwritten (side W.contents writer.old writer.new) (text_of_runs texts.Summary placed.now)) }
+        (IsUnwritten (side W.contents writer.old writer.new)
+        (text_of_runs texts.Summary placed.now)) }
 {
     let text = summary_text(alloc, placed)?;
     write_whole(&text, writer)

@@ -105,7 +105,8 @@ pub(crate) fn write_trace_of<W: Write>(
     ensures ok { OnOk result
         (IsWritten (side W.contents writer.old writer.new) (text_of_runs texts.Trace placed.now)) }
     ensures err { IfErr result
-        (IsUnwritten (side W.contents writer.old writer.new) (text_of_runs texts.Trace placed.now)) }
+        (IsUnwritten (side W.contents writer.old writer.new)
+        (text_of_runs texts.Trace placed.now)) }
 {
     let written = all_as_written(alloc, placed)?;
     let room = room_in(alloc)?;
@@ -155,7 +156,8 @@ pub(crate) fn write_events_of<W: Write>(
     ensures ok { OnOk result
         (IsWritten (side W.contents writer.old writer.new) (text_of_runs texts.Events placed.now)) }
     ensures err { IfErr result
-        (IsUnwritten (side W.contents writer.old writer.new) (text_of_runs texts.Events placed.now)) }
+        (IsUnwritten (side W.contents writer.old writer.new)
+        (text_of_runs texts.Events placed.now)) }
 {
     let written = all_as_written(alloc, placed)?;
     let told = all_as_told(alloc, placed)?;

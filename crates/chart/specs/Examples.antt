@@ -136,7 +136,9 @@ unfolding digits
 whole = refl
 
 -- A PART of it: bars keep their own times, and the number of a CPU stands in what is seen
-part : chart_text (window 5 8) 2 (record first { row = record first.row { marks = mark Due 6 ∷ [] } } ∷ record second { row = record second.row { marks = mark Ended 6 ∷ [] } } ∷ []) ≡ codes
+part : chart_text (window 5 8) 2
+    (record first { row = record first.row { marks = mark Due 6 ∷ [] } }
+    ∷ record second { row = record second.row { marks = mark Ended 6 ∷ [] } } ∷ []) ≡ codes
     "<svg xmlns=\"http://www.w3.org/2000/svg\" viewBox=\"0 0 1200 170\" width=\"1200\" height=\"170\" role=\"img\" font-family=\"DejaVu Sans, Verdana, sans-serif\" font-size=\"12\">\n<title>Which task ran where: 2 tasks on 2 CPUs, 0.000005 to 0.000008 s</title>\n<style>.b{stroke:#333;stroke-width:.75}.b,.g,.w,.t,.x,.r,.d{vector-effect:non-scaling-stroke}.g{stroke:#ddd}.w{stroke:#555;stroke-width:1.5}.t{stroke:#b00000;stroke-width:2.5;stroke-dasharray:3 3}.x{stroke:#000;stroke-width:2}.r{stroke:#000;fill:none}.d{stroke:#b00000;fill:none}rect.b:hover{stroke:#000;stroke-width:2.5}</style>\n<rect width=\"1200\" height=\"170\" fill=\"#fff\"/>\n<rect x=\"0\" y=\"40\" width=\"1170\" height=\"34\" fill=\"#f4f4f4\"/>\n<text x=\"142\" y=\"61\" text-anchor=\"end\">a&lt;b</text>\n<text x=\"142\" y=\"95\" text-anchor=\"end\">&amp;&quot;t&gt;</text>\n<svg x=\"150\" y=\"40\" width=\"1020\" height=\"68\" viewBox=\"5 0 3 68\" preserveAspectRatio=\"none\">\n<path class=\"g\" d=\"M5 0V68\"/>\n<path class=\"g\" d=\"M6 0V68\"/>\n<path class=\"g\" d=\"M7 0V68\"/>\n<path class=\"g\" d=\"M8 0V68\"/>\n<path class=\"t\" d=\"M4 17H6\"><title>a&lt;b is throttled: 0.000004 to 0.000006 s</title></path>\n<rect class=\"b\" x=\"0\" y=\"10\" width=\"4\" height=\"14\" fill=\"#0072B2\"><title>a&lt;b on CPU 0: 0 to 0.000004 s, 4 us</title></rect>\n<rect class=\"b\" x=\"6\" y=\"10\" width=\"3\" height=\"14\" fill=\"#0072B2\"><title>a&lt;b on CPU 0: 0.000006 to 0.000009 s, 3 us</title></rect>\n<path class=\"w\" d=\"M0 51H4\"><title>&amp;&quot;t&gt; wants a CPU: 0 to 0.000004 s</title></path>\n<rect class=\"b\" x=\"4\" y=\"44\" width=\"2\" height=\"14\" fill=\"#E69F00\"><title>&amp;&quot;t&gt; on CPU 1: 0.000004 to 0.000006 s, 2 us</title></rect>\n</svg>\n<text x=\"830\" y=\"61\" text-anchor=\"middle\" font-size=\"11\" fill=\"#fff\" pointer-events=\"none\">0</text>\n<path class=\"d\" d=\"M490 64v8m-3 -4l3 4l3 -4\"><title>a&lt;b is due at 0.000006 s</title></path>\n<text x=\"150\" y=\"95\" text-anchor=\"middle\" font-size=\"11\" fill=\"#000\" pointer-events=\"none\">1</text>\n<path class=\"x\" d=\"M490 84v14\"><title>&amp;&quot;t&gt; ended at 0.000006 s</title></path>\n<text x=\"150\" y=\"32\" text-anchor=\"middle\" font-size=\"11\" fill=\"#333\">0.000005</text>\n<text x=\"150\" y=\"124\" text-anchor=\"middle\" font-size=\"11\" fill=\"#333\">0.000005</text>\n<text x=\"490\" y=\"32\" text-anchor=\"middle\" font-size=\"11\" fill=\"#333\">0.000006</text>\n<text x=\"490\" y=\"124\" text-anchor=\"middle\" font-size=\"11\" fill=\"#333\">0.000006</text>\n<text x=\"830\" y=\"32\" text-anchor=\"middle\" font-size=\"11\" fill=\"#333\">0.000007</text>\n<text x=\"830\" y=\"124\" text-anchor=\"middle\" font-size=\"11\" fill=\"#333\">0.000007</text>\n<text x=\"1170\" y=\"32\" text-anchor=\"middle\" font-size=\"11\" fill=\"#333\">0.000008</text>\n<text x=\"1170\" y=\"124\" text-anchor=\"middle\" font-size=\"11\" fill=\"#333\">0.000008</text>\n<text x=\"142\" y=\"32\" text-anchor=\"end\" font-size=\"11\" fill=\"#333\">time in s</text>\n<text x=\"142\" y=\"151\" text-anchor=\"end\" font-size=\"11\">CPU</text>\n<rect x=\"150\" y=\"140\" width=\"22\" height=\"14\" fill=\"#0072B2\"/><text x=\"161\" y=\"151\" text-anchor=\"middle\" font-size=\"11\" fill=\"#fff\">0</text>\n<rect x=\"178\" y=\"140\" width=\"22\" height=\"14\" fill=\"#E69F00\"/><text x=\"189\" y=\"151\" text-anchor=\"middle\" font-size=\"11\" fill=\"#000\">1</text>\n<path class=\"w\" d=\"M226 147h30\"/><text x=\"262\" y=\"151\" font-size=\"11\">wants a CPU</text>\n<path class=\"t\" d=\"M356 147h30\"/><text x=\"392\" y=\"151\" font-size=\"11\">throttled</text>\n<path class=\"r\" d=\"M472 152v-8m-3 4l3 -4l3 4\"/><text x=\"482\" y=\"151\" font-size=\"11\">released</text>\n<path class=\"d\" d=\"M552 144v8m-3 -4l3 4l3 -4\"/><text x=\"562\" y=\"151\" font-size=\"11\">due</text>\n<path class=\"x\" d=\"M602 140v14\"/><text x=\"610\" y=\"151\" font-size=\"11\">ended</text>\n</svg>\n"
 unfolding digits
 part = refl

@@ -142,7 +142,8 @@ pub(crate) fn finding_of<'a>(
     requires task { IsSound task.now }
     requires matching { IsSoundMatching matching.now }
     requires as_many { length matching.now.partners.items ≡ length task.now.model.items }
-    ensures { IfOk result (IsFinding span.shift span.from span.until name.now task.now matching.now) }
+    ensures { IfOk result (IsFinding span.shift span.from span.until name.now task.now
+        matching.now) }
 {
     let apart = apart_in(alloc, span.shift, task, matching)?;
     let same_cpu = apart.same_cpu as u64;

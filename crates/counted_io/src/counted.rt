@@ -127,7 +127,8 @@ impl<W: Write> Counted<W> {
         requires faults { faults_of self.old < 2 ^ 63 }
         ensures count { IfSome result (λ n. (0 < n) × (n ≤ length bytes.now)) }
         ensures taken { IfSome result (λ n.
-            Appends (W.contents (inner_of self.old)) (W.contents (inner_of self.new)) (take n bytes.now)) }
+            Appends (W.contents (inner_of self.old)) (W.contents (inner_of self.new))
+            (take n bytes.now)) }
         ensures kept { IfNone result
             (Keeps (W.contents (inner_of self.old)) (W.contents (inner_of self.new))) }
         ensures faults { faults_of self.new

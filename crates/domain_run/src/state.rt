@@ -75,7 +75,8 @@ impl Model for State {
               s.roster.places;
           switches =
               s.switches.items;
-        }) s.roster.cpus s.is_listed s.running.items (vec_capacity s.running) (vec_capacity s.switches) };
+        }) s.roster.cpus s.is_listed s.running.items (vec_capacity s.running)
+        (vec_capacity s.switches) };
 }
 
 impl State {

@@ -28,7 +28,8 @@ fn seat_all(roster: &mut Roster, limit: u64)
     ensures clock { roster.new.clock ≡ roster.old.clock }
     ensures tasks { roster.new.tasks ≡ roster.old.tasks }
     ensures homed { AreHomed roster.old.places roster.old.tasks }
-    ensures right { All (IsSeated roster.old.places roster.old.cpus limit roster.old.tasks roster.new.seats)
+    ensures right { All (IsSeated roster.old.places roster.old.cpus limit roster.old.tasks
+        roster.new.seats)
         roster.new.tasks }
 {
     let cpus = roster.occupants().len();
@@ -62,7 +63,8 @@ pub(crate) fn leap(roster: &mut Roster, limit: u64, most: u64, time: u64) -> u64
     ensures lasts { All (LastsIf result roster.old.places roster.old.cpus limit roster.old.tasks)
         roster.old.tasks }
     ensures tasks { roster.new.tasks ≡ map
-        (leapt (time + (result - 1)) result roster.old.places roster.old.cpus limit roster.old.tasks)
+        (leapt (time + (result - 1)) result roster.old.places roster.old.cpus limit
+        roster.old.tasks)
         roster.old.tasks }
     ensures sound { All (IsSound (time + (result - 1))) roster.new.tasks }
 {

@@ -15,7 +15,13 @@ first = record {
   tasks = record {
     number = 1;
     jobs =
-        record { release = 350000; deadline = 450000; ended = Some 510000; throttled = 2; cut = false }
+        record {
+          release = 350000;
+          deadline = 450000;
+          ended = Some 510000;
+          throttled = 2;
+          cut = false;
+        }
         ∷ record { release = 880000; deadline = 980000; ended = None; throttled = 2; cut = false }
         ∷ [];
   } ∷ [];

@@ -107,11 +107,13 @@ fn take_piece(
     requires named { AreNamed names.old steps.old.items }
     requires rest { Lacks 10 rest.old.items }
     ensures so_far { OnOk result ((whole after : List ℕ) →
-        IsSoFar whole ((rest.old.items ++ piece.now) ++ after) lines.old (map (step_view names.old) steps.old.items)
+        IsSoFar whole ((rest.old.items ++ piece.now) ++ after) lines.old
+        (map (step_view names.old) steps.old.items)
         → IsSoFar whole (rest.new.items ++ after) lines.new
         (map (step_view names.new) steps.new.items)) }
     ensures bad { IfErr result (λ e. (whole after : List ℕ) →
-        IsSoFar whole ((rest.old.items ++ piece.now) ++ after) lines.old (map (step_view names.old) steps.old.items)
+        IsSoFar whole ((rest.old.items ++ piece.now) ++ after) lines.old
+        (map (step_view names.old) steps.old.items)
         → IsFault whole e) }
     ensures called { OnOk result ((first : List (List ℕ)) →
         BringsOn first names.old (map (step_view names.old) steps.old.items)

@@ -24,7 +24,13 @@ switch time cpu prev state next =
 
 abbrev job : ℕ → ℕ → Option ℕ → ℕ → Job
 job release deadline ended throttled =
-    record { release = release; deadline = deadline; ended = ended; throttled = throttled; cut = false }
+    record {
+      release = release;
+      deadline = deadline;
+      ended = ended;
+      throttled = throttled;
+      cut = false;
+    }
 
 -- THROTTLED INSIDE A JOB: 2 us in each 5, and 4 us of work. Its end is 2 us behind its deadline
 abbrev task : Admitted
@@ -77,7 +83,8 @@ cut : jobs_of (at 0 1 (Released 5) ∷ at 3 2 (Released 9) ∷ at 7 1 Cut ∷ []
     ≡ record { release = 0; deadline = 5; ended = None; throttled = 0; cut = true } ∷ []
 cut = refl
 
-cut_is_not_late : is_late 9 (record { release = 0; deadline = 5; ended = None; throttled = 0; cut = true }) ≡ false
+cut_is_not_late : is_late 9
+    (record { release = 0; deadline = 5; ended = None; throttled = 0; cut = true }) ≡ false
 cut_is_not_late = refl
 
 not_yet : is_late 5 (job 0 5 None 0) ≡ false

@@ -176,7 +176,8 @@ impl<N: Names> Client<N> {
         ensures domains { length self.old.passes ≡ length N.id.cpu_sets }
         ensures made { OnOk result (MakesAll self.old self.new place ticks) }
         ensures ends { OnOk result (IsEndBy self.old.number ticks domain.new.history) }
-        ensures told { let told = told_at_end ticks domain.new.cpus domain.new.limit domain.new.history in
+        ensures told { let told = told_at_end ticks domain.new.cpus domain.new.limit
+            domain.new.history in
             OnOk result (Tells log.old told log.new) }
         ensures err { IfErr result (IsStopped (IsFull domain.new × (self.new ≡ self.old))) }
     {

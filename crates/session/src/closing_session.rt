@@ -381,7 +381,8 @@ impl<N: Names> Ending<N> {
     /// Closes all books and then the gate.
     pub(crate) fn close(self, alloc: Global, mut clients: Vec<Client<N>>) -> Remains
         ensures report { IsReport N.id clients.items result.report }
-        ensures ended { HaveEnded self.books.items result.report.histories.items result.states.items }
+        ensures ended { HaveEnded self.books.items result.report.histories.items
+            result.states.items }
     {
         let Ending {
             gate,

@@ -73,7 +73,8 @@ fn advance_all<N: Names, R: Threads + Wait>(
     ensures made { OnOk result (Makes client.old client.new (λ d. advance_of duration 1)) }
     ensures ends { OnOk result (AllEnd duration books.new.items) }
     ensures logs { length logs.new.items ≡ length logs.old.items }
-    ensures told { OnOk result (AllTellEnds duration books.new.items logs.old.items logs.new.items) }
+    ensures told { OnOk result (AllTellEnds duration books.new.items logs.old.items
+        logs.new.items) }
     ensures err { IfErr result (IsStopped
         (IsFullAmong duration books.new.items client.old client.new)) }
 {

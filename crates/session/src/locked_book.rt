@@ -120,7 +120,8 @@ fn regrade<R: Wait>(
     requires pass { IsPassOf domain.old pass.old }
     requires call { IsCall (calls.Regrade number params None) }
     ensures same { SameBook domain.old domain.new }
-    ensures replied { IsRegradedBy domain.old.gate domain.old.domain domain.old.cpus domain.old.limit
+    ensures replied { IsRegradedBy domain.old.gate domain.old.domain domain.old.cpus
+        domain.old.limit
         pass.old pass.new number params result.answer }
     ensures told { IsWhyNotMade domain.old result.answer }
     ensures own { result.blank ≡ None }

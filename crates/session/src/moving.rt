@@ -168,7 +168,8 @@ impl<N: Names> Client<N> {
         let gate = &shared.gate;
         match book {
             Some(lock) => {
-                at_place!(shared.books, to, book => self.move_between(rt, lock, book, gate, prepared, ticket))
+                at_place!(shared.books, to, book =>
+                    self.move_between(rt, lock, book, gate, prepared, ticket))
             }
             None => unreachable!(),
         }
@@ -189,7 +190,8 @@ impl<N: Names> Client<N> {
         requires ask { IsMoveAsk N.id to prepared ticket }
         ensures { IsMoveFor N.id from to self.old self.new prepared ticket result }
     {
-        at_place!(shared.books, from, book => self.move_from(rt, book, shared, to, prepared, ticket))
+        at_place!(shared.books, from, book =>
+            self.move_from(rt, book, shared, to, prepared, ticket))
     }
 
     /// Asks the gate for the bandwidth of a task where it comes to, and then both domains.

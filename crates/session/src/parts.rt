@@ -160,7 +160,8 @@ fn books_of(
     requires room { HaveRoom (length options.now.domains.items) hands.old.items }
     ensures count { IfOk result (λ v. length v.items ≡ length options.now.domains.items) }
     ensures books { let o = options.now in
-        IfOk result (λ v. AreBooks gate.now o.domains.items o.limit o.clients o.history o.workers v.items) }
+        IfOk result (λ v. AreBooks gate.now o.domains.items o.limit o.clients o.history
+        o.workers v.items) }
     ensures hands { IfOk result (λ v.
         AreHands gate.now (map (λ b. b.spine) v.items) hands.new.items) }
     ensures some { OnOk result (map is_some hands.new.items ≡ replicate options.now.clients true) }

@@ -40,7 +40,11 @@ impl Model for Cursor {
 
     ghost Value = { CursorView };
 
-    ghost view = { λ c. record { script = c.script; place = place_of c.script c.progress; reference = c.reference } };
+    ghost view = { λ c. record {
+      script = c.script;
+      place = place_of c.script c.progress;
+      reference = c.reference;
+    } };
 
     ghost invariant = { λ c. Comes c.script c.progress c.coming };
 }

@@ -157,7 +157,8 @@ impl Stock {
         ensures asked { AsksTheWord number bw self.old.tickets self.new.tickets result }
         ensures within { IfSome result
             (λ used. used ≤ cpus_of self.old.gate self.old.domain * 1048576) }
-        ensures own { All (λ h. IsTicketOf self.old.gate self.old.domain h.ticket) self.old.tickets }
+        ensures own { All (λ h. IsTicketOf self.old.gate self.old.domain h.ticket)
+            self.old.tickets }
     {
         regrade_held(rt, gate, &mut self.held, number, bw)
     }

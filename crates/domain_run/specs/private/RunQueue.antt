@@ -86,7 +86,8 @@ pub record MayTurn (place number cpu : ℕ) (queue : RunQueue) (before after : S
   pub within : place < length queue.timers
   pub held : Holds queue.accounts (share_on cpu before)
   pub fits : queue.accounts.total - before.bw + after.bw < 2 ^ 64
-  pub room : length (without_ready (candidate_at number cpu before.ready) queue.schedule.queue) < 256
+  pub room : length (without_ready (candidate_at number cpu before.ready)
+      queue.schedule.queue) < 256
   pub numbered : IfSome (candidate_at number cpu after.ready)
       (λ c. All (λ a. a.number ≢ c.number)
       (without_ready (candidate_at number cpu before.ready) queue.schedule.queue))

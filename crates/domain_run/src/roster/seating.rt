@@ -188,7 +188,8 @@ impl Roster {
             → slice_index_or self.new.seats d None ≡ slice_index_or self.old.seats d None }
         ensures right { All (λ t. t.cpu ≡ cpu
             → spec.IsRight (slice_index_or self.old.places cpu None) t.number
-            (rate_in self.old.cpus limit self.old.tasks t) (spec.seat_of self.new.seats t)) self.new.tasks }
+            (rate_in self.old.cpus limit self.old.tasks t) (spec.seat_of self.new.seats t))
+            self.new.tasks }
     {
         starting::sit_at(
             &self.tasks,
@@ -259,7 +260,8 @@ impl Roster {
         requires few { self.old.cpus ≤ 64 }
         ensures roster { self.new ≡ self.old }
         ensures others { All (λ t. bit_at result t.cpu ≡ 0
-            → IsSeated self.old.places self.old.cpus limit self.old.tasks self.old.seats t) self.old.tasks }
+            → IsSeated self.old.places self.old.cpus limit self.old.tasks self.old.seats t)
+            self.old.tasks }
     {
         let sum = self.sum();
         self.doubts.renew(sum, limit);
@@ -273,11 +275,13 @@ impl Roster {
         requires there { cpu < self.old.cpus }
         requires few { cpu < 64 }
         requires settled { IsSettled (slice_index_or self.old.places cpu None)
-            (basis_in self.old.cpus limit self.old.tasks cpu) (slice_index_or self.old.seats cpu None) }
+            (basis_in self.old.cpus limit self.old.tasks cpu)
+            (slice_index_or self.old.seats cpu None) }
         ensures roster { self.new ≡ self.old }
         ensures right { All (λ t. t.cpu ≡ cpu
             → spec.IsRight (slice_index_or self.old.places cpu None) t.number
-            (rate_in self.old.cpus limit self.old.tasks t) (spec.seat_of self.old.seats t)) self.old.tasks }
+            (rate_in self.old.cpus limit self.old.tasks t) (spec.seat_of self.old.seats t))
+            self.old.tasks }
     {
         let is_rated = self.seats.is_rated(cpu);
         if self.doubts.may_trust(is_rated, self.sum(), limit) {
@@ -301,7 +305,8 @@ impl Roster {
         ensures others { (d : ℕ) → d ≢ cpu
             → slice_index_or self.new.seats d None ≡ slice_index_or self.old.seats d None }
         ensures right { All (λ t. t.cpu ≡ cpu → spec.IsRight (Some number) t.number
-            (rate_in self.old.cpus limit self.old.tasks t) (spec.seat_of self.new.seats t)) self.new.tasks }
+            (rate_in self.old.cpus limit self.old.tasks t) (spec.seat_of self.new.seats t))
+            self.new.tasks }
     {
         self.leave_free(cpu);
         if let Some(place) = self.place(number) {
@@ -326,7 +331,8 @@ impl Roster {
         ensures others { (d : ℕ) → d ≢ cpu
             → slice_index_or self.new.seats d None ≡ slice_index_or self.old.seats d None }
         ensures right { All (λ t. t.cpu ≡ cpu → spec.IsRight occupant t.number
-            (rate_in self.old.cpus limit self.old.tasks t) (spec.seat_of self.new.seats t)) self.new.tasks }
+            (rate_in self.old.cpus limit self.old.tasks t) (spec.seat_of self.new.seats t))
+            self.new.tasks }
     {
         match occupant {
             None => {
@@ -354,7 +360,8 @@ impl Roster {
             → slice_index_or self.new.seats d None ≡ slice_index_or self.old.seats d None }
         ensures right { All (λ t. t.cpu ≡ cpu
             → spec.IsRight (slice_index_or self.old.places cpu None) t.number
-            (rate_in self.old.cpus limit self.old.tasks t) (spec.seat_of self.new.seats t)) self.new.tasks }
+            (rate_in self.old.cpus limit self.old.tasks t) (spec.seat_of self.new.seats t))
+            self.new.tasks }
     {
         let occupant = self.occupant(cpu);
         if self.is_right(cpu, occupant, limit) {
