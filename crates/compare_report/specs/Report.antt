@@ -1,5 +1,5 @@
 -- The report of two texts (own).
-use Rattle.std.specs.Prelude.{◌≡◌, ℕ, suc, ℤ, pos, negsuc, ◌+◌, ◌-◌, min, List, length, Option}
+use Rattle.std.specs.Prelude.{ℕ, suc, ℤ, pos, negsuc, ◌+◌, ◌-◌, min, List, length}
 use Rattle.std.specs.Option.{option_map}
 use Rattle.trace_compare.specs.declared.task.TaskRuns.{TaskRuns}
 use Rattle.trace_compare.specs.declared.comparing.Compared.{Compared}

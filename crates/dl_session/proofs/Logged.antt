@@ -1,6 +1,6 @@
 -- What the histories of a run tell: admissions tell nothing, so all of it is what the advance at the end tells.
-use Rattle.std.proofs.Common.{◌≡◌, ℕ, zero, suc, ◌+◌, ◌-◌, ◌<◌, ◌||◌, Bool, true, false, cond, ltb, Option, Some, None, List, [], ◌∷◌, ◌++◌, length, take, map, get_or, refl, sym, ap, ◌∙◌, subst, arith, inl, inr, append-nil}
-use Rattle.std.specs.Prelude.{All, IsTrue}
+use Rattle.std.proofs.Common.{◌≡◌, ℕ, zero, suc, ◌+◌, ◌-◌, ◌<◌, ◌||◌, Bool, true, false, cond, ltb, Option, Some, None, List, [], ◌∷◌, ◌++◌, length, take, map, get_or, refl, sym, ap, ◌∙◌, arith, inl, inr, append-nil}
+use Rattle.std.specs.Prelude.{All}
 use Rattle.std.proofs.lemmas.Bool.{cases_Bool, lt-ltb}
 use Rattle.std.proofs.lemmas.List.{length-map, length_push, take-map, append_assoc}
 use Rattle.std.proofs.lemmas.List.Elements.{All-head, All-tail}
@@ -8,8 +8,7 @@ use Rattle.std.proofs.Math.Seq.{take-append_seam}
 use Rattle.domain_run.specs.declared.task.Task.{Task}
 use Rattle.domain_run.specs.declared.call.Call.{Call}
 use Rattle.domain_run.specs.declared.call.Call.TheVariants.{Admit, Regrade, Wake, Leave, Advance, Limit, Depart, Arrive}
-use Rattle.domain_run.specs.declared.call.Reply.{Reply}
-use Rattle.domain_run.specs.declared.call.Reply.TheVariants.{Admitted, Done}
+use Rattle.domain_run.specs.declared.call.Reply.TheVariants.{Admitted}
 use Rattle.domain_run.specs.declared.happened.Happened.{Happened}
 use Rattle.domain_run.specs.Domain.{Domain, opened}
 use Rattle.domain_run.specs.Passing.{without_switches}
@@ -36,7 +35,7 @@ use Rattle.dl_session.specs.InOrder.{is_admitted}
 use Rattle.dl_session.specs.ScenarioAnswers.{AnswersScenario}
 use Rattle.dl_session.specs.private.Running.{AreLeftAs}
 use Rattle.dl_session.proofs.OrderRuns.{is_verdict, admitted_is, LegalFrom}
-use Rattle.dl_session.proofs.OrderSplit.{after_both, last_calls, last_if, IsSplit}
+use Rattle.dl_session.proofs.OrderSplit.{last_calls, last_if, IsSplit}
 use Rattle.dl_session.proofs.OrderLaw.{split_of}
 
 -- ---- admissions tell nothing

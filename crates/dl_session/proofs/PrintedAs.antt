@@ -1,5 +1,5 @@
 -- What is printed of a run is what is printed of a replay of its calls.
-use Rattle.std.proofs.Common.{◌≡◌, ℕ, Bool, true, false, List, refl, ap, sym, subst}
+use Rattle.std.proofs.Common.{◌≡◌, List, refl, ap, sym, subst}
 use Rattle.call_book.specs.SectionView.{SectionView}
 use Rattle.call_book.specs.Spelling.{spelling}
 use Rattle.domain_run.specs.Domain.{Domain}
@@ -12,7 +12,6 @@ use Rattle.calls_trace.specs.Answer.{replayed, print_tells}
 use Rattle.session.specs.declared.options.Print.{Print}
 use Rattle.session.specs.declared.options.Print.TheVariants as prints
 use Rattle.dl_session.specs.RunAnswer.{printed}
-use Rattle.dl_session.specs.declared.printing.Source.{Source}
 use Rattle.dl_session.specs.declared.printing.Source.TheVariants.{Histories, Heard, Logs}
 use Rattle.dl_session.specs.private.Printing.{source_of, wanted_for}
 use Rattle.dl_session.specs.private.Running.{AreLogged, AreFigured, AreLeftAs}

@@ -1,5 +1,5 @@
 -- How a comparison of two traces ends: what is said on standard error, and the exit status (own).
-use Rattle.std.specs.Prelude.{◌≡◌, ℕ, List, [], ◌∷◌, ◌++◌, Result, Ok, Err, codes, decimal}
+use Rattle.std.specs.Prelude.{◌≡◌, ℕ, List, [], ◌++◌, Result, Ok, Err, codes, decimal}
 use Rattle.compare_report.specs.declared.fault.CompareFault.{CompareFault}
 use Rattle.compare_report.specs.declared.fault.CompareFault.TheVariants.{BadLine, NoSwitch, Read, Endless, Write, Memory}
 use Rattle.compare_report.specs.declared.fault.Input.{Input}

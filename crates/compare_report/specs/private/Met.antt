@@ -1,5 +1,5 @@
 -- A fault of one of the texts. No public clause names it.
-use Rattle.std.specs.Prelude.{◌≡◌, ℕ}
+use Rattle.std.specs.Prelude.{◌≡◌}
 use Rattle.recorded_text.specs.declared.fault.RecordedFault.{RecordedFault}
 use Rattle.recorded_text.specs.declared.fault.RecordedFault.TheVariants as recorded
 use Rattle.counted_io.specs.Sides.{Side, HasNoFault, HasOneFault}

@@ -1,5 +1,4 @@
-use Rattle.std.proofs.Common.{◌≡◌, ◌<◌, ◌∙◌, ◌++◌, ◌∷◌, ℕ, [], true, false, Bool, cond, List, Option, Some, set, ap, subst, sym}
-use Rattle.edf_pick.specs.declared.candidate.Candidate.{Candidate}
+use Rattle.std.proofs.Common.{◌≡◌, ◌<◌, ◌∙◌, ◌++◌, ◌∷◌, ℕ, [], true, false, Bool, cond, Some, set, ap, subst, sym}
 use Rattle.edf_pick.specs.private.First.{is_home}
 use Rattle.edf_pick.proofs.Chosen.{home_within}
 use Rattle.edf_pick.proofs.choosing.choose.Goals as goal

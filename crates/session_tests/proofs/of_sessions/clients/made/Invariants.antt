@@ -1,4 +1,4 @@
-use Rattle.std.proofs.Common.{◌≡◌, ◌+◌, ◌≤◌, length, vec_capacity, All}
+use Rattle.std.proofs.Common.{◌+◌, ◌≤◌, length, vec_capacity, All}
 use Rattle.call_book.specs.Limits.{IsEntry}
 use Rattle.session_tests.proofs.of_sessions.clients.made.Given as goal
 
