@@ -6,7 +6,8 @@ use Rattle.domain_run.specs.declared.call.Call.{Call}
 use Rattle.domain_run.specs.declared.call.Reply.TheVariants as Reply
 use Rattle.domain_run.specs.Calls.{reply_to}
 use Rattle.call_book.specs.declared.book.stock.Held.{Held}
-use Rattle.call_book.specs.Book.{BookView, Enters}
+use Rattle.call_book.specs.Pieces.{IsTicketOf}
+use Rattle.call_book.specs.Book.{BookView, Enters, IsMember}
 use Rattle.call_book.specs.private.Kept.{book_of}
 use Rattle.call_book.specs.private.Stock.{StockView}
 use Rattle.domain_run.proofs.CallerLemmas.{granted_is}
@@ -67,3 +68,36 @@ hold-requires-clause-room c =
     let granted = granted_is inside.state c.args.prepared.number c.args.prepared.params c.in-Listed.ensures.0.reply in
     let e = c.spare-blank.ensures in
     spared_room inside.state inside.stock c.spare-blank.new.self c.spare-blank.result c.self.invariant.held granted.room e.stock e.blank e.none e.few
+
+pub enter-requires-clause-own : goal.enter-requires-clause-own
+enter-requires-clause-own c = c.requires.pass.spine ∙ ap (λ (b : BookView). b.spine) (sym c.self.view_is)
+
+pub enter-requires-clause-member : goal.enter-requires-clause-member
+enter-requires-clause-member c = subst (λ (b : BookView). IsMember b.clients c.args.pass.now.client) (sym c.self.view_is) c.requires.pass.member
+
+pub enter-requires-clause-free : goal.enter-requires-clause-free
+enter-requires-clause-free c =
+    let ledger = c.self.inside.ledger in
+    has_room c.is_full.result (length ledger.history) ledger.room c.is_full.ensures.full c.if-is_full.false c.is_full.ensures.history.within
+
+pub enter-requires-clause-call : goal.enter-requires-clause-call
+enter-requires-clause-call c = c.in-Listed.ensures.2.spelled
+
+pub enter-requires-in-Busy-clause-own : goal.enter-requires-in-Busy-clause-own
+enter-requires-in-Busy-clause-own c = c.requires.pass.spine ∙ ap (λ (b : BookView). b.spine) (sym c.self.view_is)
+
+pub enter-requires-in-Busy-clause-member : goal.enter-requires-in-Busy-clause-member
+enter-requires-in-Busy-clause-member c = subst (λ (b : BookView). IsMember b.clients c.args.pass.now.client) (sym c.self.view_is) c.requires.pass.member
+
+pub enter-requires-in-Busy-clause-free : goal.enter-requires-in-Busy-clause-free
+enter-requires-in-Busy-clause-free c =
+    let ledger = c.self.inside.ledger in
+    has_room c.is_full.result (length ledger.history) ledger.room c.is_full.ensures.full c.if-is_full.false c.is_full.ensures.history.within
+
+pub enter-requires-in-Busy-clause-call : goal.enter-requires-in-Busy-clause-call
+enter-requires-in-Busy-clause-call c = c.in-Busy.ensures.2.spelled
+
+pub hold-requires-clause-own : goal.hold-requires-clause-own
+hold-requires-clause-own c =
+    let own = subst (λ (b : BookView). IsTicketOf b.gate b.domain c.args.ticket) (sym c.self.view_is) c.requires.ticket in
+    subst (λ (s : StockView). IsTicketOf s.gate s.domain c.args.ticket) (sym c.spare-blank.ensures.stock) own

@@ -1,12 +1,61 @@
 use Rattle.std.proofs.Common.{◌≡◌, ℕ, List, length, map, All, sym, ap, ◌∙◌, subst, arith}
 use Rattle.std.proofs.lemmas.List.{length-map}
 use Rattle.std.proofs.lemmas.List.Elements.{All-map}
-use Rattle.bw_gate.specs.Pieces.{GateId, TicketView, BlankView, sum_of}
+use Rattle.bw_gate.specs.Pieces.{GateId, TicketView, BlankView, sum_of, cpus_of}
+use Rattle.pass_seats.specs.Lists.{PassView}
+use Rattle.call_book.specs.declared.section.Entry.{Entry}
 use Rattle.call_book.specs.declared.book.stock.Held.{Held}
-use Rattle.call_book.specs.Pieces.{IsTicketOf}
-use Rattle.call_book.specs.Book.{BookView}
+use Rattle.call_book.specs.Pieces.{IsTicketOf, HoldsTickets}
+use Rattle.call_book.specs.Book.{BookView, own_entries, state_of, HasItsLimit, IsBookHistory}
+use Rattle.call_book.specs.private.Ledger.{LedgerView, IsHistory}
+use Rattle.call_book.specs.private.Kept.{book_of}
 use Rattle.call_book.proofs.TicketSums.{tickets_sum}
 use Rattle.call_book.proofs.book.domain.Domain.close.Goals as goal
+
+-- A term stands for each clause, in place of searches, which take seconds.
+
+pub agree_all-requires : goal.agree_all-requires
+agree_all-requires c = subst (λ (b : BookView). All (λ (p : PassView Entry). p.spine ≡ b.spine) c.args.passes.items) (sym c.self.view_is) c.requires
+
+pub returns-clause-state : goal.returns-clause-state
+returns-clause-state c = c.self.invariant.run ∙ ap (λ (b : BookView). state_of b) c.self.view_is
+
+pub returns-clause-machine : goal.returns-clause-machine
+returns-clause-machine c =
+    let machine = c.self.invariant.machine in
+    (machine.0 ∙ ap (λ (b : BookView). b.cpus) c.self.view_is, machine.1)
+
+pub returns-clause-limited : goal.returns-clause-limited
+returns-clause-limited c = subst HasItsLimit c.self.view_is c.self.invariant.limited
+
+pub returns-clause-cpus : goal.returns-clause-cpus
+returns-clause-cpus c = subst (λ (b : BookView). cpus_of b.gate b.domain ≡ b.cpus) c.self.view_is c.self.invariant.capped
+
+pub returns-clause-entries : goal.returns-clause-entries
+returns-clause-entries c =
+    c.into_entries.ensures.entries ∙ ap (λ (l : LedgerView). l.history) c.agree_all.ensures.ledger ∙ ap (λ (b : BookView). b.history) c.self.view_is
+
+pub returns-clause-tickets : goal.returns-clause-tickets
+returns-clause-tickets c = c.into_pieces-tickets.ensures.tickets ∙ ap (λ (b : BookView). map (λ (h : Held). h.ticket) b.tickets) c.self.view_is
+
+pub returns-clause-blanks : goal.returns-clause-blanks
+returns-clause-blanks c = c.into_pieces-tickets.ensures.blanks ∙ ap (λ (b : BookView). b.blanks) c.self.view_is
+
+pub returns-clause-history : goal.returns-clause-history
+returns-clause-history c =
+    let inside = c.self.inside in
+    let ledger = inside.ledger in
+    let kept : IsHistory ledger.clients ledger.room ledger.history = subst (λ (l : LedgerView). IsHistory l.clients l.room l.history) c.agree_all.ensures.ledger c.into_entries.ensures.history in
+    let book = book_of inside.cpus inside.limit inside.workers.count inside.left ledger inside.stock in
+    let is : IsBookHistory book = record { legal = c.self.invariant.legal; numbered = kept.numbered; members = kept.members; spelled = kept.entries; within = kept.within; short = kept.short } in
+    subst IsBookHistory c.self.view_is is
+
+pub returns-clause-own : goal.returns-clause-own
+returns-clause-own c =
+    subst (λ (b : BookView). All (λ (p : PassView Entry). p.entries ≡ own_entries p.client b.history) c.args.passes.items) c.self.view_is c.agree_all.ensures.own
+
+pub returns-clause-held : goal.returns-clause-held
+returns-clause-held c = subst (λ (b : BookView). HoldsTickets c.self.inside.state b.tickets) c.self.view_is c.self.invariant.held
 
 pub returns-clause-sums : goal.returns-clause-sums
 returns-clause-sums c =

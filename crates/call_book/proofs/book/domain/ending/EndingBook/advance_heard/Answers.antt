@@ -1,9 +1,12 @@
-use Rattle.std.proofs.Common.{◌≡◌, ◌∙◌, false, length, ap, arith}
+use Rattle.std.proofs.Common.{◌≡◌, ◌∙◌, false, length, sym, ap, subst, arith}
+use Rattle.domain_run.specs.Domain.{Domain}
 use Rattle.domain_run.specs.Tick.{ticks}
+use Rattle.heard_run.specs.Heard.{heard_after}
+use Rattle.call_book.specs.Book.{state_of, IsMember}
 use Rattle.call_book.specs.Ending.{EndingView}
 use Rattle.call_book.proofs.Growing.{has_room}
 use Rattle.call_book.proofs.Sifting.{sifted_holds, advance_answer}
-use Rattle.call_book.proofs.Ended.{book_unheard, heard_grows, swept_alike, given_alike, ending_of}
+use Rattle.call_book.proofs.Ended.{run_unheard, book_unheard, heard_grows, swept_alike, given_alike, ending_of}
 use Rattle.call_book.proofs.book.domain.ending.EndingBook.advance_heard.Goals as goal
 
 -- nothing was heard before
@@ -43,3 +46,30 @@ returns-clause-done c =
     (ap (λ (e : EndingView). e.book) c.self.view_is) book after free (omega (arith, some)) most c.enter.ensures.ledger c.enter.ensures.pass
     (swept_alike own.stock c.sweep.new.self next made.new.state made.ensures.state c.sweep.ensures.stock)
     (given_alike own.stock c.sweep.new.self next made.new.state made.ensures.state c.sweep.ensures.given)
+
+-- terms in place of searches, which take seconds
+
+pub enter-requires-clause-own : goal.enter-requires-clause-own
+enter-requires-clause-own c = c.requires.pass.spine ∙ ap (λ (e : EndingView). e.book.spine) (sym c.self.view_is)
+
+pub enter-requires-clause-member : goal.enter-requires-clause-member
+enter-requires-clause-member c = subst (λ (e : EndingView). IsMember e.book.clients c.args.pass.now.client) (sym c.self.view_is) c.requires.pass.member
+
+pub enter-requires-clause-free : goal.enter-requires-clause-free
+enter-requires-clause-free c =
+    let ledger = c.self.inside.ledger in
+    has_room c.is_full.result (length ledger.history) ledger.room c.is_full.ensures.full c.if-is_full.false c.is_full.ensures.history.within
+
+pub enter-requires-clause-call : goal.enter-requires-clause-call
+enter-requires-clause-call c =
+    let most = c.advance_heard-ticks.ensures.most in
+    let some = c.if-ticks-eq0.false in
+    let call = c.requires.call.1 in
+    (omega (arith, some), omega (arith, most, call))
+
+pub returns-clause-heard : goal.returns-clause-heard
+returns-clause-heard c =
+    let own = c.self.inside in
+    let made = c.advance_heard-ticks in
+    let run = run_unheard _ own.heard own.state c.self.invariant (none_heard c.args.self.now _ c.self.view_is c.requires.unheard) in
+    made.ensures.heard ∙ ap (λ (d : Domain). heard_after c.args.n made.result.ticks d) (run ∙ ap (λ (e : EndingView). state_of e.book) c.self.view_is)
