@@ -11,5 +11,10 @@ pub fn to_ratio(period: u64, runtime: u64) -> u64
     requires within { runtime ≤ period }
     ensures { result ≡ ratio period runtime }
 {
-    (u128::from(runtime) * u128::from(UNIT) / u128::from(period)) as u64
+    // Below 2^44, as every runtime is that is accepted, the product has 64 bits, and a division of
+    // those is the quicker one.
+    match runtime.checked_mul(UNIT) {
+        Some(product) => product / period,
+        None => (u128::from(runtime) * u128::from(UNIT) / u128::from(period)) as u64,
+    }
 }
