@@ -1,6 +1,6 @@
 //! A tournament of times: the first of them is known, where one changes at a time.
 
-ghost use Rattle.std.specs.Prelude.{ℕ, ◌≡◌, ◌<◌, ◌≤◌, ◌+◌, ◌*◌, ◌/◌, ◌^◌, ◌-◌, ◌++◌, ◌∷◌, [], length, slice_index_or, slice_set, replicate, IfOk, vec_len, vec_capacity};
+ghost use Rattle.std.specs.Prelude.{ℕ, ◌≡◌, ◌<◌, ◌≤◌, ◌+◌, ◌*◌, ◌/◌, ◌^◌, ◌-◌, ◌++◌, ◌∷◌, [], length, slice_index_or, slice_set, replicate, IfNone, IfOk, IfSome, vec_len, vec_capacity};
 ghost use Rattle.std.specs.List.{remove};
 ghost use Rattle.due_times.specs.Timers.{least, AreLater, AreNever, IsSize};
 ghost use Rattle.due_times.specs.private.Tournament as spec;
@@ -74,6 +74,28 @@ fn carry(nodes: &mut Vec<u64>, at: usize, time: u64) -> u64
     least
 }
 
+// As `carry`; where the node above was the least already, all nodes are right, and there is no
+// answer.
+#[inline(always)]
+fn carry_on(nodes: &mut Vec<u64>, at: usize, time: u64) -> Option<u64>
+    requires tree { spec.IsTreeBut (at / 4) nodes.old.items }
+    requires inner { 4 ≤ at }
+    requires there { at < length nodes.old.items }
+    requires time { slice_index_or nodes.old.items at 0 ≡ time }
+    ensures tree { IfNone result (spec.IsTree nodes.new.items) }
+    ensures but { IfSome result (λ least. spec.IsTreeBut (at / 16) nodes.new.items) }
+    ensures time { IfSome result (λ least. slice_index_or nodes.new.items (at / 4) 0 ≡ least) }
+    ensures length { length nodes.new.items ≡ length nodes.old.items }
+    ensures leaves { spec.leaves nodes.new.items ≡ spec.leaves nodes.old.items }
+    ensures room { vec_capacity nodes.new ≡ vec_capacity nodes.old }
+{
+    let least = least_beside(nodes, at, time);
+    if nodes[at / 4] == least {
+        return None;
+    }
+    Some(carry(nodes, at, time))
+}
+
 // From a node with this time, two or three levels below the root, up to that.
 #[inline(always)]
 fn climb_64(nodes: &mut Vec<u64>, half: usize, at: usize, time: u64)
@@ -89,7 +111,9 @@ fn climb_64(nodes: &mut Vec<u64>, half: usize, at: usize, time: u64)
     ensures leaves { spec.leaves nodes.new.items ≡ spec.leaves nodes.old.items }
     ensures room { vec_capacity nodes.new ≡ vec_capacity nodes.old }
 {
-    let of_64 = carry(nodes, at, time);
+    let Some(of_64) = carry_on(nodes, at, time) else {
+        return;
+    };
     if half == 64 {
         return;
     }
@@ -111,7 +135,9 @@ fn climb_16(nodes: &mut Vec<u64>, half: usize, at: usize, time: u64)
     ensures leaves { spec.leaves nodes.new.items ≡ spec.leaves nodes.old.items }
     ensures room { vec_capacity nodes.new ≡ vec_capacity nodes.old }
 {
-    let of_16 = carry(nodes, at, time);
+    let Some(of_16) = carry_on(nodes, at, time) else {
+        return;
+    };
     if half == 16 {
         return;
     }
@@ -139,7 +165,9 @@ fn set_leaf(nodes: &mut Vec<u64>, leaf: usize, time: u64)
     let half = half_of(nodes);
     let at = half + leaf;
     nodes[at] = time;
-    let of_four = carry(nodes, at, time);
+    let Some(of_four) = carry_on(nodes, at, time) else {
+        return;
+    };
     if half == 4 {
         return;
     }

@@ -5,10 +5,10 @@ use Rattle.due_times.proofs.tournament.climb_16.Goals as goal
 
 pub returns-then-half-eq16-clause-tree : goal.returns-then-half-eq16-clause-tree
 returns-then-half-eq16-clause-tree c =
-    tree_whole c.carry-of_16.new.nodes.items c.args.at (omega (arith, c.requires.high, c.if-half-eq16.true)) c.carry-of_16.ensures.tree
+    tree_whole c.carry_on.new.nodes.items c.args.at (omega (arith, c.requires.high, c.if-half-eq16.true)) c.in-Some.ensures.but
 
 pub climb_64-requires-clause-tree : goal.climb_64-requires-clause-tree
-climb_64-requires-clause-tree c = tree_above c.carry-of_16.new.nodes.items c.args.at c.carry-of_16.ensures.tree
+climb_64-requires-clause-tree c = tree_above c.carry_on.new.nodes.items c.args.at c.in-Some.ensures.but
 
 pub climb_64-requires-clause-wide : goal.climb_64-requires-clause-wide
 climb_64-requires-clause-wide c = not_16 c.args.half c.requires.size c.requires.wide c.if-half-eq16.false
@@ -17,4 +17,4 @@ pub climb_64-requires-clause-low : goal.climb_64-requires-clause-low
 climb_64-requires-clause-low c = low_64 c.args.half c.args.at c.requires.size c.requires.wide c.requires.low
 
 pub returns-clause-leaves : goal.returns-clause-leaves
-returns-clause-leaves c = c.climb_64.ensures.leaves ∙ c.carry-of_16.ensures.leaves
+returns-clause-leaves c = c.climb_64.ensures.leaves ∙ c.carry_on.ensures.leaves

@@ -5,10 +5,10 @@ use Rattle.due_times.proofs.tournament.climb_64.Goals as goal
 
 pub returns-then-half-eq64-clause-tree : goal.returns-then-half-eq64-clause-tree
 returns-then-half-eq64-clause-tree c =
-    tree_whole c.carry-of_64.new.nodes.items c.args.at (omega (arith, c.requires.high, c.if-half-eq64.true)) c.carry-of_64.ensures.tree
+    tree_whole c.carry_on.new.nodes.items c.args.at (omega (arith, c.requires.high, c.if-half-eq64.true)) c.in-Some.ensures.but
 
 pub carry-requires-clause-tree : goal.carry-requires-clause-tree
-carry-requires-clause-tree c = tree_above c.carry-of_64.new.nodes.items c.args.at c.carry-of_64.ensures.tree
+carry-requires-clause-tree c = tree_above c.carry_on.new.nodes.items c.args.at c.in-Some.ensures.but
 
 pub carry-requires-clause-inner : goal.carry-requires-clause-inner
 carry-requires-clause-inner c =
@@ -21,4 +21,4 @@ returns-clause-tree c =
     tree_whole c.carry.new.nodes.items (c.args.at / 4) (omega (arith, most, c.requires.high)) c.carry.ensures.tree
 
 pub returns-clause-leaves : goal.returns-clause-leaves
-returns-clause-leaves c = c.carry.ensures.leaves ∙ c.carry-of_64.ensures.leaves
+returns-clause-leaves c = c.carry.ensures.leaves ∙ c.carry_on.ensures.leaves

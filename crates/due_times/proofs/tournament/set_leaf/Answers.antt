@@ -8,15 +8,15 @@ pub returns-then-half-eq4-clause-tree : goal.returns-then-half-eq4-clause-tree
 returns-then-half-eq4-clause-tree c =
     let half = c.half_of-half.ensures ∙ ap (λ (ns : List ℕ). length ns / 2) c.deref.ensures.value in
     let within = leaf_within c.args.nodes.now.items c.args.leaf c.requires.tree c.requires.leaf in
-    tree_whole c.carry-of_four.new.nodes.items (c.half_of-half.result + c.args.leaf) (omega (arith, half, within, c.if-half-eq4.true)) c.carry-of_four.ensures.tree
+    tree_whole c.carry_on.new.nodes.items (c.half_of-half.result + c.args.leaf) (omega (arith, half, within, c.if-half-eq4.true)) c.in-Some.ensures.but
 
 pub returns-then-half-eq4-clause-leaves : goal.returns-then-half-eq4-clause-leaves
 returns-then-half-eq4-clause-leaves c =
     let half = c.half_of-half.ensures ∙ ap (λ (ns : List ℕ). length ns / 2) c.deref.ensures.value in
-    c.carry-of_four.ensures.leaves ∙ leaves_set c.args.nodes.now.items c.half_of-half.result c.args.leaf c.args.time half
+    c.carry_on.ensures.leaves ∙ leaves_set c.args.nodes.now.items c.half_of-half.result c.args.leaf c.args.time half
 
 pub climb_16-requires-clause-tree : goal.climb_16-requires-clause-tree
-climb_16-requires-clause-tree c = tree_above c.carry-of_four.new.nodes.items (c.half_of-half.result + c.args.leaf) c.carry-of_four.ensures.tree
+climb_16-requires-clause-tree c = tree_above c.carry_on.new.nodes.items (c.half_of-half.result + c.args.leaf) c.in-Some.ensures.but
 
 pub climb_16-requires-clause-size : goal.climb_16-requires-clause-size
 climb_16-requires-clause-size c =
@@ -42,4 +42,9 @@ climb_16-requires-clause-high c =
 pub returns-clause-leaves : goal.returns-clause-leaves
 returns-clause-leaves c =
     let half = c.half_of-half.ensures ∙ ap (λ (ns : List ℕ). length ns / 2) c.deref.ensures.value in
-    c.climb_16.ensures.leaves ∙ c.carry-of_four.ensures.leaves ∙ leaves_set c.args.nodes.now.items c.half_of-half.result c.args.leaf c.args.time half
+    c.climb_16.ensures.leaves ∙ c.carry_on.ensures.leaves ∙ leaves_set c.args.nodes.now.items c.half_of-half.result c.args.leaf c.args.time half
+
+pub returns-in_default-clause-leaves : goal.returns-in_default-clause-leaves
+returns-in_default-clause-leaves c =
+    let half = c.half_of-half.ensures ∙ ap (λ (ns : List ℕ). length ns / 2) c.deref.ensures.value in
+    c.carry_on.ensures.leaves ∙ leaves_set c.args.nodes.now.items c.half_of-half.result c.args.leaf c.args.time half
