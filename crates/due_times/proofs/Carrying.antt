@@ -73,13 +73,13 @@ carried nodes at least is inner there e =
 -- where it was right already, each node is
 pub right_already : (nodes : List ℕ) (at : ℕ) → IsTreeBut at nodes → get_or nodes at 0 ≡ least_below nodes at → IsTree nodes
 right_already nodes at is e = record {
-    fours = is.fours;
-    each = λ i one within other.
-        elim (cases_eq i at) [
-          | inl same ↦ subst (λ (k : ℕ). get_or nodes k 0 ≡ least_below nodes k) (sym same) e
-          | inr differs ↦ is.each i one within differs
-        ];
-  }
+  fours = is.fours;
+  each = λ i one within other.
+      elim (cases_eq i at) [
+        | inl same ↦ subst (λ (k : ℕ). get_or nodes k 0 ≡ least_below nodes k) (sym same) e
+        | inr differs ↦ is.each i one within differs
+      ];
+}
 
 pub leaf_within : (nodes : List ℕ) (leaf : ℕ) → IsTree nodes → leaf < length (leaves nodes) → leaf < length nodes / 2
 leaf_within nodes leaf is h = omega (arith, h, is.fours, length-drop (length nodes / 2) nodes)

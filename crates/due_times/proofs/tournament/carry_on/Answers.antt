@@ -6,5 +6,5 @@ use Rattle.due_times.proofs.tournament.carry_on.Goals as goal
 
 pub returns-then-index-least-clause-tree : goal.returns-then-index-least-clause-tree
 returns-then-index-least-clause-tree c =
-    right_already c.args.nodes.now.items (c.args.at / 4) c.requires.tree 
-      (get_or_default c.args.nodes.now.items (c.args.at / 4) 0 c.index.result.now (omega (arith, c.requires.there)) ∙ sym c.index.ensures ∙ c.if-index-least.true ∙ c.least_beside-least.ensures ∙ ap (λ (xs : List ℕ). least_below xs (c.args.at / 4)) c.deref.ensures.value)
+    right_already c.args.nodes.now.items (c.args.at / 4) c.requires.tree
+    (get_or_default c.args.nodes.now.items (c.args.at / 4) 0 c.index.result.now (omega (arith, c.requires.there)) ∙ sym c.index.ensures ∙ c.if-index-least.true ∙ c.least_beside-least.ensures ∙ ap (λ (xs : List ℕ). least_below xs (c.args.at / 4)) c.deref.ensures.value)
