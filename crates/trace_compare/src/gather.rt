@@ -29,6 +29,26 @@ fn settle_task(alloc: Global, noise: u64, list: &[Run]) -> Result<Vec<Run>, Allo
     settled(alloc, noise, raw.as_slice())
 }
 
+/// The runs of a task in both traces, given the last one first.
+fn settle_both(
+    alloc: Global,
+    noise: u64,
+    model: &[Run],
+    recorded: &[Run],
+) -> Result<TaskRuns, AllocError>
+    requires noise { noise < 2 ^ 62 }
+    requires model { All IsShort model.now }
+    requires recorded { All IsShort recorded.now }
+    ensures model { IfOk result (λ t. t.model.items ≡ runs_of noise (reverse model.now)) }
+    ensures recorded { IfOk result
+        (λ t. t.recorded.items ≡ runs_of noise (reverse recorded.now)) }
+    ensures sound { IfOk result IsSound }
+{
+    let model = settle_task(alloc, noise, model)?;
+    let recorded = settle_task(alloc, noise, recorded)?;
+    Ok(TaskRuns { model, recorded })
+}
+
 /// The runs of each task.
 fn settle_all(
     alloc: Global,
@@ -45,12 +65,12 @@ fn settle_all(
 {
     let mut tasks = Vec::new(alloc);
     for j in 0..model.len() {
-        let of_model = settle_task(alloc, noise, model[j].as_slice())?;
-        let of_recorded = settle_task(alloc, noise, recorded[j].as_slice())?;
-        tasks.push(TaskRuns {
-            model: of_model,
-            recorded: of_recorded,
-        })?;
+        tasks.push(settle_both(
+            alloc,
+            noise,
+            model[j].as_slice(),
+            recorded[j].as_slice(),
+        )?)?;
     }
     Ok(tasks)
 }
