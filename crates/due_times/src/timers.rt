@@ -58,19 +58,9 @@ impl Timers {
         place.min(count)
     }
 
-    // Whether there is a task at a place that is due at a time.
-    #[inline(always)]
-    fn is_due(&self, place: usize, time: u64) -> bool
-        ensures there { IsTrue result → place < length self.now }
-        ensures due { IsTrue result → slice_index_or self.now place 0 ≤ time }
-    {
-        place < self.count && self.tournament.get(place) <= time
-    }
-
     /// The first place, from this one on, whose task is due at a time; where there is none, how
-    /// many places there are. Behind a place that was due mostly the next one is: it is looked at
-    /// first. The first of all is found from the root down, and only where it is before this place
-    /// there is a walk.
+    /// many places there are. The first of all is found from the root down, and only where it is
+    /// before this place there is a walk.
     #[inline(always)]
     pub fn next_due(&self, from: usize, time: u64) -> usize
         requires { from ≤ length self.now }
@@ -81,9 +71,6 @@ impl Timers {
     {
         if self.least() > time {
             return self.count;
-        }
-        if from > 0 && self.is_due(from, time) {
-            return from;
         }
         let first = self.tournament.first_come(time);
         if first >= from {
