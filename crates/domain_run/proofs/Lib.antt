@@ -50,3 +50,5 @@ pub mod Doubting
 pub mod Starting
 pub mod Leaping
 pub mod Leapt
+pub mod Dozing
+pub mod Aside

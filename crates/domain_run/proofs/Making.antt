@@ -2,7 +2,7 @@
 use Rattle.std.proofs.Common.{◌≡◌, ℕ, ◌^◌, ◌<◌, ◌≤◌, List, length, get_or, set, refl, sym, ap, subst, ◌∙◌}
 use Rattle.domain_run.specs.declared.task.Task.{Task}
 use Rattle.domain_run.specs.declared.change.Change.{Change}
-use Rattle.domain_run.specs.declared.change.Change.TheVariants.{Replenish, Settle, Unblock, Run, Regrade, Release, End, Depart}
+use Rattle.domain_run.specs.declared.change.Change.TheVariants.{Replenish, Settle, Unblock, Run, RunAside, PutAside, TakeBack, Regrade, Release, End, Depart}
 use Rattle.domain_run.specs.declared.run_queue.RunQueue.{RunQueue}
 use Rattle.domain_run.specs.Parts.{replenish_due, settled, unblocked}
 use Rattle.domain_run.specs.private.RunQueue.{standing_of, IsCounted, MayTurn, HasTurned}
@@ -20,6 +20,9 @@ made_fit cpus time Replenish t fits short home = same_fit cpus t (replenish_due 
 made_fit cpus time Settle t fits short home = same_fit cpus t (settled time t) (same_settled time t) short home
 made_fit cpus time Unblock t fits short home = same_fit cpus t (unblocked time t) (same_unblocked time t) short home
 made_fit cpus time (Run ticks left) t fits short home = same_fit cpus t (after_change time (Run ticks left) t) (same_ran_until time ticks left t) short home
+made_fit cpus time (RunAside ticks left) t fits short home = let a = same_ran_until time ticks left t in same_fit cpus t (after_change time (RunAside ticks left) t) (record { number = a.number; params = a.params; cpu = a.cpu }) short home
+made_fit cpus time PutAside t fits short home = record { number = refl; short = short; home = home; cpu = refl }
+made_fit cpus time (TakeBack lag) t fits short home = record { number = refl; short = short; home = home; cpu = refl }
 made_fit cpus time (Regrade params) t fits short home = record { number = refl; short = fits; home = home; cpu = refl }
 made_fit cpus time Release t fits short home = record { number = refl; short = short; home = home; cpu = refl }
 made_fit cpus time End t fits short home = same_fit cpus t (after_change time End t) (ended_same time t) short home

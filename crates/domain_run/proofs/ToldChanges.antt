@@ -14,7 +14,7 @@ use Rattle.domain_run.specs.declared.task.Task.{Task}
 use Rattle.domain_run.specs.declared.task.Condition.{Condition}
 use Rattle.domain_run.specs.declared.task.Condition.TheVariants.{Ready, Throttled, Blocked, Waiting, Leaving}
 use Rattle.domain_run.specs.declared.change.Change.{Change}
-use Rattle.domain_run.specs.declared.change.Change.TheVariants.{Replenish, Settle, Unblock, Run, Regrade, Release, End, Depart}
+use Rattle.domain_run.specs.declared.change.Change.TheVariants.{Replenish, Settle, Unblock, Run, RunAside, PutAside, TakeBack, Regrade, Release, End, Depart}
 use Rattle.task_script.specs.declared.script.Segment.{Segment}
 use Rattle.task_script.specs.declared.script.Segment.TheVariants.{Run as RunFor, Until, Wait as WaitFor, End as EndNow}
 use Rattle.domain_run.specs.declared.happened.What.{What}
@@ -122,6 +122,9 @@ change_seen time Replenish t = replenishment_seen time t
 change_seen time Settle t = refl
 change_seen time Unblock t = unblocking_seen time t
 change_seen time (Run ticks left) t = run_seen time ticks left t
+change_seen time (RunAside ticks left) t = refl
+change_seen time PutAside t = refl
+change_seen time (TakeBack lag) t = refl
 change_seen time (Regrade params) t = refl
 change_seen time Release t = refl
 change_seen time End t = refl

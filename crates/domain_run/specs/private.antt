@@ -7,4 +7,5 @@ pub mod Roster
 pub mod Doubts
 pub mod Telling
 pub mod Waiting
+pub mod Dozing
 pub mod Choosing

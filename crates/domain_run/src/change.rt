@@ -1,11 +1,11 @@
 //! What is done to one listed task: a part of a tick, or a call.
 
-ghost use Rattle.std.specs.Prelude.{ℕ, ◌≡◌, ◌<◌, ◌≤◌, ◌^◌, ◌<ℤ◌, ◌≤ℤ◌, IsTrue, Option, pos};
+ghost use Rattle.std.specs.Prelude.{ℕ, ◌≡◌, ◌<◌, ◌≤◌, ◌^◌, ◌<ℤ◌, ◌≤ℤ◌, IsTrue, Option, None, IfSome, IfNone, option_map, pos};
 ghost use Rattle.domain_run.specs.Conditions.{is_ready};
 ghost use Rattle.domain_run.specs.Sound.{IsSound};
 ghost use Rattle.domain_run.specs.private.Paying.{ran_until};
 ghost use Rattle.domain_run.specs.private.RunQueue as spec;
-ghost use Rattle.domain_run.specs.private.Roster.{after_change, MayMake, HasStood};
+ghost use Rattle.domain_run.specs.private.Roster.{after_change, put_aside, bared, MayMake, MayRun, HasStood};
 ghost use Rattle.domain_run.specs.private.Waiting.{owed_by};
 ghost use Rattle.due_times.specs.declared.seats.Seat.{Seat};
 
@@ -25,6 +25,12 @@ pub(crate) enum Change {
     Unblock,
     /// Part 6 of so many ticks at once, which leave so much of its budget, in 1/2^20 us.
     Run { ticks: u64, left: i128 },
+    /// As `Run`; its zero-lag time, where it stops with one, is put aside.
+    RunAside { ticks: u64, left: i128 },
+    /// Its zero-lag time is put aside.
+    PutAside,
+    /// It has a zero-lag time again, in microseconds.
+    TakeBack { lag: u64 },
     /// It has new parameters.
     Regrade { params: Params },
     /// It waits no more.
@@ -65,11 +71,29 @@ fn slide(task: &mut Task, time: u64, ticks: u64, left: i128)
     task.work -= ticks;
 }
 
+/// As part 6 of so many ticks; the zero-lag time with which it stops is put aside.
 #[inline(always)]
-fn act(task: &mut Task, time: u64, change: &Change)
+fn run_aside(task: &mut Task, time: u64, ticks: u64, left: i128) -> Option<u64>
+    requires sound { IsSound time task.old }
+    requires may { MayRun time ticks left task.old }
+    requires small { task.old.params.bw ≤ 2 ^ 20 }
+    ensures task { task.new ≡ bared (ran_until time ticks left task.old) }
+    ensures aside { result ≡ (ran_until time ticks left task.old).zero_lag }
+    ensures sound { IsSound time task.new }
+{
+    parts::run_until(task, time, ticks, left);
+    let aside = task.zero_lag;
+    task.zero_lag = None;
+    aside
+}
+
+// Makes a change, and answers the zero-lag time that it puts aside.
+#[inline(always)]
+fn act(task: &mut Task, time: u64, change: &Change) -> Option<u64>
     requires sound { IsSound time task.old }
     requires may { MayMake time change.now task.old }
     ensures task { task.new ≡ after_change time change.now task.old }
+    ensures aside { result ≡ put_aside time change.now task.old }
     ensures sound { IsSound time task.new }
 {
     // For the prover alone: the call brings what the type of parameters keeps.
@@ -79,21 +103,35 @@ fn act(task: &mut Task, time: u64, change: &Change)
         Change::Settle => parts::settle(task, time),
         Change::Unblock => parts::unblock(task, time),
         Change::Run { ticks, left } => parts::run_until(task, time, *ticks, *left),
+        Change::RunAside { ticks, left } => return run_aside(task, time, *ticks, *left),
+        Change::PutAside => task.zero_lag = None,
+        Change::TakeBack { lag } => task.zero_lag = Some(*lag),
         Change::Regrade { params } => calls::regrade(task, params),
         Change::Release => calls::release(task, time),
         Change::End => calls::end(task, time),
         Change::Depart => calls::depart(task),
     }
+    None
+}
+
+/// How a task stood before a change, and the zero-lag time that this has put aside.
+#[derive(Clone, Copy, Debug)]
+pub(crate) struct Made {
+    pub(crate) before: Standing,
+    /// In microseconds.
+    pub(crate) aside: Option<u64>,
 }
 
 /// Makes a change, and answers how the task stood before where it may stand otherwise now.
 #[inline(always)]
-pub(crate) fn make(task: &mut Task, time: u64, change: &Change) -> Option<Standing>
+pub(crate) fn make(task: &mut Task, time: u64, change: &Change) -> Option<Made>
     requires sound { IsSound time task.old }
     requires may { MayMake time change.now task.old }
     ensures task { task.new ≡ after_change time change.now task.old }
     ensures sound { IsSound time task.new }
-    ensures stood { HasStood result task.old task.new }
+    ensures stood { HasStood (option_map (λ m. m.before) result) task.old task.new }
+    ensures aside { IfSome result (λ m. m.aside ≡ put_aside time change.now task.old) }
+    ensures none { IfNone result (put_aside time change.now task.old ≡ None) }
 {
     if let Change::Run { ticks, left } = change
         && *left > 0
@@ -103,6 +141,6 @@ pub(crate) fn make(task: &mut Task, time: u64, change: &Change) -> Option<Standi
         return None;
     }
     let before = standing_of(task);
-    act(task, time, change);
-    Some(before)
+    let aside = act(task, time, change);
+    Some(Made { before, aside })
 }

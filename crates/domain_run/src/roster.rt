@@ -18,7 +18,7 @@ ghost use Rattle.domain_run.specs.Calls.{of_number, is_other};
 ghost use Rattle.domain_run.specs.private.Choosing.{switch_of};
 ghost use Rattle.domain_run.specs.private.Index.{IsAt, IsAbsent};
 ghost use Rattle.domain_run.specs.Views.{view_of};
-ghost use Rattle.domain_run.specs.private.Roster.{after_change, MayMake, Fits, HasLeft, IsSeenAs, runner_in};
+ghost use Rattle.domain_run.specs.private.Roster.{after_change, put_aside, MayMake, Fits, HasLeft, IsSeenAs, runner_in};
 ghost use Rattle.domain_run.specs.private.RunQueue.{AreHomed};
 ghost use Rattle.domain_run.specs.private.Waiting.{seat_of, MaySitIfReady};
 ghost use Rattle.due_times.specs.Timers.{least};
@@ -28,6 +28,7 @@ ghost use Rattle.edf_pick.specs.Places.{placed};
 ghost use Rattle.grub_rules.specs.Sums as sums;
 
 mod choosing;
+mod dozing;
 mod lending;
 mod listing;
 mod passing;
@@ -45,6 +46,7 @@ use crate::task::{Task, TaskView};
 use due_times::{Doubts, Seats};
 use edf_pick::Moved;
 use no_memory::NoMemory;
+pub(crate) use dozing::Lags;
 pub(crate) use starting::Moment;
 use std::alloc::Global;
 use std::marker::Model;
@@ -336,9 +338,9 @@ impl Roster {
     }
 
     /// As `turn`, of a task on whose CPU nobody sits, since it has been charged: nobody looks for
-    /// its seat, and no CPU comes in doubt.
+    /// its seat, and no CPU comes in doubt. The zero-lag time that is put aside.
     #[inline(always)]
-    pub(crate) fn turn_charged(&mut self, place: usize, time: u64, change: &Change)
+    pub(crate) fn turn_charged(&mut self, place: usize, time: u64, change: &Change) -> Option<u64>
         requires there { place < length self.old.tasks }
         requires free { (d : Task) → slice_index_or self.old.seats
             (slice_index_or self.old.tasks place d).cpu None ≡ None }
@@ -352,10 +354,12 @@ impl Roster {
         ensures clock { self.new.clock ≡ self.old.clock }
         ensures places { self.new.places ≡ self.old.places }
         ensures seats { self.new.seats ≡ self.old.seats }
+        ensures aside { (d : Task) → result
+            ≡ put_aside time change.now (slice_index_or self.old.tasks place d) }
     {
         // For the prover alone: a look at the seats brings that there are at most 64.
         let _ = self.seats.len();
-        turning::turn_settled(&mut self.tasks[place], &mut self.queue, place, time, change);
+        turning::turn_settled(&mut self.tasks[place], &mut self.queue, place, time, change)
     }
 
     /// Changes the task of a number, where it is listed.

@@ -4,7 +4,7 @@ use Rattle.std.specs.Prelude.{ℕ, ℤ, pos, neg_ℤ, ◌*◌, ◌+◌, ◌<◌,
 use Rattle.domain_run.specs.declared.task.Condition.TheVariants.{Leaving}
 use Rattle.domain_run.specs.declared.task.Task.{Task}
 use Rattle.domain_run.specs.declared.change.Change.{Change}
-use Rattle.domain_run.specs.declared.change.Change.TheVariants.{Replenish, Settle, Unblock, Run, Regrade, Release, End, Depart}
+use Rattle.domain_run.specs.declared.change.Change.TheVariants.{Replenish, Settle, Unblock, Run, RunAside, PutAside, TakeBack, Regrade, Release, End, Depart}
 use Rattle.domain_run.specs.declared.run_queue.RunQueue.{RunQueue}
 use Rattle.domain_run.specs.declared.standing.Standing.{Standing}
 use Rattle.domain_run.specs.Conditions.{is_ready, is_waiting}
@@ -67,12 +67,19 @@ pub record IsSeenAs (t : Task) (found : Option Task) : Type 0 where
 abbrev pub quit : Task → Task
 quit t = record t { condition = Leaving; zero_lag = None }
 
+-- a task without its zero-lag time
+abbrev pub bared : Task → Task
+bared t = record t { zero_lag = None }
+
 -- CHANGES of one task at a time: what a part of a tick does to it, or a call
 abbrev pub after_change : ℕ → Change → Task → Task
 after_change time Replenish t = replenish_due time t
 after_change time Settle t = settled time t
 after_change time Unblock t = unblocked time t
 after_change time (Run ticks left) t = ran_until time ticks left t
+after_change time (RunAside ticks left) t = bared (ran_until time ticks left t)
+after_change time PutAside t = bared t
+after_change time (TakeBack lag) t = record t { zero_lag = Some lag }
 after_change time (Regrade params) t = regraded params t
 after_change time Release t = released time t
 after_change time End t = ended time t
@@ -93,10 +100,27 @@ MayMake time Replenish t = time < 2 ^ 42
 MayMake time Settle t = Unit {0}
 MayMake time Unblock t = time < 2 ^ 42
 MayMake time (Run ticks left) t = MayRun time ticks left t
+MayMake time (RunAside ticks left) t = MayRun time ticks left t
+MayMake time PutAside t = Unit {0}
+MayMake time (TakeBack lag) t = Unit {0}
 MayMake time (Regrade params) t = Unit {0}
 MayMake time Release t = IsTrue (is_waiting t.condition) × (time ≤ 2 ^ 42)
 MayMake time End t = Unit {0}
 MayMake time Depart t = Unit {0}
+
+-- the zero-lag time that it puts aside: that with which a task stops that was running
+abbrev pub put_aside : ℕ → Change → Task → Option ℕ
+put_aside time Replenish t = None
+put_aside time Settle t = None
+put_aside time Unblock t = None
+put_aside time (Run ticks left) t = None
+put_aside time (RunAside ticks left) t = (ran_until time ticks left t).zero_lag
+put_aside time PutAside t = None
+put_aside time (TakeBack lag) t = None
+put_aside time (Regrade params) t = None
+put_aside time Release t = None
+put_aside time End t = None
+put_aside time Depart t = None
 
 -- what it needs of the domain
 abbrev pub Fits : ℕ → Change → Type 0
@@ -104,6 +128,9 @@ Fits cpus Replenish = Unit {0}
 Fits cpus Settle = Unit {0}
 Fits cpus Unblock = Unit {0}
 Fits cpus (Run ticks left) = Unit {0}
+Fits cpus (RunAside ticks left) = Unit {0}
+Fits cpus PutAside = Unit {0}
+Fits cpus (TakeBack lag) = Unit {0}
 Fits cpus (Regrade params) = params.bw ≤ 2 ^ 26
 Fits cpus Release = Unit {0}
 Fits cpus End = Unit {0}

@@ -4,7 +4,7 @@ use Rattle.std.specs.List.{flat_map}
 use Rattle.edf_pick.specs.Places.{Places}
 use Rattle.domain_run.specs.declared.task.Task.{Task}
 use Rattle.domain_run.specs.declared.change.Change.{Change}
-use Rattle.domain_run.specs.declared.change.Change.TheVariants.{Replenish, Settle, Unblock, Run, Regrade, Release, End, Depart}
+use Rattle.domain_run.specs.declared.change.Change.TheVariants.{Replenish, Settle, Unblock, Run, RunAside, PutAside, TakeBack, Regrade, Release, End, Depart}
 use Rattle.domain_run.specs.declared.happened.What.{What}
 use Rattle.domain_run.specs.declared.happened.What.TheVariants.{JobEnds, NextReleased, Spent, Replenished, Released, WokenSpent}
 use Rattle.domain_run.specs.declared.happened.Happened.{Happened}
@@ -23,12 +23,16 @@ told_until time ticks left t =
     told_by_work time (record t { server = record t.server { left = left }; work = t.work - ticks })
     ++ told_by_budget time (ran_until time ticks left t)
 
--- what a change of a task tells; that of a call tells nothing here
+-- what a change of a task tells; that of a call tells nothing here, nor does one that puts a
+-- zero-lag time aside, which is made of no domain whose log is told
 abbrev pub told_by_change : ℕ → Change → Task → List Happened
 told_by_change time Replenish t = told_by_replenishment time t
 told_by_change time Settle t = []
 told_by_change time Unblock t = told_by_unblocking time t
 told_by_change time (Run ticks left) t = told_until time ticks left t
+told_by_change time (RunAside ticks left) t = []
+told_by_change time PutAside t = []
+told_by_change time (TakeBack lag) t = []
 told_by_change time (Regrade params) t = []
 told_by_change time Release t = []
 told_by_change time End t = []
@@ -72,6 +76,9 @@ is_late_in time Replenish t = false
 is_late_in time Settle t = false
 is_late_in time Unblock t = false
 is_late_in time (Run ticks left) t = (t.work - ticks == 0) && passes_late_timer t.cursor time
+is_late_in time (RunAside ticks left) t = false
+is_late_in time PutAside t = false
+is_late_in time (TakeBack lag) t = false
 is_late_in time (Regrade params) t = false
 is_late_in time Release t = false
 is_late_in time End t = false
@@ -105,6 +112,9 @@ told_behind time (Run ticks left) before t = record {
       (NextReleased (job_due time t));
   third = told_if (is_throttled t.condition) time t (Spent (due t));
 }
+told_behind time (RunAside ticks left) before t = nothing
+told_behind time PutAside before t = nothing
+told_behind time (TakeBack lag) before t = nothing
 told_behind time (Regrade params) before t = nothing
 told_behind time Release before t = nothing
 told_behind time End before t = nothing

@@ -10,7 +10,7 @@ use super::Roster;
 use crate::change::Change;
 
 /// What so many ticks at a rate take of a budget that lasts until the last of them.
-fn used_in(left: i128, rate: u64, ticks: u64) -> u64
+pub(super) fn used_in(left: i128, rate: u64, ticks: u64) -> u64
     requires some { 0 < ticks }
     requires slow { rate ≤ 2 ^ 27 }
     requires high { left ≤ℤ pos (2 ^ 52) }
@@ -21,7 +21,7 @@ fn used_in(left: i128, rate: u64, ticks: u64) -> u64
     rate * (ticks - 1) + rate
 }
 
-fn left_after(left: i128, used: u64) -> i128
+pub(super) fn left_after(left: i128, used: u64) -> i128
     requires lifted { pos 0 <ℤ left }
     requires high { left ≤ℤ pos (2 ^ 52) }
     requires small { used ≤ 2 ^ 53 }
@@ -32,7 +32,7 @@ fn left_after(left: i128, used: u64) -> i128
 
 impl Roster {
     /// The place of the task of a number, where it is listed and belongs to a CPU.
-    fn place_on(&self, number: u32, cpu: usize) -> Option<usize>
+    pub(super) fn place_on(&self, number: u32, cpu: usize) -> Option<usize>
         ensures there { IfSome result (IsAt self.now.tasks number) }
         ensures home { IfSome result
             (λ place. (d : Task) → (slice_index_or self.now.tasks place d).cpu ≡ cpu) }

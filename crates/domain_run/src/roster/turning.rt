@@ -4,7 +4,7 @@
 ghost use Rattle.std.specs.Prelude.{◌≡◌, ◌<◌, ◌≤◌, All, IfSome, None, Some, is_some, length, slice_index_or, vec_capacity};
 ghost use Rattle.domain_run.specs.declared.task.Task.{Task};
 ghost use Rattle.domain_run.specs.Sound.{IsSound};
-ghost use Rattle.domain_run.specs.private.Roster.{after_change, MayMake, Fits};
+ghost use Rattle.domain_run.specs.private.Roster.{after_change, put_aside, MayMake, Fits};
 ghost use Rattle.domain_run.specs.private.RunQueue as spec;
 ghost use Rattle.due_times.specs.Seats as seats_spec;
 ghost use Rattle.domain_run.specs.private.Waiting as waiting;
@@ -51,7 +51,7 @@ pub(super) fn settle(task: &mut Task, seats: &mut Seats) -> bool
     true
 }
 
-/// Makes a change of a task, and tells the run queue.
+/// Makes a change of a task, and tells the run queue. The zero-lag time that it puts aside.
 #[inline(always)]
 pub(super) fn turn_settled(
     task: &mut Task,
@@ -59,7 +59,7 @@ pub(super) fn turn_settled(
     place: usize,
     time: u64,
     change: &Change,
-)
+) -> Option<u64>
     requires narrow { length queue.old.accounts.all ≤ 64 }
     requires sound { IsSound time task.old }
     requires may { MayMake time change.now task.old }
@@ -70,11 +70,14 @@ pub(super) fn turn_settled(
     ensures sound { IsSound time task.new }
     ensures turned { spec.HasTurned place task.old.number task.old.cpu
         (spec.standing_of task.old) (spec.standing_of task.new) queue.old queue.new }
+    ensures aside { result ≡ put_aside time change.now task.old }
 {
     let (number, cpu) = (task.number, task.cpu);
-    if let Some(before) = make(task, time, change) {
-        queue.turn(place, number, cpu, &before, &standing_of(task));
-    }
+    let Some(made) = make(task, time, change) else {
+        return None;
+    };
+    queue.turn(place, number, cpu, &made.before, &standing_of(task));
+    made.aside
 }
 
 /// A task sits on a CPU no more; on one of them it does not sit as it is.

@@ -1,0 +1,166 @@
+-- Zero-lag times are put aside where running tasks stop: what is left of each is the same.
+use Rattle.std.proofs.Common.{◌≡◌, ◌≢◌, ℕ, zero, suc, ◌+◌, ◌-◌, ◌*◌, ◌/◌, ◌<◌, ◌≤◌, Bool, true, false, cond, eqb, ◌||◌, Option, Some, None, List, [], ◌∷◌, length, map, get_or, set, refl, sym, ap, ◌∙◌, subst, arith, eq-eqb}
+use Rattle.std.specs.Prelude.{ℤ, pos, nat_le, ◌-ℤ◌, All, AllPairs, IfSome}
+use Rattle.std.proofs.lemmas.Bool.{le-leb, leb-true}
+use Rattle.std.proofs.lemmas.List.{get_or_default, get_or-map, length-map}
+use Rattle.std.proofs.lemmas.List.Elements.{All-map}
+use Rattle.attr_check.specs.ParamsView.{ParamsView}
+use Rattle.cbs_rules.specs.declared.server.Server.{Server}
+use Rattle.cbs_rules.specs.Budget.{budget, above_zero}
+use Rattle.cbs_rules.specs.Serving.{is_spent}
+use Rattle.grub_rules.specs.Lag as lag
+use Rattle.due_times.specs.declared.seats.Seat.{Seat}
+use Rattle.task_script.specs.declared.script.Segment.{Segment}
+use Rattle.task_script.specs.declared.script.Segment.TheVariants.{Run as RunFor, Until, Wait as WaitFor, End}
+use Rattle.task_script.specs.script.Segments.{asked}
+use Rattle.domain_run.specs.declared.task.Task.{Task}
+use Rattle.domain_run.specs.declared.task.Condition.{Condition}
+use Rattle.domain_run.specs.declared.task.Condition.TheVariants.{Ready, Throttled, Blocked, Waiting, Leaving}
+use Rattle.domain_run.specs.Conditions.{is_contending}
+use Rattle.domain_run.specs.Parts.{running_on, stopped, went_on, goes_on}
+use Rattle.domain_run.specs.private.Paying.{ran_until}
+use Rattle.domain_run.specs.private.Roster.{bared}
+use Rattle.domain_run.specs.private.Dozing.{with_lag, with_lags, passed_bare, IsBare}
+use Rattle.domain_run.specs.private.Waiting.{seat_of, owed, Waits, WaitsIf, AllWait, passed_by, passed}
+use Rattle.domain_run.proofs.Jumping.{map_twice}
+use Rattle.domain_run.proofs.Later.{map_set_to, orphan_passes, seat_seen, pass_one, pass_view}
+use Rattle.domain_run.proofs.Paying.{same_ran_until, is_Ready}
+use Rattle.domain_run.proofs.Staying.{map_itself}
+use Rattle.domain_run.proofs.Waiting.{alike_owed}
+use Rattle.domain_run.proofs.Placing.{one_index}
+use Rattle.domain_run.proofs.Seatings.{nobody_here, same_stranger}
+use Rattle.due_times.specs.Seats.{seat_by, IsAhead}
+use Rattle.domain_run.proofs.Dozing.{either_lag, lag_contending, lags_all, lags_map, read_lags, length_lags}
+
+-- ---- A TASK THAT STOPS with a zero-lag time has it again
+
+kept_none : (past : ℕ) (u : Task) → u.zero_lag ≡ None → with_lag past u.zero_lag (bared u) ≡ u
+kept_none past u none = ap (λ o. with_lag past o (bared u)) none ∙ (λ i. record u { zero_lag = (sym none) i })
+
+-- the time with which a task stops is ahead
+stop_lag : (past time : ℕ) (p : ParamsView) (s : Server) (P : Option ℕ → Type 0) → past ≤ time → P None → ((z : ℕ) → nat_le z past ≡ false → P (Some z)) → P (lag.zero_lag p time s)
+stop_lag past time p s P order none some = elim s.deadline as (λ o. P (lag.lag_at p time o s.left)) [
+  | None ↦ none
+  | Some d ↦ by_test (d - above_zero s.left * p.period / budget p) (nat_le (d - above_zero s.left * p.period / budget p) time) refl
+]
+  where
+    by_test : (z : ℕ) (b : Bool) → nat_le z time ≡ b → P (cond b None (Some z))
+    by_test z true e = none
+    by_test z false e = some z (by_past (nat_le z past) refl)
+      where
+        by_past : (b : Bool) → nat_le z past ≡ b → nat_le z past ≡ false
+        by_past true f = absurd (let h : z ≤ time = omega (arith, order, leb-true z past f) in let g : true ≡ false = sym (le-leb z time h) ∙ e in cc)
+        by_past false f = f
+
+stop_back : (past time : ℕ) (k : Condition) (u : Task) → past ≤ time → is_contending k ≡ false → with_lag past (stopped time k u).zero_lag (bared (stopped time k u)) ≡ stopped time k u
+stop_back past time k u order resting = stop_lag past time u.params u.server (λ o. with_lag past o (record u { condition = k; zero_lag = None }) ≡ record u { condition = k; zero_lag = o }) order refl (λ z ahead.
+    ap (λ b. cond (b || nat_le z past) (record u { condition = k; zero_lag = None }) (record u { condition = k; zero_lag = Some z })) resting
+    ∙ ap (λ b. cond b (record u { condition = k; zero_lag = None }) (record u { condition = k; zero_lag = Some z })) ahead)
+
+pub lag_back : (past time ticks : ℕ) (left : ℤ) (x : Task) → past ≤ time → x.zero_lag ≡ None → with_lag past (ran_until time ticks left x).zero_lag (bared (ran_until time ticks left x)) ≡ ran_until time ticks left x
+lag_back past time ticks left x order none =
+    let y : Task = record x { server = record x.server { left = left }; work = x.work - ticks } in
+    elim (eqb y.work 0) as (λ b. with_lag past (cond b (goes_on time y (asked y.cursor time)) (running_on y)).zero_lag (bared (cond b (goes_on time y (asked y.cursor time)) (running_on y))) ≡ cond b (goes_on time y (asked y.cursor time)) (running_on y)) [
+      | true ↦ went_back (asked y.cursor time).segment (record y { cursor = (asked y.cursor time).cursor }) none
+      | false ↦ kept_none past (running_on y) none
+    ]
+  where
+    went_back : (s : Segment) (u : Task) → u.zero_lag ≡ None → with_lag past (went_on time s u).zero_lag (bared (went_on time s u)) ≡ went_on time s u
+    went_back (RunFor n) u e = kept_none past (running_on (record u { work = n })) e
+    went_back (Until w) u e = stop_back past time (Blocked w) u order refl
+    went_back WaitFor u e = stop_back past time Waiting u order refl
+    went_back End u e = stop_back past time Leaving u order refl
+
+set_lags : (past : ℕ) (lags : List (Option ℕ)) (tasks : List Task) (p : ℕ) (l : Option ℕ) (t : Task) → p < length lags → p < length tasks → with_lags past (set lags p l) (set tasks p t) ≡ set (with_lags past lags tasks) p (with_lag past l t)
+set_lags past [] tasks p l t h g = absurd (omega (arith, h))
+set_lags past (o ∷ lags) [] p l t h g = absurd (omega (arith, g))
+set_lags past (o ∷ lags) (u ∷ tasks) zero l t h g = refl
+set_lags past (o ∷ lags) (u ∷ tasks) (suc p) l t h g = ap (λ ts. with_lag past o u ∷ ts) (set_lags past lags tasks p l t (omega (arith, h)) (omega (arith, g)))
+
+-- ---- ONE CPU, whose seat is left
+
+module _ (time k cpu : ℕ) (seats : List (Option Seat)) (tasks : List Task) (s : Seat) (there : get_or seats cpu None ≡ Some s) where
+  bare_twice : (seats : List (Option Seat)) (ts : List Task) → map (passed_bare time k seats) ts ≡ map bared (map (passed time k seats) ts)
+  bare_twice seats ts = sym (map_twice bared (passed time k seats) (passed_bare time k seats) ts (λ i d h. refl))
+
+  -- no listed task sits there
+  pub orphan_bare : All (λ t. t.number ≡ s.number → t.cpu ≡ cpu → ⊥) tasks → map (passed_bare time k (set seats cpu None)) tasks ≡ map (passed_bare time k seats) tasks
+  orphan_bare none = bare_twice (set seats cpu None) tasks ∙ ap (map bared) (orphan_passes time k cpu seats tasks s there none) ∙ sym (bare_twice seats tasks)
+
+  pub orphan_lags : (past : ℕ) (lags : List (Option ℕ)) → All (λ t. t.number ≡ s.number → t.cpu ≡ cpu → ⊥) tasks → map (passed time k (set seats cpu None)) (with_lags past lags tasks) ≡ map (passed time k seats) (with_lags past lags tasks)
+  orphan_lags past lags none = orphan_passes time k cpu seats (with_lags past lags tasks) s there (lags_all (λ t. t.number ≡ s.number → t.cpu ≡ cpu → ⊥) past lags tasks (λ i d h l. either_lag (λ u. u.number ≡ s.number → u.cpu ≡ cpu → ⊥) past l (get_or tasks i d) (none i d h) (λ z. none i d h)))
+
+  module _ (p : ℕ) (x : Task) (inside : p < length tasks) (read : x ≡ get_or tasks p x) (number : x.number ≡ s.number) (home : x.cpu ≡ cpu) (numbered : AllPairs (λ a b. a.number ≢ b.number) tasks) where
+    sits_there : seat_of seats x ≡ Some s
+    sits_there = ap (λ c. seat_by x.number (get_or seats c None)) home ∙ ap (seat_by x.number) there ∙ ap (λ b. cond b (Some s) None) (eq-eqb s.number x.number (sym number))
+
+    apart : (i : ℕ) (d : Task) → i < length tasks → i ≢ p → (get_or tasks i d).number ≢ s.number
+    apart i d h other e = other (one_index tasks i p d d numbered h inside (e ∙ sym number ∙ ap (λ (t : Task). t.number) (read ∙ get_or_default tasks p x d inside)))
+
+    is_there : (d : Task) → get_or tasks p d ≡ x
+    is_there d = sym (read ∙ get_or_default tasks p x d inside)
+
+    pub finished_bare : (y : Task) → y.cpu ≡ x.cpu → y ≡ ran_until time k (x.server.left -ℤ pos (s.rate * k)) x → map (passed_bare time k (set seats cpu None)) (set tasks p (bared y)) ≡ map (passed_bare time k seats) tasks
+    finished_bare y stays is =
+        map_set_to (passed_bare time k (set seats cpu None)) (passed_bare time k seats) tasks p (bared y)
+        (λ i d h other. ap (λ o. bared (passed_by time k o (get_or tasks i d))) (same_stranger seats cpu s (get_or tasks i d) there (apart i d h other)))
+        (λ d.
+        ap (λ o. bared (passed_by time k o (bared y))) (nobody_here seats cpu (bared y) (stays ∙ home))
+        ∙ ap bared is
+        ∙ sym (ap (passed_bare time k seats) (is_there d) ∙ ap (λ o. bared (passed_by time k o x)) sits_there))
+
+    pub finished_lags : (past : ℕ) (lags : List (Option ℕ)) (y : Task) → past ≤ time → p < length lags → x.zero_lag ≡ None → is_contending x.condition ≡ true → y.cpu ≡ x.cpu → y ≡ ran_until time k (x.server.left -ℤ pos (s.rate * k)) x → map (passed time k (set seats cpu None)) (with_lags past (set lags p y.zero_lag) (set tasks p (bared y))) ≡ map (passed time k seats) (with_lags past lags tasks)
+    finished_lags past lags y order wide none contends stays is =
+        let back : with_lag past y.zero_lag (bared y) ≡ y = subst (λ u. with_lag past u.zero_lag (bared u) ≡ u) (sym is) (lag_back past time k (x.server.left -ℤ pos (s.rate * k)) x order none) in
+        let many = length_lags past lags tasks in
+        ap (map (passed time k (set seats cpu None))) (set_lags past lags tasks p y.zero_lag (bared y) wide inside ∙ ap (set (with_lags past lags tasks) p) back)
+        ∙ map_set_to (passed time k (set seats cpu None)) (passed time k seats) (with_lags past lags tasks) p y
+        (λ i d h other.
+        let within : i < length tasks = omega (arith, h, many) in
+        let seen = read_lags past lags tasks i d within in
+        let one = either_lag (λ u. u.number ≡ (get_or tasks i d).number) past (get_or lags i None) (get_or tasks i d) refl (λ z. refl) in
+        ap (λ o. passed_by time k o (get_or (with_lags past lags tasks) i d)) (same_stranger seats cpu s (get_or (with_lags past lags tasks) i d) there (λ e. apart i d within other (sym (ap (λ (u : Task). u.number) seen ∙ one) ∙ e))))
+        (λ d.
+        ap (λ o. passed_by time k o y) (nobody_here seats cpu y (stays ∙ home))
+        ∙ is
+        ∙ sym (ap (passed time k seats) (read_lags past lags tasks p d inside ∙ ap (with_lag past (get_or lags p None)) (is_there d) ∙ lag_contending past (get_or lags p None) x contends) ∙ ap (λ o. passed_by time k o x) sits_there))
+
+-- ---- NONE ENDS
+
+module _ (upto time k : ℕ) (seats : List (Option Seat)) (items : List Task) (ahead : (t : Task) → IfSome (seat_of seats t) (λ s. IsAhead upto s × (upto + k < s.end))) (waits : AllWait seats items) where
+  one_lag : (past : ℕ) (lag : Option ℕ) (x : Task) → WaitsIf seats x → passed time k seats (with_lag past lag (owed upto seats x)) ≡ with_lag past lag (passed time k seats (owed upto seats x))
+  one_lag past lag x wait = by_seat (seat_of seats x) refl wait
+    where
+      same_seat : seat_of seats (with_lag past lag (owed upto seats x)) ≡ seat_of seats x
+      same_seat = either_lag (λ u. seat_of seats u ≡ seat_of seats x) past lag (owed upto seats x) (seat_seen upto seats x) (λ z. seat_seen upto seats x)
+
+      by_seat : (o : Option Seat) → seat_of seats x ≡ o → IfSome o (λ s. Waits s x) → passed time k seats (with_lag past lag (owed upto seats x)) ≡ with_lag past lag (passed time k seats (owed upto seats x))
+      by_seat None e w =
+          ap (λ o. passed_by time k o (with_lag past lag (owed upto seats x))) (same_seat ∙ e)
+          ∙ ap (with_lag past lag) (sym (ap (λ o. passed_by time k o (owed upto seats x)) (seat_seen upto seats x ∙ e)))
+      by_seat (Some s) e w =
+          let ready : is_contending x.condition ≡ true = ap is_contending (is_Ready x.condition w.ready) in
+          let before : is_contending (owed upto seats x).condition ≡ true = ap is_contending (alike_owed upto seats x).condition ∙ ready in
+          let after : is_contending (owed (upto + k) seats x).condition ≡ true = ap is_contending (alike_owed (upto + k) seats x).condition ∙ ready in
+          let made = pass_one upto time k seats x (seat_of seats x) refl (ahead x) wait in
+          ap (passed time k seats) (lag_contending past lag (owed upto seats x) before)
+          ∙ made
+          ∙ sym (lag_contending past lag (owed (upto + k) seats x) after)
+          ∙ ap (with_lag past lag) (sym made)
+
+  pub pass_lags : (past : ℕ) (lags : List (Option ℕ)) → with_lags past lags (map (owed (upto + k) seats) items) ≡ map (passed time k seats) (with_lags past lags (map (owed upto seats) items))
+  pass_lags past lags =
+      ap (with_lags past lags) (pass_view upto time k seats items ahead waits)
+      ∙ sym (lags_map (passed time k seats) (passed time k seats) past past lags (map (owed upto seats) items) (All-map (λ t. (lag : Option ℕ) → passed time k seats (with_lag past lag t) ≡ with_lag past lag (passed time k seats t)) (owed upto seats) items (λ i d h lag. one_lag past lag (get_or items i d) (waits i d h))))
+
+  pub pass_bare : All IsBare (map (owed upto seats) items) → map (owed (upto + k) seats) items ≡ map (passed_bare time k seats) (map (owed upto seats) items)
+  pass_bare bare =
+      let many : length (map (owed upto seats) items) ≡ length items = simp length-map in
+      let same = map_itself bared (map (owed (upto + k) seats) items) (All-map (λ t. bared t ≡ t) (owed (upto + k) seats) items (λ i d h.
+          let x = get_or items i d in
+          let none : x.zero_lag ≡ None = sym (alike_owed upto seats x).zero_lag ∙ ap (λ (t : Task). t.zero_lag) (sym (get_or-map (owed upto seats) items i d d h)) ∙ (bare i d (omega (arith, h, many))).lag in
+          let after : (owed (upto + k) seats x).zero_lag ≡ None = (alike_owed (upto + k) seats x).zero_lag ∙ none in
+          λ j. record (owed (upto + k) seats x) { zero_lag = (sym after) j })) in
+      sym same
+      ∙ ap (map bared) (pass_view upto time k seats items ahead waits)
+      ∙ map_twice bared (passed time k seats) (passed_bare time k seats) (map (owed upto seats) items) (λ i d h. refl)

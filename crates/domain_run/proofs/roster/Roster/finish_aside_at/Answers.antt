@@ -1,0 +1,166 @@
+use Rattle.std.proofs.Common.{rules, ℕ, ◌≡◌, ◌≢◌, ◌<◌, ◌≤◌, ◌-◌, ◌*◌, ◌^◌, true, false, Some, None, length, refl, arith, map, get_or, set, sym, ap, subst, ◌∙◌}
+use Rattle.std.specs.Prelude.{ℤ, pos, ◌-ℤ◌, ◌<ℤ◌, ◌≤ℤ◌, All, AllPairs}
+use Rattle.std.proofs.Math.Facts.{to_z-of_z}
+use mir.Syntax.{w128}
+use mir.Val.{SFits, of_z, to_z}
+use Rattle.std.proofs.lemmas.List.{get_or_default}
+use Rattle.domain_run.specs.declared.task.Task.{Task}
+use Rattle.domain_run.specs.private.Paying.{ran_until}
+use Rattle.domain_run.specs.private.Roster.{RosterView, MayRun, bared}
+use Rattle.domain_run.specs.private.Dozing.{with_lags, passed_bare, IsBare}
+use Rattle.domain_run.specs.Conditions.{is_contending}
+use Rattle.std.proofs.lemmas.List.Elements.{All-set}
+use Rattle.domain_run.proofs.Aside.{orphan_bare, orphan_lags, finished_bare, finished_lags}
+use Rattle.domain_run.specs.private.Waiting.{passed}
+use Rattle.domain_run.proofs.Paying.{same_ran_until, is_Ready}
+use Rattle.domain_run.proofs.Seatings.{none_at}
+use Rattle.domain_run.proofs.Later.{facts_of, times_one}
+use Rattle.domain_run.proofs.roster.Roster.finish_aside_at.Goals as goal
+
+pub returns-in_default-at-clause-tasks : goal.returns-in_default-at-clause-tasks
+returns-in_default-at-clause-tasks c =
+    let old = c.args.self.now in
+    let seat = c.in-Some.seat in
+    let sits : get_or old.seats c.args.cpu None ≡ Some seat = ap (λ (r : RosterView). get_or r.seats c.args.cpu None) (sym c.self.view_is) ∙ sym c.in-Some.ensures.seat in
+    ap (λ (r : RosterView). map (passed_bare c.args.time c.args.ticks r.seats) r.tasks) c.vacate.ensures
+    ∙ orphan_bare c.args.time c.args.ticks c.args.cpu old.seats old.tasks seat sits c.in_default-at.ensures.absent
+
+pub returns-in_default-at-clause-lags : goal.returns-in_default-at-clause-lags
+returns-in_default-at-clause-lags c past order =
+    let old = c.args.self.now in
+    let seat = c.in-Some.seat in
+    let sits : get_or old.seats c.args.cpu None ≡ Some seat = ap (λ (r : RosterView). get_or r.seats c.args.cpu None) (sym c.self.view_is) ∙ sym c.in-Some.ensures.seat in
+    ap (λ (r : RosterView). map (passed c.args.time c.args.ticks r.seats) (with_lags past c.args.lags.now r.tasks)) c.vacate.ensures
+    ∙ orphan_lags c.args.time c.args.ticks c.args.cpu old.seats old.tasks seat sits past c.args.lags.now c.in_default-at.ensures.absent
+
+pub used_in-requires-clause-high : goal.used_in-requires-clause-high
+used_in-requires-clause-high c =
+    let left = c.index.result.now.server.left in
+    let fits : SFits w128 left = search rules in
+    let value : to_z w128 (of_z w128 left) ≡ left = to_z-of_z {w = w128} {z = left} fits in
+    let f = facts_of c.args.self.now c.vacate_at.new.self c.args.time c.args.ticks c.args.cpu c.in-Some-at.place c.in-Some.seat c.index.result.now c.self.inside.queue c.self-2.inside.queue c.self.inside.seats c.self-2.inside.seats c.self.inside.tasks.items c.self-2.inside.tasks.items c.vacate_at.ensures c.self.view_is c.self.invariant.waits c.self-2.view_is c.in-Some.ensures.seat c.in-Some.ensures.ahead c.in-Some-at.ensures.there c.in-Some-at.ensures.home c.index.ensures c.requires.some c.requires.early c.requires.ends c.requires.sound in
+    subst (λ (z : ℤ). z ≤ℤ pos (2 ^ 52)) (sym value) f.fin.high
+
+pub used_in-requires-clause-lasted : goal.used_in-requires-clause-lasted
+used_in-requires-clause-lasted c =
+    let left = c.index.result.now.server.left in
+    let fits : SFits w128 left = search rules in
+    let value : to_z w128 (of_z w128 left) ≡ left = to_z-of_z {w = w128} {z = left} fits in
+    let f = facts_of c.args.self.now c.vacate_at.new.self c.args.time c.args.ticks c.args.cpu c.in-Some-at.place c.in-Some.seat c.index.result.now c.self.inside.queue c.self-2.inside.queue c.self.inside.seats c.self-2.inside.seats c.self.inside.tasks.items c.self-2.inside.tasks.items c.vacate_at.ensures c.self.view_is c.self.invariant.waits c.self-2.view_is c.in-Some.ensures.seat c.in-Some.ensures.ahead c.in-Some-at.ensures.there c.in-Some-at.ensures.home c.index.ensures c.requires.some c.requires.early c.requires.ends c.requires.sound in
+    subst (λ (z : ℤ). pos (c.in-Some.seat.rate * (c.args.ticks - 1)) <ℤ z) (sym value) f.fin.lasts.lasted
+
+pub left_after-left-requires-clause-lifted : goal.left_after-left-requires-clause-lifted
+left_after-left-requires-clause-lifted c =
+    let left = c.index.result.now.server.left in
+    let fits : SFits w128 left = search rules in
+    let value : to_z w128 (of_z w128 left) ≡ left = to_z-of_z {w = w128} {z = left} fits in
+    let f = facts_of c.args.self.now c.vacate_at.new.self c.args.time c.args.ticks c.args.cpu c.in-Some-at.place c.in-Some.seat c.index.result.now c.self.inside.queue c.self-2.inside.queue c.self.inside.seats c.self-2.inside.seats c.self.inside.tasks.items c.self-2.inside.tasks.items c.vacate_at.ensures c.self.view_is c.self.invariant.waits c.self-2.view_is c.in-Some.ensures.seat c.in-Some.ensures.ahead c.in-Some-at.ensures.there c.in-Some-at.ensures.home c.index.ensures c.requires.some c.requires.early c.requires.ends c.requires.sound in
+    subst (λ (z : ℤ). pos 0 <ℤ z) (sym value) f.fin.lifted
+
+pub left_after-left-requires-clause-high : goal.left_after-left-requires-clause-high
+left_after-left-requires-clause-high c =
+    let left = c.index.result.now.server.left in
+    let fits : SFits w128 left = search rules in
+    let value : to_z w128 (of_z w128 left) ≡ left = to_z-of_z {w = w128} {z = left} fits in
+    let f = facts_of c.args.self.now c.vacate_at.new.self c.args.time c.args.ticks c.args.cpu c.in-Some-at.place c.in-Some.seat c.index.result.now c.self.inside.queue c.self-2.inside.queue c.self.inside.seats c.self-2.inside.seats c.self.inside.tasks.items c.self-2.inside.tasks.items c.vacate_at.ensures c.self.view_is c.self.invariant.waits c.self-2.view_is c.in-Some.ensures.seat c.in-Some.ensures.ahead c.in-Some-at.ensures.there c.in-Some-at.ensures.home c.index.ensures c.requires.some c.requires.early c.requires.ends c.requires.sound in
+    subst (λ (z : ℤ). z ≤ℤ pos (2 ^ 52)) (sym value) f.fin.high
+
+pub turn_charged-requires-clause-may : goal.turn_charged-requires-clause-may
+turn_charged-requires-clause-may c d =
+    let left = c.index.result.now.server.left in
+    let fits : SFits w128 left = search rules in
+    let value : to_z w128 (of_z w128 left) ≡ left = to_z-of_z {w = w128} {z = left} fits in
+    let new = c.left_after-left.result in
+    let fits2 : SFits w128 new = search rules in
+    let value2 : to_z w128 (of_z w128 new) ≡ new = to_z-of_z {w = w128} {z = new} fits2 in
+    let used : c.used_in.result ≡ c.in-Some.seat.rate * c.args.ticks = c.used_in.ensures.used ∙ times_one c.in-Some.seat.rate c.args.ticks c.requires.some in
+    let left_is : to_z w128 (of_z w128 new) ≡ left -ℤ pos (c.in-Some.seat.rate * c.args.ticks) = value2 ∙ c.left_after-left.ensures ∙ (λ i. value i -ℤ pos (used i)) in
+    let f = facts_of c.args.self.now c.vacate_at.new.self c.args.time c.args.ticks c.args.cpu c.in-Some-at.place c.in-Some.seat c.index.result.now c.self.inside.queue c.self-2.inside.queue c.self.inside.seats c.self-2.inside.seats c.self.inside.tasks.items c.self-2.inside.tasks.items c.vacate_at.ensures c.self.view_is c.self.invariant.waits c.self-2.view_is c.in-Some.ensures.seat c.in-Some.ensures.ahead c.in-Some-at.ensures.there c.in-Some-at.ensures.home c.index.ensures c.requires.some c.requires.early c.requires.ends c.requires.sound in
+    let x = c.index.result.now in
+    let p = c.in-Some-at.place in
+    let is : x ≡ get_or c.vacate_at.new.self.tasks p d = f.read ∙ get_or_default c.args.self.now.tasks p x d c.in-Some-at.ensures.there.within ∙ ap (λ (r : RosterView). get_or r.tasks p d) (sym c.vacate_at.ensures) in
+    subst (MayRun c.args.time c.args.ticks (to_z w128 (of_z w128 new))) is (subst (λ (z : ℤ). MayRun c.args.time c.args.ticks z x) (sym left_is) f.fin.may)
+
+pub turn_charged-requires-clause-free : goal.turn_charged-requires-clause-free
+turn_charged-requires-clause-free c d =
+    let old = c.args.self.now in
+    let p = c.in-Some-at.place in
+    ap (λ (r : RosterView). get_or r.seats (get_or r.tasks p d).cpu None) c.vacate_at.ensures
+    ∙ ap (λ (n : ℕ). get_or (set old.seats c.args.cpu None) n None) (c.in-Some-at.ensures.home d)
+    ∙ none_at old.seats c.args.cpu
+
+pub returns-clause-seats : goal.returns-clause-seats
+returns-clause-seats c = c.turn_charged.ensures.seats ∙ ap (λ (r : RosterView). r.seats) c.vacate_at.ensures
+
+-- what the task there becomes
+pub record IsFinished (c : goal.After-turn_charged) : Type 0 where
+  pub sits : get_or c.args.self.now.seats c.args.cpu None ≡ Some c.in-Some.seat
+  pub read : c.index.result.now ≡ get_or c.args.self.now.tasks c.in-Some-at.place c.index.result.now
+  pub home : c.index.result.now.cpu ≡ c.args.cpu
+  pub number : c.index.result.now.number ≡ c.in-Some.seat.number
+  pub contends : is_contending c.index.result.now.condition ≡ true
+  pub numbered : AllPairs (λ a b. a.number ≢ b.number) c.args.self.now.tasks
+  pub seats : c.turn_charged.new.self.seats ≡ set c.args.self.now.seats c.args.cpu None
+  pub tasks : c.turn_charged.new.self.tasks ≡ set c.args.self.now.tasks c.in-Some-at.place (bared (ran_until c.args.time c.args.ticks (c.index.result.now.server.left -ℤ pos (c.in-Some.seat.rate * c.args.ticks)) c.index.result.now))
+  pub aside : c.turn_charged.result ≡ (ran_until c.args.time c.args.ticks (c.index.result.now.server.left -ℤ pos (c.in-Some.seat.rate * c.args.ticks)) c.index.result.now).zero_lag
+
+finished : (c : goal.After-turn_charged) → IsFinished c
+finished c =
+    let left = c.index.result.now.server.left in
+    let fits : SFits w128 left = search rules in
+    let value : to_z w128 (of_z w128 left) ≡ left = to_z-of_z {w = w128} {z = left} fits in
+    let new = c.left_after-left.result in
+    let fits2 : SFits w128 new = search rules in
+    let value2 : to_z w128 (of_z w128 new) ≡ new = to_z-of_z {w = w128} {z = new} fits2 in
+    let used : c.used_in.result ≡ c.in-Some.seat.rate * c.args.ticks = c.used_in.ensures.used ∙ times_one c.in-Some.seat.rate c.args.ticks c.requires.some in
+    let left_is : to_z w128 (of_z w128 new) ≡ left -ℤ pos (c.in-Some.seat.rate * c.args.ticks) = value2 ∙ c.left_after-left.ensures ∙ (λ i. value i -ℤ pos (used i)) in
+    let f = facts_of c.args.self.now c.vacate_at.new.self c.args.time c.args.ticks c.args.cpu c.in-Some-at.place c.in-Some.seat c.index.result.now c.self.inside.queue c.self-2.inside.queue c.self.inside.seats c.self-2.inside.seats c.self.inside.tasks.items c.self-2.inside.tasks.items c.vacate_at.ensures c.self.view_is c.self.invariant.waits c.self-2.view_is c.in-Some.ensures.seat c.in-Some.ensures.ahead c.in-Some-at.ensures.there c.in-Some-at.ensures.home c.index.ensures c.requires.some c.requires.early c.requires.ends c.requires.sound in
+    let mid = c.vacate_at.new.self in
+    let x = c.index.result.now in
+    let p = c.in-Some-at.place in
+    let k = c.args.ticks in
+    let y : ℤ → Task = λ z. bared (ran_until c.args.time k z x) in
+    let is : get_or mid.tasks p x ≡ x = sym (f.read ∙ ap (λ (r : RosterView). get_or r.tasks p x) (sym c.vacate_at.ensures)) in
+    record {
+      sits = f.sits;
+      read = f.read;
+      home = f.home;
+      number = f.number;
+      contends = ap is_contending (is_Ready x.condition f.fin.lasts.ready);
+      numbered = subst (λ (r : RosterView). AllPairs (λ a b. a.number ≢ b.number) r.tasks) c.self.view_is c.self.invariant.counted.roster.numbered;
+      seats = c.turn_charged.ensures.seats ∙ ap (λ (r : RosterView). r.seats) c.vacate_at.ensures;
+      tasks = c.turn_charged.ensures.step.is x ∙ ap (λ (t : Task). set mid.tasks p (bared (ran_until c.args.time k (to_z w128 (of_z w128 new)) t))) is ∙ ap (λ (r : RosterView). set r.tasks p (y (to_z w128 (of_z w128 new)))) c.vacate_at.ensures ∙ ap (λ (z : ℤ). set c.args.self.now.tasks p (y z)) left_is;
+      aside = c.turn_charged.ensures.aside x ∙ ap (λ (t : Task). (ran_until c.args.time k (to_z w128 (of_z w128 new)) t).zero_lag) is ∙ ap (λ (z : ℤ). (ran_until c.args.time k z x).zero_lag) left_is;
+    }
+
+pub returns-clause-tasks : goal.returns-clause-tasks
+returns-clause-tasks c =
+    let f = finished c in
+    let old = c.args.self.now in
+    let x = c.index.result.now in
+    let k = c.args.ticks in
+    let z = x.server.left -ℤ pos (c.in-Some.seat.rate * k) in
+    (λ i. map (passed_bare c.args.time k (f.seats i)) (f.tasks i))
+    ∙ finished_bare c.args.time k c.args.cpu old.seats old.tasks c.in-Some.seat f.sits c.in-Some-at.place x c.in-Some-at.ensures.there.within f.read f.number f.home f.numbered (ran_until c.args.time k z x) (same_ran_until c.args.time k z x).cpu refl
+
+pub returns-clause-lags : goal.returns-clause-lags
+returns-clause-lags c past order =
+    let f = finished c in
+    let old = c.args.self.now in
+    let x = c.index.result.now in
+    let k = c.args.ticks in
+    let p = c.in-Some-at.place in
+    let z = x.server.left -ℤ pos (c.in-Some.seat.rate * k) in
+    let bare : x.zero_lag ≡ None = ap (λ (t : Task). t.zero_lag) f.read ∙ (c.requires.bare p x c.in-Some-at.ensures.there.within).lag in
+    (λ i. map (passed c.args.time k (f.seats i)) (with_lags past (set c.args.lags.now p (f.aside i)) (f.tasks i)))
+    ∙ finished_lags c.args.time k c.args.cpu old.seats old.tasks c.in-Some.seat f.sits p x c.in-Some-at.ensures.there.within f.read f.number f.home f.numbered past c.args.lags.now (ran_until c.args.time k z x) order (omega (arith, c.in-Some-at.ensures.there.within, c.self.invariant.counted.roster.few, ap (λ (r : RosterView). length r.tasks) c.self.view_is)) bare f.contends (same_ran_until c.args.time k z x).cpu refl
+
+pub returns-clause-bare : goal.returns-clause-bare
+returns-clause-bare c =
+    let f = finished c in
+    let x = c.index.result.now in
+    let k = c.args.ticks in
+    let p = c.in-Some-at.place in
+    let z = x.server.left -ℤ pos (c.in-Some.seat.rate * k) in
+    let fixed : x.params.reclaim ≡ false = ap (λ (t : Task). t.params.reclaim) f.read ∙ (c.requires.bare p x c.in-Some-at.ensures.there.within).fixed in
+    subst (λ ts. All IsBare ts) (sym f.tasks) (All-set IsBare c.args.self.now.tasks p (bared (ran_until c.args.time k z x)) (record { lag = refl; fixed = ap (λ q. q.reclaim) (same_ran_until c.args.time k z x).params ∙ fixed }) c.requires.bare)

@@ -1,0 +1,26 @@
+use Rattle.std.proofs.Common.{◌≡◌, ◌<◌, ◌∙◌, ◌||◌, true, length, get_or, sym, ap, subst}
+use Rattle.std.specs.Prelude.{nat_le}
+use Rattle.domain_run.specs.declared.task.Task.{Task}
+use Rattle.domain_run.specs.Conditions.{is_contending}
+use Rattle.domain_run.specs.private.Dozing.{with_lag}
+use Rattle.domain_run.specs.private.Roster.{RosterView}
+use Rattle.domain_run.specs.private.Timers.{IsStep}
+use Rattle.domain_run.specs.private.Waiting.{owed_all}
+use Rattle.domain_run.proofs.Due.{step_none}
+use Rattle.domain_run.proofs.Dozing.{lag_gone, seen_alike, false_not}
+use Rattle.domain_run.proofs.roster.Roster.take_back_at.Goals as goal
+
+pub returns-else-is_ahead-clause-step : goal.returns-else-is_ahead-clause-step
+returns-else-is_ahead-clause-step c =
+    let s = c.self.inside in
+    let p = c.args.place in
+    let past = c.args.past in
+    let z = c.in-Some.lag in
+    let raw = c.index.result.now in
+    let seen = owed_all s.seats s.tasks.items in
+    let there = subst (λ (r : RosterView). p < length r.tasks) (sym c.self.view_is) c.requires.there in
+    let gone : (is_contending raw.condition || nat_le z past) ≡ true = false_not (is_contending raw.condition || nat_le z past) (sym c.is_ahead.ensures ∙ c.if-is_ahead.false) in
+    let still = step_none seen p (with_lag past c.args.lag) (λ d.
+        ap (λ o. with_lag past o (get_or seen p d)) c.in-Some.is
+        ∙ lag_gone past z (get_or seen p d) (ap (λ k. is_contending k || nat_le z past) (seen_alike s.seats s.tasks.items p raw d there c.index.ensures).condition ∙ gone)) in
+    subst (λ (r : RosterView). IsStep (with_lag past c.args.lag) p r.tasks r.tasks) c.self.view_is still

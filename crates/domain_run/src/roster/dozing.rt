@@ -1,0 +1,186 @@
+//! Zero-lag times that are put aside. Where no task of a domain reclaims nobody looks at them: no
+//! rate depends on the bandwidth that is active, and a zero-lag time that comes changes no CPU. So a
+//! long advance puts each aside when its task stops, and goes past it; at its end those that are
+//! still ahead come back.
+
+ghost use Rattle.std.specs.Prelude.{ℕ, ◌||◌, not, nat_le, ◌≡◌, ◌<◌, ◌≤◌, ◌+◌, ◌^◌, IsTrue, All, IfSome, None, map, length, slice_index_or, slice_set};
+ghost use Rattle.domain_run.specs.declared.task.Task.{Task};
+ghost use Rattle.domain_run.specs.Conditions.{is_contending};
+ghost use Rattle.domain_run.specs.Sound.{IsSound};
+ghost use Rattle.domain_run.specs.private.Dozing.{with_lag, with_lags, IsBare, MayDoze, passed_bare};
+ghost use Rattle.domain_run.specs.private.Roster.{bared};
+ghost use Rattle.domain_run.specs.private.Timers.{IsStep};
+ghost use Rattle.domain_run.specs.private.Waiting as spec;
+
+use super::Roster;
+use super::passing::{left_after, used_in};
+use crate::change::Change;
+use crate::task::{Condition, Task};
+
+/// The zero-lag times that are put aside, place by place, in microseconds.
+pub(crate) type Lags = [Option<u64>; 256];
+
+/// Whether the zero-lag time of a task may be put aside at a time.
+#[inline(always)]
+fn may_doze(task: &Task, time: u64) -> bool
+    ensures { IsTrue result → MayDoze time task.now }
+{
+    if task.params.reclaim || task.condition.is_leaving() {
+        return false;
+    }
+    match task.zero_lag {
+        None => true,
+        Some(lag) => time < lag && !task.condition.is_contending(),
+    }
+}
+
+/// Whether a zero-lag time that was put aside comes back at a time.
+#[inline(always)]
+fn is_ahead(condition: Condition, past: u64, lag: u64) -> bool
+    ensures { result ≡ not (is_contending condition || nat_le lag past) }
+{
+    !condition.is_contending() && past < lag
+}
+
+impl Roster {
+    /// Whether the zero-lag times of all tasks may be put aside at a time.
+    pub(crate) fn may_doze(&self, time: u64) -> bool
+        ensures { IsTrue result → All (MayDoze time) self.now.tasks }
+    {
+        'tasks: for place in 0..self.tasks.len() {
+            if !may_doze(&self.tasks[place], time) {
+                return false;
+            }
+        }
+        true
+    }
+
+    /// The zero-lag time of the task at a place, which has it no more.
+    fn put_aside_at(&mut self, place: usize, time: u64) -> Option<u64>
+        requires there { place < length self.old.tasks }
+        requires sound { All (IsSound time) self.old.tasks }
+        ensures cpus { self.new.cpus ≡ self.old.cpus }
+        ensures places { self.new.places ≡ self.old.places }
+        ensures step { IsStep bared place self.old.tasks self.new.tasks }
+        ensures sound { All (IsSound time) self.new.tasks }
+        ensures lag { (d : Task) → result ≡ (slice_index_or self.old.tasks place d).zero_lag }
+    {
+        let lag = self.tasks[place].zero_lag;
+        if lag.is_some() {
+            self.turn(place, time, &Change::PutAside);
+        }
+        lag
+    }
+
+    /// The zero-lag times of all tasks are put aside.
+    pub(crate) fn put_aside(&mut self, time: u64, lags: &mut Lags)
+        requires sound { All (IsSound time) self.old.tasks }
+        ensures cpus { self.new.cpus ≡ self.old.cpus }
+        ensures places { self.new.places ≡ self.old.places }
+        ensures tasks { self.new.tasks ≡ map bared self.old.tasks }
+        ensures sound { All (IsSound time) self.new.tasks }
+        ensures lags { (i : ℕ) (d : Task) → i < length self.old.tasks
+            → slice_index_or lags.new i None ≡ (slice_index_or self.old.tasks i d).zero_lag }
+        ensures few { length self.old.tasks ≤ 256 }
+    {
+        for place in 0..self.len() {
+            lags[place] = self.put_aside_at(place, time);
+        }
+    }
+
+    /// The task at a place has the zero-lag time that was put aside, where it does not contend and
+    /// that is past no more than a time.
+    fn take_back_at(&mut self, place: usize, time: u64, past: u64, lag: Option<u64>)
+        requires there { place < length self.old.tasks }
+        requires sound { All (IsSound time) self.old.tasks }
+        ensures cpus { self.new.cpus ≡ self.old.cpus }
+        ensures places { self.new.places ≡ self.old.places }
+        ensures step { IsStep (with_lag past lag) place self.old.tasks self.new.tasks }
+        ensures sound { All (IsSound time) self.new.tasks }
+    {
+        let Some(lag) = lag else {
+            return;
+        };
+        if is_ahead(self.tasks[place].condition, past, lag) {
+            self.turn(place, time, &Change::TakeBack { lag });
+        }
+    }
+
+    /// The tasks have those zero-lag times that were put aside, where they do not contend, and
+    /// these are past no more than a time.
+    pub(crate) fn take_back(&mut self, time: u64, past: u64, lags: &Lags)
+        requires sound { All (IsSound time) self.old.tasks }
+        ensures cpus { self.new.cpus ≡ self.old.cpus }
+        ensures places { self.new.places ≡ self.old.places }
+        ensures tasks { self.new.tasks ≡ with_lags past lags.now self.old.tasks }
+        ensures sound { All (IsSound time) self.new.tasks }
+    {
+        for place in 0..self.len() {
+            self.take_back_at(place, time, past, lags[place]);
+        }
+    }
+
+    /// As `finish_at`; the zero-lag time with which the task stops is put aside.
+    #[inline(always)]
+    fn finish_aside_at(&mut self, cpu: usize, ticks: u64, time: u64, lags: &mut Lags)
+        requires there { cpu < self.old.cpus }
+        requires some { 0 < ticks }
+        requires early { time < 2 ^ 43 }
+        requires ends { IfSome (slice_index_or self.old.seats cpu None)
+            (λ s. self.old.clock + ticks ≤ s.end) }
+        requires sound { All (IsSound time) self.old.tasks }
+        requires bare { All IsBare self.old.tasks }
+        ensures cpus { self.new.cpus ≡ self.old.cpus }
+        ensures places { self.new.places ≡ self.old.places }
+        ensures clock { self.new.clock ≡ self.old.clock }
+        ensures seats { self.new.seats ≡ slice_set self.old.seats cpu None }
+        ensures tasks { map (passed_bare time ticks self.new.seats) self.new.tasks
+            ≡ map (passed_bare time ticks self.old.seats) self.old.tasks }
+        ensures lags { (past : ℕ) → past ≤ time
+            → map (spec.passed time ticks self.new.seats) (with_lags past lags.new self.new.tasks)
+            ≡ map (spec.passed time ticks self.old.seats)
+            (with_lags past lags.old self.old.tasks) }
+        ensures sound { All (IsSound time) self.new.tasks }
+        ensures bare { All IsBare self.new.tasks }
+    {
+        let Some(seat) = self.seats.get(cpu) else {
+            return;
+        };
+        let at = self.place_on(seat.number, cpu);
+        let Some(place) = at else {
+            self.vacate(cpu);
+            return;
+        };
+        self.vacate_at(cpu, place, seat);
+        let left = self.tasks[place].server.left;
+        let left = left_after(left, used_in(left, seat.rate, ticks));
+        lags[place] = self.turn_charged(place, time, &Change::RunAside { ticks, left });
+    }
+
+    /// As `pass`; the zero-lag times with which tasks stop are put aside.
+    pub(crate) fn pass_aside(&mut self, ticks: u64, time: u64, lags: &mut Lags)
+        requires some { 0 < ticks }
+        requires early { time < 2 ^ 43 }
+        requires clock { self.old.clock + ticks ≤ 2 ^ 62 }
+        requires ends { (cpu : ℕ) → IfSome (slice_index_or self.old.seats cpu None)
+            (λ s. self.old.clock + ticks ≤ s.end) }
+        requires sound { All (IsSound time) self.old.tasks }
+        requires bare { All IsBare self.old.tasks }
+        ensures cpus { self.new.cpus ≡ self.old.cpus }
+        ensures places { self.new.places ≡ self.old.places }
+        ensures tasks { self.new.tasks
+            ≡ map (passed_bare time ticks self.old.seats) self.old.tasks }
+        ensures lags { (past : ℕ) → past ≤ time → with_lags past lags.new self.new.tasks
+            ≡ map (spec.passed time ticks self.old.seats)
+            (with_lags past lags.old self.old.tasks) }
+        ensures sound { All (IsSound time) self.new.tasks }
+    {
+        let end = self.seats.upto() + ticks;
+        let mut cpu = self.seats.next_ended(0, end);
+        while cpu < self.seats.len() {
+            self.finish_aside_at(cpu, ticks, time, lags);
+            cpu = self.seats.next_ended(cpu + 1, end);
+        }
+        self.seats.pass(ticks);
+    }
+}
