@@ -1,6 +1,6 @@
 -- Zero-lag times are put aside where running tasks stop: what is left of each is the same.
-use Rattle.std.proofs.Common.{◌≡◌, ◌≢◌, ℕ, zero, suc, ◌+◌, ◌-◌, ◌*◌, ◌/◌, ◌<◌, ◌≤◌, Bool, true, false, cond, eqb, ◌||◌, Option, Some, None, List, [], ◌∷◌, length, map, get_or, set, refl, sym, ap, ◌∙◌, subst, arith, eq-eqb}
-use Rattle.std.specs.Prelude.{ℤ, pos, nat_le, ◌-ℤ◌, All, AllPairs, IfSome}
+use Rattle.std.proofs.Common.{◌≡◌, ◌≢◌, ℕ, zero, suc, ◌+◌, ◌-◌, ◌*◌, ◌/◌, ◌<◌, ◌≤◌, Bool, true, false, cond, eqb, ◌||◌, ◌&&◌, not, Option, Some, None, List, [], ◌∷◌, length, map, get_or, set, refl, sym, ap, ◌∙◌, subst, arith, eq-eqb}
+use Rattle.std.specs.Prelude.{ℤ, pos, nat_le, ◌-ℤ◌, All, AllPairs, IfSome, is_none}
 use Rattle.std.proofs.lemmas.Bool.{le-leb, leb-true}
 use Rattle.std.proofs.lemmas.List.{get_or_default, get_or-map, length-map}
 use Rattle.std.proofs.lemmas.List.Elements.{All-map}
@@ -16,13 +16,26 @@ use Rattle.task_script.specs.script.Segments.{asked}
 use Rattle.domain_run.specs.declared.task.Task.{Task}
 use Rattle.domain_run.specs.declared.task.Condition.{Condition}
 use Rattle.domain_run.specs.declared.task.Condition.TheVariants.{Ready, Throttled, Blocked, Waiting, Leaving}
-use Rattle.domain_run.specs.Conditions.{is_contending}
-use Rattle.domain_run.specs.Parts.{running_on, stopped, went_on, goes_on}
+use Rattle.domain_run.specs.Conditions.{is_contending, is_leaving}
+use Rattle.domain_run.specs.Parts.{with_last_cpu, running_on, stopped, went_on, goes_on}
 use Rattle.domain_run.specs.private.Paying.{ran_until}
-use Rattle.domain_run.specs.private.Roster.{bared}
-use Rattle.domain_run.specs.private.Dozing.{with_lag, with_lags, passed_bare, IsBare}
+use Rattle.domain_run.specs.private.Roster.{bared, IsSeated, leapt, LastsIf}
+use Rattle.domain_run.specs.private.Dozing.{with_lag, with_lags, awake, passed_bare, leapt_bare, IsBare, IsPlain, MayDoze}
 use Rattle.domain_run.specs.private.Waiting.{seat_of, owed, Waits, WaitsIf, AllWait, passed_by, passed}
-use Rattle.domain_run.proofs.Jumping.{map_twice}
+use Rattle.edf_pick.specs.Places.{Places}
+use Rattle.domain_run.specs.Domain.{Domain}
+use Rattle.domain_run.specs.Jump.{under_way, ticks_to_event}
+use Rattle.domain_run.specs.Tick.{share_of, shares, sum_of, begun, ticked, ticks}
+use Rattle.grub_rules.specs.declared.share.Share.{Share}
+use Rattle.std.proofs.lemmas.List.Sums.{sum_by-cons}
+use Rattle.due_times.specs.Timers.{least}
+use Rattle.domain_run.specs.private.Timers.{due_of}
+use Rattle.domain_run.proofs.Due.{still_each}
+use Rattle.domain_run.specs.Sound.{IsApart, IsSound, IsAdmitted, IsDomain}
+use Rattle.domain_run.proofs.Keeping.{Same}
+use Rattle.domain_run.proofs.Leaping.{leapt_one}
+use Rattle.domain_run.proofs.Leapt.{same_leapt}
+use Rattle.domain_run.proofs.Jumping.{RunsIf, map_alike, map_twice}
 use Rattle.domain_run.proofs.Later.{map_set_to, orphan_passes, seat_seen, pass_one, pass_view}
 use Rattle.domain_run.proofs.Paying.{same_ran_until, is_Ready}
 use Rattle.domain_run.proofs.Staying.{map_itself}
@@ -30,7 +43,7 @@ use Rattle.domain_run.proofs.Waiting.{alike_owed}
 use Rattle.domain_run.proofs.Placing.{one_index}
 use Rattle.domain_run.proofs.Seatings.{nobody_here, same_stranger}
 use Rattle.due_times.specs.Seats.{seat_by, IsAhead}
-use Rattle.domain_run.proofs.Dozing.{either_lag, lag_contending, lags_all, lags_map, read_lags, length_lags}
+use Rattle.domain_run.proofs.Dozing.{doze_back, lists_same, either_lag, lag_contending, lags_all, lags_map, read_lags, length_lags, home_with, jump_lags}
 
 -- ---- A TASK THAT STOPS with a zero-lag time has it again
 
@@ -164,3 +177,108 @@ module _ (upto time k : ℕ) (seats : List (Option Seat)) (items : List Task) (a
       sym same
       ∙ ap (map bared) (pass_view upto time k seats items ahead waits)
       ∙ map_twice bared (passed time k seats) (passed_bare time k seats) (map (owed upto seats) items) (λ i d h. refl)
+
+-- ---- A LEAP
+
+pub leapt_lags : (past time k : ℕ) (places : Places) (cpus limit : ℕ) (tasks : List Task) (seats : List (Option Seat)) (lags : List (Option ℕ)) → IsApart places → All (λ t. with_last_cpu places t ≡ t) tasks → All (IsSeated places cpus limit tasks seats) tasks → map (passed time k seats) (with_lags past lags tasks) ≡ map (leapt time k places cpus limit tasks) (with_lags past lags tasks)
+leapt_lags past time k places cpus limit tasks seats lags apart homed right = map_alike (passed time k seats) (leapt time k places cpus limit tasks) (with_lags past lags tasks)
+    (lags_all (λ u. passed time k seats u ≡ leapt time k places cpus limit tasks u) past lags tasks (λ i d h lag.
+        let t = get_or tasks i d in
+        leapt_one time k places cpus limit tasks seats (with_lag past lag t) apart (home_with places past lag t ∙ ap (with_lag past lag) (homed i d h)) (either_lag (λ u. IsSeated places cpus limit tasks seats u) past lag t (right i d h) (λ z. right i d h))))
+
+-- of a domain under way, it is so many ticks with the zero-lag times
+pub leap_lags_is : (e : Domain) (before after : List (Option ℕ)) (k time : ℕ) (tasks : List Task) → 0 < k → k ≤ ticks_to_event (under_way e) → time ≡ (under_way e).time + (k - 1) → All IsPlain e.tasks
+    → All (LastsIf k (under_way e).curr (under_way e).cpus (under_way e).limit (under_way e).tasks) (under_way e).tasks
+    → with_lags (time - 1) after tasks ≡ map (leapt time k (under_way e).curr (under_way e).cpus (under_way e).limit (under_way e).tasks) (with_lags (time - 1) before (under_way e).tasks)
+    → awake after (record (under_way e) { time = time; tasks = tasks }) ≡ ticks k (awake before e)
+leap_lags_is e before after k time tasks some quiet time-is plain lasts tasks-are =
+    let u = under_way e in
+    let b = begun e in
+    let at : time ≡ e.time + k = omega (arith, time-is, some) in
+    let past : time - 1 ≡ e.time + (k - 1) = omega (arith, time-is, some) in
+    let runs : All (RunsIf b k) b.tasks = λ i x h stand. let r = lasts i x h stand in record { ready = is_Ready (get_or b.tasks i x).condition r.ready; worked = r.worked; lasted = r.lasted } in
+    let all = tasks-are ∙ (λ i. map (leapt (at i) k u.curr u.cpus u.limit u.tasks) (with_lags (past i) before u.tasks)) in
+    (λ i. record u { time = at i; tasks = all i }) ∙ sym (jump_lags e before k some plain (omega (arith, quiet)) runs)
+
+pub leapt_is_bare : (time k : ℕ) (places : Places) (cpus limit : ℕ) (tasks ts : List Task) → All IsBare ts → All IsBare (map (leapt_bare time k places cpus limit tasks) ts)
+leapt_is_bare time k places cpus limit tasks ts bare = All-map IsBare (leapt_bare time k places cpus limit tasks) ts (λ i d h. record { lag = refl; fixed = ap (λ p. p.reclaim) (same_leapt time k places cpus limit tasks (get_or ts i d)).params ∙ (bare i d h).fixed })
+
+pub same_leapt_bare : (time k : ℕ) (places : Places) (cpus limit : ℕ) (tasks : List Task) (t : Task) → Same t (leapt_bare time k places cpus limit tasks t)
+same_leapt_bare time k places cpus limit tasks t = let a = same_leapt time k places cpus limit tasks t in record { number = a.number; params = a.params; cpu = a.cpu }
+
+-- ---- THE WHOLE DOMAIN
+
+sum_lags : (past : ℕ) (lags : List (Option ℕ)) (tasks : List Task) → sum_of (with_lags past lags tasks) ≡ sum_of tasks
+sum_lags past [] tasks = refl
+sum_lags past (lag ∷ lags) [] = refl
+sum_lags past (lag ∷ lags) (t ∷ tasks) =
+    let same = either_lag (λ u. u.params.bw ≡ t.params.bw) past lag t refl (λ z. refl) in
+    omega (arith, sum_first (with_lag past lag t) (with_lags past lags tasks), sum_first t tasks, sum_lags past lags tasks, same)
+  where
+    sum_first : (t : Task) (tasks : List Task) → sum_of (t ∷ tasks) ≡ t.params.bw + sum_of tasks
+    sum_first t tasks = sum_by-cons (λ (s : Share). s.bw) (share_of t) (shares tasks)
+
+-- it stays a domain
+pub domain_lags : (e : Domain) (past : ℕ) (lags : List (Option ℕ)) (tasks : List Task) → IsDomain e → tasks ≡ with_lags past lags e.tasks → IsDomain (record e { tasks = tasks })
+domain_lags e past lags tasks is made =
+    let s = is.steady in
+    let len = length_lags past lags e.tasks in
+    subst (λ ts. IsDomain (record e { tasks = ts })) (sym made) (record {
+      steady = record {
+        early = s.early;
+        cpus = s.cpus;
+        limit = s.limit;
+        within = rw (sum_lags past lags e.tasks) s.within;
+        listed = omega (arith, len, s.listed);
+        sound = lags_all (IsSound e.time) past lags e.tasks (λ i d h lag. let t = get_or e.tasks i d in let b = s.sound i d h in either_lag (IsSound e.time) past lag t b (λ z. record { served = b.served; spent = b.spent; lifted = b.lifted; dated = b.dated; busy = b.busy; timed = b.timed }));
+        homes = lags_all (λ t. t.cpu < e.cpus) past lags e.tasks (λ i d h lag. either_lag (λ u. u.cpu < e.cpus) past lag (get_or e.tasks i d) (s.homes i d h) (λ z. s.homes i d h));
+        numbered = λ i j d less within.
+            let there : j < length e.tasks = omega (arith, within, len) in
+            let here : i < length e.tasks = omega (arith, less, there) in
+            let a = ap (λ (t : Task). t.number) (read_lags past lags e.tasks i d here) ∙ number (get_or lags i None) (get_or e.tasks i d) in
+            let b = ap (λ (t : Task). t.number) (read_lags past lags e.tasks j d there) ∙ number (get_or lags j None) (get_or e.tasks j d) in
+            λ same. s.numbered i j d less there (sym a ∙ same ∙ b);
+        known = lags_all (λ t. IsAdmitted e.used t.number) past lags e.tasks (λ i d h lag. either_lag (λ u. IsAdmitted e.used u.number) past lag (get_or e.tasks i d) (s.known i d h) (λ z. s.known i d h));
+        wide = s.wide;
+        apart = s.apart;
+      };
+      traced = record { switches = is.traced.switches; rising = is.traced.rising; standing = is.traced.standing };
+    })
+  where
+    number : (lag : Option ℕ) (t : Task) → (with_lag past lag t).number ≡ t.number
+    number lag t = either_lag (λ u. u.number ≡ t.number) past lag t refl (λ z. refl)
+
+-- with what was put aside each is as before
+pub back_all : (time : ℕ) (lags : List (Option ℕ)) (tasks : List Task) → All (MayDoze time) tasks → ((i : ℕ) (d : Task) → i < length tasks → get_or lags i None ≡ (get_or tasks i d).zero_lag) → with_lags time lags (map bared tasks) ≡ tasks
+back_all time lags tasks may are =
+    let len : length (map bared tasks) ≡ length tasks = simp length-map in
+    lists_same (with_lags time lags (map bared tasks)) tasks (length_lags time lags (map bared tasks) ∙ len) (λ i d h.
+        read_lags time lags (map bared tasks) i d (omega (arith, h, len))
+        ∙ (λ j. with_lag time (are i d h j) (get_or-map bared tasks i d d h j))
+        ∙ doze_back time (get_or tasks i d) (may i d h))
+
+pub doze_bare : (time : ℕ) (tasks : List Task) → All (MayDoze time) tasks → All IsBare (map bared tasks)
+doze_bare time tasks may = All-map IsBare bared tasks (λ i d h. record { lag = refl; fixed = (may i d h).fixed })
+
+pub same_bared : (t : Task) → Same t (bared t)
+same_bared t = record { number = refl; params = refl; cpu = refl }
+
+-- none is due at once, so none has ended
+pub all_plain : (tasks : List Task) → All IsBare tasks → 0 < least (map due_of tasks) → All IsPlain tasks
+all_plain tasks bare later i d h =
+    let t = get_or tasks i d in
+    let b = bare i d h in
+    let still = still_each 0 tasks later i d h in
+    record { lag = b.lag; stays = not_true (is_leaving t.condition) (ap (λ o. not (is_leaving t.condition && is_none o)) (sym b.lag) ∙ still.listed); fixed = b.fixed }
+  where
+    not_true : (x : Bool) → not (x && true) ≡ true → x ≡ false
+    not_true true e = absurd cc
+    not_true false e = refl
+
+pub ticks_time : (k : ℕ) (d : Domain) → (ticks k d).time ≡ d.time + k
+ticks_time zero d = omega arith
+ticks_time (suc k) d = omega (arith, ticks_time k d)
+
+pub ticks_twice : (m k : ℕ) (d : Domain) → ticks k (ticks m d) ≡ ticks (m + k) d
+ticks_twice m zero d = let same : m ≡ m + 0 = omega arith in ap (λ n. ticks n d) same
+ticks_twice m (suc k) d = let next : suc (m + k) ≡ m + suc k = omega arith in ap ticked (ticks_twice m k d) ∙ ap (λ n. ticks n d) next

@@ -239,7 +239,7 @@ switches_with at time lags tasks cpu (p ∷ before) (n ∷ after) =
     let state = state_with time lags tasks p in
     λ i. cond (same_occupant p n) (more i) (record { time = at; prev = p; next = n; cpu = cpu; state = state i } ∷ more i)
 
-home_with : (places : Places) (time : ℕ) (lag : Option ℕ) (t : Task) → with_last_cpu places (with_lag time lag t) ≡ with_lag time lag (with_last_cpu places t)
+pub home_with : (places : Places) (time : ℕ) (lag : Option ℕ) (t : Task) → with_last_cpu places (with_lag time lag t) ≡ with_lag time lag (with_last_cpu places t)
 home_with places time None t = refl
 home_with places time (Some z) t =
     elim (is_contending t.condition || nat_le z time) as (λ b. with_last_cpu places (cond b t (record t { zero_lag = Some z })) ≡ cond b (with_last_cpu places t) (record (with_last_cpu places t) { zero_lag = Some z })) [ true ↦ refl | false ↦ homed (position (is_task t.number) places) ]

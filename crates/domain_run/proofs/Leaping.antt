@@ -40,7 +40,7 @@ at_rate_passes : (time k rate : ℕ) (t : Task) (o : Option Seat) → IsAtRate r
 at_rate_passes time k rate t None is = absurd is
 at_rate_passes time k rate t (Some s) is = ap (λ n. ran_until time k (t.server.left -ℤ pos (n * k)) t) is
 
-leapt_one : (time k : ℕ) (places : Places) (cpus limit : ℕ) (tasks : List Task) (seats : List (Option Seat)) (t : Task) → IsApart places → with_last_cpu places t ≡ t → IsSeated places cpus limit tasks seats t → passed time k seats t ≡ leapt time k places cpus limit tasks t
+pub leapt_one : (time k : ℕ) (places : Places) (cpus limit : ℕ) (tasks : List Task) (seats : List (Option Seat)) (t : Task) → IsApart places → with_last_cpu places t ≡ t → IsSeated places cpus limit tasks seats t → passed time k seats t ≡ leapt time k places cpus limit tasks t
 leapt_one time k places cpus limit tasks seats t apart homed right = by_stand (stands t.number places) refl
   where
     by_stand : (b : Bool) → stands t.number places ≡ b → passed_by time k (seat_of seats t) t ≡ cond b (ran_until time k (t.server.left -ℤ pos (rate_in cpus limit tasks t * k)) t) t

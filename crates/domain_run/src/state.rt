@@ -13,6 +13,7 @@ ghost use Rattle.attr_check.specs.Ratio.{cap};
 
 mod calls;
 mod cutting;
+mod dozing;
 mod jumps;
 mod leaping;
 mod lending;

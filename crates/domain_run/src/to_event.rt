@@ -1,16 +1,17 @@
 //! From the beginning of a tick to the next event: who runs is charged only once its work or its
 //! budget ends.
 
-ghost use Rattle.std.specs.Prelude.{◌≡◌, ◌<◌, ◌≤◌, ◌+◌, ◌-◌, ◌^◌, All, length, map};
+ghost use Rattle.std.specs.Prelude.{ℕ, ◌≡◌, ◌<◌, ◌≤◌, ◌+◌, ◌-◌, ◌^◌, All, length, map};
 ghost use Rattle.attr_check.specs.Ratio.{cap};
 ghost use Rattle.domain_run.specs.Domain.{IsLimit};
 ghost use Rattle.domain_run.specs.Sound.{IsSound, IsApart};
 ghost use Rattle.domain_run.specs.Tick.{sum_of};
 ghost use Rattle.domain_run.specs.private.Roster.{IsSeated, LastsIf, leapt};
+ghost use Rattle.domain_run.specs.private.Dozing.{with_lags, IsBare, leapt_bare};
 ghost use Rattle.domain_run.specs.private.RunQueue.{AreHomed};
 ghost use Rattle.domain_run.specs.private.Waiting.{MaySitOn};
 
-use crate::roster::Roster;
+use crate::roster::{Lags, Roster};
 use due_times::first_marked;
 use edf_pick::marks::without;
 
@@ -72,5 +73,49 @@ pub(crate) fn leap(roster: &mut Roster, limit: u64, most: u64, time: u64) -> u64
     seat_all(roster, limit);
     let ticks = roster.ticks_to_end(most);
     roster.pass(ticks, time + (ticks - 1));
+    ticks
+}
+
+/// As `leap`; the zero-lag times with which tasks stop are put aside. With those that were put
+/// aside, whichever have come by then, each task goes the same way.
+pub(crate) fn leap_aside(
+    roster: &mut Roster,
+    limit: u64,
+    most: u64,
+    time: u64,
+    lags: &mut Lags,
+) -> u64
+    requires wide { length roster.old.places ≡ roster.old.cpus }
+    requires cpus { (0 < roster.old.cpus) × (roster.old.cpus ≤ 64) }
+    requires limit { IsLimit limit }
+    requires within { sum_of roster.old.tasks ≤ cap roster.old.cpus limit }
+    requires homes { All (λ t. t.cpu < roster.old.cpus) roster.old.tasks }
+    requires may { MaySitOn roster.old.places roster.old.tasks }
+    requires apart { IsApart roster.old.places }
+    requires some { 0 < most }
+    requires early { time + most ≤ 2 ^ 42 + 1 }
+    requires sound { All (IsSound time) roster.old.tasks }
+    requires bare { All IsBare roster.old.tasks }
+    ensures cpus { roster.new.cpus ≡ roster.old.cpus }
+    ensures places { roster.new.places ≡ roster.old.places }
+    ensures some { 0 < result }
+    ensures most { result ≤ most }
+    ensures lasts { All (LastsIf result roster.old.places roster.old.cpus limit roster.old.tasks)
+        roster.old.tasks }
+    ensures tasks { roster.new.tasks ≡ map
+        (leapt_bare (time + (result - 1)) result roster.old.places roster.old.cpus limit
+        roster.old.tasks)
+        roster.old.tasks }
+    ensures lags { (past : ℕ) → past ≤ time + (result - 1)
+        → with_lags past lags.new roster.new.tasks ≡ map
+        (leapt (time + (result - 1)) result roster.old.places roster.old.cpus limit
+        roster.old.tasks)
+        (with_lags past lags.old roster.old.tasks) }
+    ensures sound { All (IsSound (time + (result - 1))) roster.new.tasks }
+{
+    roster.wind_back();
+    seat_all(roster, limit);
+    let ticks = roster.ticks_to_end(most);
+    roster.pass_aside(ticks, time + (ticks - 1), lags);
     ticks
 }

@@ -36,7 +36,7 @@ impl State {
     /// where no switch waits. Who starts on a CPU sits there at once, and who stands on the CPUs is
     /// not listed where that has changed. Takes no memory.
     #[inline(always)]
-    fn begin_seated(&mut self) -> bool
+    pub(super) fn begin_seated(&mut self) -> bool
         requires { self.old.time < 2 ^ 42 }
         ensures some { self.old.switches ≡ [] → result ≡ true }
         ensures ok { result ≡ true → self.new ≡ jump.under_way self.old }
