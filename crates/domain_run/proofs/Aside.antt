@@ -7,7 +7,6 @@ use Rattle.std.proofs.lemmas.List.Elements.{All-map}
 use Rattle.attr_check.specs.ParamsView.{ParamsView}
 use Rattle.cbs_rules.specs.declared.server.Server.{Server}
 use Rattle.cbs_rules.specs.Budget.{budget, above_zero}
-use Rattle.cbs_rules.specs.Serving.{is_spent}
 use Rattle.grub_rules.specs.Lag as lag
 use Rattle.due_times.specs.declared.seats.Seat.{Seat}
 use Rattle.task_script.specs.declared.script.Segment.{Segment}
@@ -15,7 +14,7 @@ use Rattle.task_script.specs.declared.script.Segment.TheVariants.{Run as RunFor,
 use Rattle.task_script.specs.script.Segments.{asked}
 use Rattle.domain_run.specs.declared.task.Task.{Task}
 use Rattle.domain_run.specs.declared.task.Condition.{Condition}
-use Rattle.domain_run.specs.declared.task.Condition.TheVariants.{Ready, Throttled, Blocked, Waiting, Leaving}
+use Rattle.domain_run.specs.declared.task.Condition.TheVariants.{Blocked, Waiting, Leaving}
 use Rattle.domain_run.specs.Conditions.{is_contending, is_leaving}
 use Rattle.domain_run.specs.Parts.{with_last_cpu, running_on, stopped, went_on, goes_on}
 use Rattle.domain_run.specs.private.Paying.{ran_until}
@@ -37,7 +36,7 @@ use Rattle.domain_run.proofs.Leaping.{leapt_one}
 use Rattle.domain_run.proofs.Leapt.{same_leapt}
 use Rattle.domain_run.proofs.Jumping.{RunsIf, map_alike, map_twice}
 use Rattle.domain_run.proofs.Later.{map_set_to, orphan_passes, seat_seen, pass_one, pass_view}
-use Rattle.domain_run.proofs.Paying.{same_ran_until, is_Ready}
+use Rattle.domain_run.proofs.Paying.{is_Ready}
 use Rattle.domain_run.proofs.Staying.{map_itself}
 use Rattle.domain_run.proofs.Waiting.{alike_owed}
 use Rattle.domain_run.proofs.Placing.{one_index}
@@ -170,10 +169,10 @@ module _ (upto time k : ℕ) (seats : List (Option Seat)) (items : List Task) (a
   pass_bare bare =
       let many : length (map (owed upto seats) items) ≡ length items = simp length-map in
       let same = map_itself bared (map (owed (upto + k) seats) items) (All-map (λ t. bared t ≡ t) (owed (upto + k) seats) items (λ i d h.
-          let x = get_or items i d in
-          let none : x.zero_lag ≡ None = sym (alike_owed upto seats x).zero_lag ∙ ap (λ (t : Task). t.zero_lag) (sym (get_or-map (owed upto seats) items i d d h)) ∙ (bare i d (omega (arith, h, many))).lag in
-          let after : (owed (upto + k) seats x).zero_lag ≡ None = (alike_owed (upto + k) seats x).zero_lag ∙ none in
-          λ j. record (owed (upto + k) seats x) { zero_lag = (sym after) j })) in
+      let x = get_or items i d in
+      let none : x.zero_lag ≡ None = sym (alike_owed upto seats x).zero_lag ∙ ap (λ (t : Task). t.zero_lag) (sym (get_or-map (owed upto seats) items i d d h)) ∙ (bare i d (omega (arith, h, many))).lag in
+      let after : (owed (upto + k) seats x).zero_lag ≡ None = (alike_owed (upto + k) seats x).zero_lag ∙ none in
+      λ j. record (owed (upto + k) seats x) { zero_lag = (sym after) j })) in
       sym same
       ∙ ap (map bared) (pass_view upto time k seats items ahead waits)
       ∙ map_twice bared (passed time k seats) (passed_bare time k seats) (map (owed upto seats) items) (λ i d h. refl)
@@ -183,8 +182,8 @@ module _ (upto time k : ℕ) (seats : List (Option Seat)) (items : List Task) (a
 pub leapt_lags : (past time k : ℕ) (places : Places) (cpus limit : ℕ) (tasks : List Task) (seats : List (Option Seat)) (lags : List (Option ℕ)) → IsApart places → All (λ t. with_last_cpu places t ≡ t) tasks → All (IsSeated places cpus limit tasks seats) tasks → map (passed time k seats) (with_lags past lags tasks) ≡ map (leapt time k places cpus limit tasks) (with_lags past lags tasks)
 leapt_lags past time k places cpus limit tasks seats lags apart homed right = map_alike (passed time k seats) (leapt time k places cpus limit tasks) (with_lags past lags tasks)
     (lags_all (λ u. passed time k seats u ≡ leapt time k places cpus limit tasks u) past lags tasks (λ i d h lag.
-        let t = get_or tasks i d in
-        leapt_one time k places cpus limit tasks seats (with_lag past lag t) apart (home_with places past lag t ∙ ap (with_lag past lag) (homed i d h)) (either_lag (λ u. IsSeated places cpus limit tasks seats u) past lag t (right i d h) (λ z. right i d h))))
+    let t = get_or tasks i d in
+    leapt_one time k places cpus limit tasks seats (with_lag past lag t) apart (home_with places past lag t ∙ ap (with_lag past lag) (homed i d h)) (either_lag (λ u. IsSeated places cpus limit tasks seats u) past lag t (right i d h) (λ z. right i d h))))
 
 -- of a domain under way, it is so many ticks with the zero-lag times
 pub leap_lags_is : (e : Domain) (before after : List (Option ℕ)) (k time : ℕ) (tasks : List Task) → 0 < k → k ≤ ticks_to_event (under_way e) → time ≡ (under_way e).time + (k - 1) → All IsPlain e.tasks
@@ -253,9 +252,9 @@ pub back_all : (time : ℕ) (lags : List (Option ℕ)) (tasks : List Task) → A
 back_all time lags tasks may are =
     let len : length (map bared tasks) ≡ length tasks = simp length-map in
     lists_same (with_lags time lags (map bared tasks)) tasks (length_lags time lags (map bared tasks) ∙ len) (λ i d h.
-        read_lags time lags (map bared tasks) i d (omega (arith, h, len))
-        ∙ (λ j. with_lag time (are i d h j) (get_or-map bared tasks i d d h j))
-        ∙ doze_back time (get_or tasks i d) (may i d h))
+    read_lags time lags (map bared tasks) i d (omega (arith, h, len))
+    ∙ (λ j. with_lag time (are i d h j) (get_or-map bared tasks i d d h j))
+    ∙ doze_back time (get_or tasks i d) (may i d h))
 
 pub doze_bare : (time : ℕ) (tasks : List Task) → All (MayDoze time) tasks → All IsBare (map bared tasks)
 doze_bare time tasks may = All-map IsBare bared tasks (λ i d h. record { lag = refl; fixed = (may i d h).fixed })

@@ -1,20 +1,18 @@
 -- Zero-lag times that are put aside while no task reclaims: a domain with them goes the same way.
 use Rattle.std.proofs.Common.{◌≡◌, ◌≢◌, ℕ, zero, suc, ◌+◌, ◌-◌, ◌*◌, ◌<◌, ◌≤◌, Bool, true, false, cond, eqb, ◌||◌, ◌&&◌, not, Option, Some, None, List, [], ◌∷◌, ◌++◌, length, map, get_or, refl, sym, ap, ◌∙◌, subst, arith}
 use Rattle.std.specs.Prelude.{IfSome, pos, nat_le, ◌-ℤ◌, All, filter, find, position, is_none}
-use Rattle.std.proofs.lemmas.Bool.{lt-leb, le-leb, leb-true}
-use Rattle.std.proofs.lemmas.List.Elements.{All-cons, All-map, All-weaker}
+use Rattle.std.proofs.lemmas.Bool.{le-leb, leb-true}
+use Rattle.std.proofs.lemmas.List.Elements.{All-cons, All-map}
 use Rattle.cbs_rules.specs.declared.server.Server.{Server}
 use Rattle.cbs_rules.specs.Serving.{is_spent, woken, replenished, charged}
 use Rattle.edf_pick.specs.Places.{Places, is_task, stands, placed}
 use Rattle.domain_run.specs.declared.task.Task.{Task}
 use Rattle.domain_run.specs.declared.task.Condition.{Condition}
 use Rattle.domain_run.specs.declared.task.Condition.TheVariants.{Ready, Throttled, Blocked, Waiting, Leaving}
-use Rattle.domain_run.specs.declared.switch.Switch.{Switch}
-use Rattle.domain_run.specs.declared.switch.PrevState.{PrevState}
 use Rattle.task_script.specs.declared.script.Segment.{Segment}
 use Rattle.task_script.specs.declared.script.Segment.TheVariants.{Run as RunFor, Until, Wait as WaitFor, End}
 use Rattle.task_script.specs.script.Segments.{asked}
-use Rattle.domain_run.specs.Conditions.{is_ready, is_throttled, is_contending, is_leaving, is_over, has_come}
+use Rattle.domain_run.specs.Conditions.{is_throttled, is_contending, is_leaving, is_over, has_come}
 use Rattle.domain_run.specs.Parts.{replenish_due, settled, is_listed, enqueued, started, unblocked, with_last_cpu, with_cpu, ran}
 use Rattle.domain_run.specs.Switches.{same_occupant, left_in, left_by, state_of, switches_from}
 use Rattle.domain_run.specs.Domain.{Domain}

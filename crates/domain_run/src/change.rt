@@ -71,6 +71,17 @@ fn slide(task: &mut Task, time: u64, ticks: u64, left: i128)
     task.work -= ticks;
 }
 
+/// The zero-lag time of a task, which has it no more.
+#[inline(always)]
+fn take_lag(task: &mut Task) -> Option<u64>
+    ensures task { task.new ≡ bared task.old }
+    ensures lag { result ≡ task.old.zero_lag }
+{
+    let lag = task.zero_lag;
+    task.zero_lag = None;
+    lag
+}
+
 /// As part 6 of so many ticks; the zero-lag time with which it stops is put aside.
 #[inline(always)]
 fn run_aside(task: &mut Task, time: u64, ticks: u64, left: i128) -> Option<u64>
@@ -82,9 +93,7 @@ fn run_aside(task: &mut Task, time: u64, ticks: u64, left: i128) -> Option<u64>
     ensures sound { IsSound time task.new }
 {
     parts::run_until(task, time, ticks, left);
-    let aside = task.zero_lag;
-    task.zero_lag = None;
-    aside
+    take_lag(task)
 }
 
 // Makes a change, and answers the zero-lag time that it puts aside.
@@ -104,7 +113,7 @@ fn act(task: &mut Task, time: u64, change: &Change) -> Option<u64>
         Change::Unblock => parts::unblock(task, time),
         Change::Run { ticks, left } => parts::run_until(task, time, *ticks, *left),
         Change::RunAside { ticks, left } => return run_aside(task, time, *ticks, *left),
-        Change::PutAside => task.zero_lag = None,
+        Change::PutAside => return take_lag(task),
         Change::TakeBack { lag } => task.zero_lag = Some(*lag),
         Change::Regrade { params } => calls::regrade(task, params),
         Change::Release => calls::release(task, time),

@@ -45,6 +45,9 @@ pub struct State {
     // Who stands on the CPUs, one after another, where that is listed: a leap needs no list.
     running: Vec<u32>,
     is_listed: bool,
+    // So many leaps more go to each zero-lag time, since a look has told that they must. It is only
+    // a hint.
+    wakeful: u32,
 }
 
 impl Model for State {
@@ -100,6 +103,7 @@ impl State {
             switches: Vec::with_capacity(alloc, cpus)?,
             running: Vec::with_capacity(alloc, cpus)?,
             is_listed: true,
+            wakeful: 0,
         })
     }
 

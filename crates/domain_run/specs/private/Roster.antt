@@ -108,14 +108,14 @@ MayMake time Release t = IsTrue (is_waiting t.condition) × (time ≤ 2 ^ 42)
 MayMake time End t = Unit {0}
 MayMake time Depart t = Unit {0}
 
--- the zero-lag time that it puts aside: that with which a task stops that was running
+-- the zero-lag time that it puts aside
 abbrev pub put_aside : ℕ → Change → Task → Option ℕ
 put_aside time Replenish t = None
 put_aside time Settle t = None
 put_aside time Unblock t = None
 put_aside time (Run ticks left) t = None
 put_aside time (RunAside ticks left) t = (ran_until time ticks left t).zero_lag
-put_aside time PutAside t = None
+put_aside time PutAside t = t.zero_lag
 put_aside time (TakeBack lag) t = None
 put_aside time (Regrade params) t = None
 put_aside time Release t = None

@@ -5,11 +5,18 @@ ghost use Rattle.std.specs.Prelude.{◌≡◌, ◌<◌, ◌≤◌, ◌^◌, ◌+
 ghost use Rattle.domain_run.specs.Domain.{Domain};
 ghost use Rattle.domain_run.specs.Jump as jump;
 ghost use Rattle.domain_run.specs.Tick as tick;
+ghost use Rattle.domain_run.specs.Sound.{IsDomain};
 ghost use Rattle.domain_run.specs.private.Dozing.{awake, IsBare, IsPlain, MayDoze};
 
 use super::State;
 use crate::roster::Lags;
 use crate::to_event;
+
+/// A shorter advance is not worth the looks at all tasks before it and behind it, in microseconds.
+const LONG: u64 = 100_000;
+
+/// How many leaps go to each zero-lag time once a look has told that they must.
+const WAKEFUL: u32 = 256;
 
 impl State {
     /// As `run`, of a domain whose zero-lag times are put aside, and stay so: with them it goes the
@@ -26,8 +33,7 @@ impl State {
             → awake lags.new self.new ≡ tick.ticks result (awake lags.old d) }
         ensures bare { All IsBare self.new.tasks }
     {
-        let ticks =
-            to_event::leap_aside(&mut self.roster, self.limit, most, self.time, lags);
+        let ticks = to_event::leap_aside(&mut self.roster, self.limit, most, self.time, lags);
         self.time += ticks - 1;
         ticks
     }
@@ -107,5 +113,47 @@ impl State {
         let ticks = self.doze_on(most, &mut lags);
         self.take_back(&lags);
         ticks
+    }
+
+    // Whether there is room for the switches of an event.
+    fn has_room(&self) -> bool
+        ensures domain { IsDomain self.now }
+    {
+        self.switches.capacity() - self.switches.len() >= self.cpus
+    }
+
+    // Of so many leaps one less is to go to each zero-lag time.
+    fn wake_less(&mut self)
+        ensures { self.new ≡ self.old }
+    {
+        self.wakeful = self.wakeful.saturating_sub(1);
+    }
+
+    // So many leaps are to go to each zero-lag time.
+    fn stay_wakeful(&mut self)
+        ensures { self.new ≡ self.old }
+    {
+        self.wakeful = WAKEFUL;
+    }
+
+    /// As `doze`, where that is worth it: not where it could not be a short while ago.
+    pub(super) fn doze_long(&mut self, most: u64) -> u64
+        requires early { self.old.time + most ≤ 2 ^ 42 }
+        ensures most { result ≤ most }
+        ensures ticks { self.new ≡ tick.ticks result self.old }
+        ensures domain { IsDomain self.old }
+    {
+        if !self.has_room() || most < LONG {
+            return 0;
+        }
+        if self.wakeful > 0 {
+            self.wake_less();
+            return 0;
+        }
+        let made = self.doze(most);
+        if made == 0 {
+            self.stay_wakeful();
+        }
+        made
     }
 }

@@ -76,10 +76,9 @@ impl State {
         }
     }
 
-    /// As [`State::leap`], in the room that is there. Where there is none for a switch of each CPU
-    /// beside those so far, nothing has changed: it answers 0 then. There is where no switch waits.
-    /// Takes no memory.
-    pub(crate) fn leap_in_room(&mut self, most: u64) -> u64
+    /// As [`State::leap_in_room`], by one event.
+    #[inline(always)]
+    fn leap_once_in_room(&mut self, most: u64) -> u64
         requires some { 0 < most }
         requires early { self.old.time + most ≤ 2 ^ 42 }
         ensures some { self.old.switches ≡ [] → 0 < result }
@@ -94,8 +93,41 @@ impl State {
         self.run(most)
     }
 
-    /// Goes on to the next event, by at most so many ticks, and answers how many they were: the
-    /// state and its switches are exactly those of so many single ticks. A running task is charged
+    /// As [`State::leap`], in the room that is there. Where there is none for a switch of each CPU
+    /// beside those so far, nothing has changed: it answers 0 then. There is where no switch waits.
+    /// Takes no memory.
+    pub(crate) fn leap_in_room(&mut self, most: u64) -> u64
+        requires some { 0 < most }
+        requires early { self.old.time + most ≤ 2 ^ 42 }
+        ensures some { self.old.switches ≡ [] → 0 < result }
+        ensures most { result ≤ most }
+        ensures ticks { self.new ≡ tick.ticks result self.old }
+        ensures keys { AreKept self.old.tasks self.new.tasks }
+    {
+        let made = self.doze_long(most);
+        if made > 0 {
+            return made;
+        }
+        self.leap_once_in_room(most)
+    }
+
+    /// As [`State::leap`], by one event.
+    fn leap_once(&mut self, most: u64) -> Result<u64, NoMemory>
+        requires some { 0 < most }
+        requires early { self.old.time + most ≤ 2 ^ 42 }
+        ensures some { IfOk result (λ made. 0 < made) }
+        ensures most { IfOk result (λ made. made ≤ most) }
+        ensures ok { IfOk result (λ made. self.new ≡ tick.ticks made self.old) }
+        ensures err { OnErr result (self.new ≡ self.old) }
+        ensures keys { AreKept self.old.tasks self.new.tasks }
+    {
+        self.begin_seated_anew()?;
+        let most = most.min(self.quiet());
+        Ok(self.run(most))
+    }
+
+    /// Goes on to the next event or to a later one, by at most so many ticks, and answers how many
+    /// they were: the state and its switches are exactly those of so many single ticks. A running task is charged
     /// only once its work or its budget ends, or its rate changes; what callers see is as if it
     /// were charged in each tick. Tasks that have left may go off the list; nobody comes, and the
     /// others keep number, bandwidth and order. Room for the switches is made first: on `Err`
@@ -109,8 +141,10 @@ impl State {
         ensures err { OnErr result (self.new ≡ self.old) }
         ensures keys { AreKept self.old.tasks self.new.tasks }
     {
-        self.begin_seated_anew()?;
-        let most = most.min(self.quiet());
-        Ok(self.run(most))
+        let made = self.doze_long(most);
+        if made > 0 {
+            return Ok(made);
+        }
+        self.leap_once(most)
     }
 }

@@ -1,6 +1,5 @@
-use Rattle.std.proofs.Common.{◌≡◌, ◌<◌, ◌≤◌, ◌+◌, ℕ, None, length, get_or, sym, ap, ◌∙◌, arith, inl, inr}
+use Rattle.std.proofs.Common.{◌≡◌, ◌<◌, None, length, get_or, sym, ap, ◌∙◌, arith, inl, inr}
 use Rattle.std.proofs.lemmas.Bool.{cases_lt}
-use Rattle.domain_run.specs.declared.task.Task.{Task}
 use Rattle.domain_run.specs.private.Dozing.{with_lag, with_lags}
 use Rattle.domain_run.proofs.Due.{step_len}
 use Rattle.domain_run.proofs.Dozing.{lists_same, length_lags, read_lags, step_here, step_other}

@@ -1,4 +1,3 @@
-use Rattle.domain_run.proofs.Aside.{lag_back}
 use Rattle.std.proofs.Common.{ℕ, ◌+◌, ap, ◌∙◌}
 use Rattle.domain_run.specs.Domain.{Domain}
 use Rattle.domain_run.specs.Jump.{ticks_to_event}

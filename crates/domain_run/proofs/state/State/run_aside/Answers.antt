@@ -87,9 +87,9 @@ returns-clause-domain c e is plain =
     let end : ℕ = s.time + (k - 1) in
     let same : d ≡ under_way e = c.self.view_is ∙ is in
     let lags =
-        c.leap_aside-ticks.ensures.lags (end - 1) (omega arith)
-        ∙ ap (λ n. map (leapt end k s.roster.places n s.limit s.roster.tasks) (with_lags (end - 1) c.args.lags.now s.roster.tasks)) c.self.invariant.wide
-        ∙ ap (λ (x : Domain). map (leapt end k x.curr x.cpus x.limit x.tasks) (with_lags (end - 1) c.args.lags.now x.tasks)) same in
+    c.leap_aside-ticks.ensures.lags (end - 1) (omega arith)
+    ∙ ap (λ n. map (leapt end k s.roster.places n s.limit s.roster.tasks) (with_lags (end - 1) c.args.lags.now s.roster.tasks)) c.self.invariant.wide
+    ∙ ap (λ (x : Domain). map (leapt end k x.curr x.cpus x.limit x.tasks) (with_lags (end - 1) c.args.lags.now x.tasks)) same in
     let lasts2 = subst (λ n. All (LastsIf k s.roster.places n s.limit s.roster.tasks) s.roster.tasks) c.self.invariant.wide c.leap_aside-ticks.ensures.lasts in
     let lasts = subst (λ (x : Domain). All (LastsIf k x.curr x.cpus x.limit x.tasks) x.tasks) same lasts2 in
     let quiet = subst (λ (x : Domain). c.args.most ≤ ticks_to_event x) is c.requires.quiet in

@@ -1,0 +1,15 @@
+use Rattle.std.proofs.Common.{sym, subst}
+use Rattle.domain_run.specs.Domain.{Domain}
+use Rattle.domain_run.specs.Keys.{AreKept}
+use Rattle.domain_run.proofs.KeptKeys.{kept_itself, ticks_kept}
+use Rattle.domain_run.proofs.state.State.leap_once_in_room.Goals as goal
+
+pub returns-then-not-begin_seated-clause-keys : goal.returns-then-not-begin_seated-clause-keys
+returns-then-not-begin_seated-clause-keys c =
+    subst (λ (d : Domain). AreKept c.args.self.now.tasks d.tasks) (sym (c.begin_seated.ensures.full c.if-not-begin_seated.true)) (kept_itself c.args.self.now.tasks)
+
+pub returns-clause-keys : goal.returns-clause-keys
+returns-clause-keys c =
+    let d = c.args.self.now in
+    let made = c.run.ensures.domain d (c.begin_seated.ensures.ok c.if-not-begin_seated.false) in
+    subst (λ (x : Domain). AreKept d.tasks x.tasks) (sym made) (ticks_kept c.run.result d c.begin_seated.ensures.domain.steady.numbered)
