@@ -1,6 +1,6 @@
 //! Zero-lag times that are put aside. Where no task of a domain reclaims nobody looks at them: no
-//! rate depends on the bandwidth that is active, and a zero-lag time that comes changes no CPU. So a
-//! long advance puts each aside when its task stops, and goes past it; at its end those that are
+//! rate depends on the bandwidth that is active, and a zero-lag time that comes changes no CPU. So
+//! a long advance puts each aside when its task stops, and goes past it; at its end those that are
 //! still ahead come back.
 
 ghost use Rattle.std.specs.Prelude.{ℕ, ◌||◌, not, nat_le, ◌≡◌, ◌<◌, ◌≤◌, ◌+◌, ◌^◌, IsTrue, All, IfSome, None, map, length, slice_index_or, slice_set};

@@ -127,11 +127,11 @@ impl State {
     }
 
     /// Goes on to the next event or to a later one, by at most so many ticks, and answers how many
-    /// they were: the state and its switches are exactly those of so many single ticks. A running task is charged
-    /// only once its work or its budget ends, or its rate changes; what callers see is as if it
-    /// were charged in each tick. Tasks that have left may go off the list; nobody comes, and the
-    /// others keep number, bandwidth and order. Room for the switches is made first: on `Err`
-    /// nothing has changed.
+    /// they were: the state and its switches are exactly those of so many single ticks. A running
+    /// task is charged only once its work or its budget ends, or its rate changes; what callers see
+    /// is as if it were charged in each tick. Tasks that have left may go off the list; nobody
+    /// comes, and the others keep number, bandwidth and order. Room for the switches is made first:
+    /// on `Err` nothing has changed.
     pub fn leap(&mut self, most: u64) -> Result<u64, NoMemory>
         requires some { 0 < most }
         requires early { self.old.time + most ≤ 2 ^ 42 }
