@@ -65,12 +65,7 @@ fn settle_all(
 {
     let mut tasks = Vec::new(alloc);
     for j in 0..model.len() {
-        tasks.push(settle_both(
-            alloc,
-            noise,
-            model[j].as_slice(),
-            recorded[j].as_slice(),
-        )?)?;
+        tasks.push(settle_both(alloc, noise, model[j].as_slice(), recorded[j].as_slice())?)?;
     }
     Ok(tasks)
 }
