@@ -17,6 +17,7 @@ use edf_pick::marks::without;
 
 /// Who stands on each CPU sits there at its rate, and nobody else sits. A look at those alone that
 /// are in doubt.
+#[inline(always)]
 fn seat_all(roster: &mut Roster, limit: u64)
     requires wide { length roster.old.places ≡ roster.old.cpus }
     requires cpus { (0 < roster.old.cpus) × (roster.old.cpus ≤ 64) }

@@ -100,6 +100,7 @@ impl State {
     /// As [`State::leap_in_room`], over many events, where no task reclaims: their zero-lag times
     /// are put aside meanwhile. Where it cannot be so it answers 0, and nothing has changed. Takes
     /// no memory.
+    #[inline(never)]
     pub(super) fn doze(&mut self, most: u64) -> u64
         requires early { self.old.time + most ≤ 2 ^ 42 }
         ensures most { result ≤ most }
@@ -116,13 +117,13 @@ impl State {
     }
 
     // Whether there is room for the switches of an event.
-    fn has_room(&self) -> bool
-        ensures domain { IsDomain self.now }
-    {
+    #[inline(always)]
+    fn has_room(&self) -> bool {
         self.switches.capacity() - self.switches.len() >= self.cpus
     }
 
     // Of so many leaps one less is to go to each zero-lag time.
+    #[inline(always)]
     fn wake_less(&mut self)
         ensures { self.new ≡ self.old }
     {
@@ -137,13 +138,16 @@ impl State {
     }
 
     /// As `doze`, where that is worth it: not where it could not be a short while ago.
+    #[inline(always)]
     pub(super) fn doze_long(&mut self, most: u64) -> u64
         requires early { self.old.time + most ≤ 2 ^ 42 }
         ensures most { result ≤ most }
         ensures ticks { self.new ≡ tick.ticks result self.old }
         ensures domain { IsDomain self.old }
     {
-        if !self.has_room() || most < LONG {
+        // For the prover alone: a look at a field brings what the type keeps.
+        let _ = &self.cpus;
+        if most < LONG || !self.has_room() {
             return 0;
         }
         if self.wakeful > 0 {
