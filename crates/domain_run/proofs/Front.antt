@@ -1,9 +1,10 @@
 -- The tasks before a place that stay where those behind it go.
-use Rattle.std.proofs.Common.{◌≡◌, ℕ, zero, suc, ◌<◌, ◌≤◌, true, Bool, cond, not, ◌≢◌, List, [], ◌∷◌, ◌++◌, length, map, get_or, take, drop, refl, sym, ap, ◌∙◌, subst, arith}
+use Rattle.std.proofs.Common.{◌≡◌, ℕ, zero, suc, ◌+◌, ◌<◌, ◌≤◌, true, false, Bool, cond, not, ◌≢◌, List, [], ◌∷◌, ◌++◌, length, map, get_or, take, drop, refl, sym, ap, ◌∙◌, subst, arith}
 use Rattle.std.specs.Prelude.{AllPairs, filter}
 use Rattle.std.specs.List.{remove}
 use Rattle.std.proofs.lemmas.Bool.{ne_eqb}
 use Rattle.std.proofs.lemmas.List.{length-map, length-take, map-append, take-map, drop-map, get_or-map}
+use Rattle.std.proofs.lemmas.List.Filters.{length-filter_both}
 use Rattle.domain_run.specs.declared.task.Task.{Task}
 use Rattle.domain_run.specs.Calls.{is_other}
 use Rattle.domain_run.specs.Parts.{is_listed}
@@ -55,6 +56,12 @@ others_long tasks number p numbered at =
 pub others_all : (tasks : List Task) (number : ℕ) → IsAbsent tasks number → filter (is_other number) tasks ≡ tasks
 others_all tasks number absent = filter_whole (is_other number) tasks (λ k d within. ap not (ne_eqb (get_or tasks k d).number number (absent k d within)))
 
+-- a list without one of its items is what stands before it and behind it
+pub removed_parts : {X : Type 0} (xs : List X) (i : ℕ) → remove xs i ≡ take i xs ++ drop (i + 1) xs
+removed_parts xs i =
+    let next : suc i ≡ i + 1 = omega arith in
+    ap (λ n. take i xs ++ drop n xs) next
+
 -- what is left of a list without one of its items
 pub remove_map : {X Y : Type 0} (f : X → Y) (xs : List X) (i : ℕ) → remove (map f xs) i ≡ map f (remove xs i)
 remove_map f xs i =
@@ -65,3 +72,38 @@ pub remove_before : {X : Type 0} (xs : List X) (i : ℕ) → take i (remove xs i
 remove_before xs zero = refl
 remove_before [] (suc i) = refl
 remove_before (x ∷ xs) (suc i) = ap (λ ys. x ∷ ys) (remove_before xs i)
+
+-- those that stay are not more
+pub filter_short : {X : Type 0} (f : X → Bool) (xs : List X) → length (filter f xs) ≤ length xs
+filter_short f xs = let both = length-filter_both f (λ x. not (f x)) (λ x. refl) xs in omega (arith, both)
+
+-- A LIST FILTERED FROM ITS END: `q` items are not looked at yet, and the next is at `p`
+
+-- the next does not stay
+pub filter_gone : {X : Type 0} (f : X → Bool) (xs : List X) (p : ℕ) (d : X) → p < length xs → f (get_or xs p d) ≡ false → remove (take (suc p) xs ++ filter f (drop (suc p) xs)) p ≡ take p xs ++ filter f (drop p xs)
+filter_gone f [] p d h gone = absurd (omega (arith, h))
+filter_gone f (x ∷ xs) zero d h gone = sym (ap (λ b. cond b (x ∷ filter f xs) (filter f xs)) gone)
+filter_gone f (x ∷ xs) (suc p) d h gone = ap (λ ys. x ∷ ys) (filter_gone f xs p d (omega (arith, h)) gone)
+
+-- it stays
+pub filter_stays : {X : Type 0} (f : X → Bool) (xs : List X) (p : ℕ) (d : X) → p < length xs → f (get_or xs p d) ≡ true → take (suc p) xs ++ filter f (drop (suc p) xs) ≡ take p xs ++ filter f (drop p xs)
+filter_stays f [] p d h stays = absurd (omega (arith, h))
+filter_stays f (x ∷ xs) zero d h stays = sym (ap (λ b. cond b (x ∷ filter f xs) (filter f xs)) stays)
+filter_stays f (x ∷ xs) (suc p) d h stays = ap (λ ys. x ∷ ys) (filter_stays f xs p d (omega (arith, h)) stays)
+
+-- which one it is
+pub filter_next : {X : Type 0} (f : X → Bool) (xs : List X) (p : ℕ) (d : X) → p < length xs → get_or (take (suc p) xs ++ filter f (drop (suc p) xs)) p d ≡ get_or xs p d
+filter_next f [] p d h = absurd (omega (arith, h))
+filter_next f (x ∷ xs) zero d h = refl
+filter_next f (x ∷ xs) (suc p) d h = filter_next f xs p d (omega (arith, h))
+
+-- it is there
+pub filter_there : {X : Type 0} (f : X → Bool) (xs : List X) (p : ℕ) → p < length xs → p < length (take (suc p) xs ++ filter f (drop (suc p) xs))
+filter_there f [] p h = absurd (omega (arith, h))
+filter_there f (x ∷ xs) zero h = omega arith
+filter_there f (x ∷ xs) (suc p) h = let more = filter_there f xs p (omega (arith, h)) in omega (arith, more)
+
+-- none is looked at
+pub filter_all : {X : Type 0} (f : X → Bool) (xs : List X) → xs ≡ take (length xs) xs ++ filter f (drop (length xs) xs)
+filter_all f [] = refl
+filter_all f (x ∷ xs) = ap (λ ys. x ∷ ys) (filter_all f xs)

@@ -223,13 +223,12 @@ view_again queue cpu o s v items after r view are same =
     (λ i. record (roster_view queue s items) { clock = (are i).upto; seats = (are i).seats; tasks = same i })
     ∙ ap (λ (x : RosterView). record x { seats = set x.seats cpu o }) view
 
-pub kept_again : (queue : RunQueue) (s v : SeatsView) (items after : List Task) (capacity : ℕ) (d e : Doubts) → IsKept queue s items capacity d → owed_all v after ≡ owed_all s items → AllWait v.seats after → length v.seats ≡ length s.seats → AreSettled e (length queue.accounts.all) queue.schedule.places v.seats (owed_all v after) → IsKept queue v after capacity e
-kept_again queue s v items after capacity d e is same waits long settled = record {
+pub kept_again : (queue : RunQueue) (s v : SeatsView) (items after : List Task) (d e : Doubts) → IsKept queue s items d → owed_all v after ≡ owed_all s items → AllWait v.seats after → length v.seats ≡ length s.seats → AreSettled e (length queue.accounts.all) queue.schedule.places v.seats (owed_all v after) → IsKept queue v after e
+kept_again queue s v items after d e is same waits long settled = record {
   counted = subst (IsCounted (length queue.accounts.all) queue) (sym same) is.counted;
   waits = waits;
   wide = long ∙ is.wide;
   settled = settled;
-  room = is.room;
 }
 
 -- the task of a number is at one place

@@ -7,6 +7,7 @@ ghost use Rattle.domain_run.specs.private.Index.{IsAt, IsAbsent};
 
 use crate::task::Task;
 use no_memory::NoMemory;
+use slot_list::SlotList;
 use std::alloc::{AllocError, Global};
 use std::marker::Model;
 
@@ -64,14 +65,27 @@ impl Index {
     }
 
     /// The place of the task of a number, where it is listed.
-    pub(crate) fn place(&self, tasks: &[Task], number: u32) -> Option<usize>
+    pub(crate) fn place(&self, tasks: &SlotList<Task>, number: u32) -> Option<usize>
         ensures there { IfSome result (IsAt tasks.now number) }
         ensures absent { IfNone result (IsAbsent tasks.now number) }
     {
         let place = self.noted_place(number);
-        if place < tasks.len() && tasks[place].number == number {
+        if place < tasks.len() && tasks.at(place).number == number {
             return Some(place);
         }
-        tasks.iter().position(|task| task.number == number)
+        searched(tasks, number)
     }
+}
+
+// The same by a look at each task.
+fn searched(tasks: &SlotList<Task>, number: u32) -> Option<usize>
+    ensures there { IfSome result (IsAt tasks.now number) }
+    ensures absent { IfNone result (IsAbsent tasks.now number) }
+{
+    for place in 0..tasks.len() {
+        if tasks.at(place).number == number {
+            return Some(place);
+        }
+    }
+    None
 }

@@ -47,6 +47,7 @@ pub(crate) use dozing::Lags;
 use due_times::{Doubts, Seats};
 use edf_pick::Moved;
 use no_memory::NoMemory;
+use slot_list::SlotList;
 pub(crate) use starting::Moment;
 use std::alloc::Global;
 use std::marker::Model;
@@ -55,7 +56,7 @@ use std::marker::Model;
 #[derive(Drop)]
 pub(crate) struct Roster {
     // Those that sit have not been charged since their seats say.
-    tasks: Vec<Task>,
+    tasks: SlotList<Task>,
     seats: Seats,
     // The running sums of the listed tasks, the ready ones in order, and when each is due.
     queue: RunQueue,
@@ -78,10 +79,10 @@ impl Model for Roster {
       seats = r.seats.seats;
       places = r.queue.schedule.places;
       moves = r.queue.schedule.moves;
-      tasks = owed_all r.seats r.tasks.items;
+      tasks = owed_all r.seats r.tasks;
     } };
 
-    ghost invariant = { λ r. IsKept r.queue r.seats r.tasks.items (vec_capacity r.tasks) r.doubts };
+    ghost invariant = { λ r. IsKept r.queue r.seats r.tasks r.doubts };
 }
 
 impl Roster {
@@ -99,7 +100,7 @@ impl Roster {
         }) }
     {
         Ok(Roster {
-            tasks: Vec::with_capacity(alloc, 256)?,
+            tasks: SlotList::open(alloc)?,
             seats: Seats::open(alloc, cpus)?,
             queue: RunQueue::open(alloc, cpus)?,
             index: Index::open(alloc)?,
@@ -111,10 +112,10 @@ impl Roster {
     pub(crate) fn number_at(&self, place: usize) -> Option<u32>
         ensures { result ≡ option_map (λ t. t.number) (slice_get self.now.tasks place) }
     {
-        match self.tasks.get(place) {
-            None => None,
-            Some(task) => Some(task.number),
+        if place < self.tasks.len() {
+            return Some(self.tasks.at(place).number);
         }
+        None
     }
 
     /// How many they are.
@@ -131,7 +132,7 @@ impl Roster {
         ensures cpu { (d : Task) → result ≡ (slice_index_or self.now.tasks place d).cpu }
         ensures home { result < self.now.cpus }
     {
-        self.tasks[place].cpu
+        self.tasks.at(place).cpu
     }
 
     /// The task at a place, where it does not sit. It belongs to a CPU of the domain.
@@ -142,7 +143,7 @@ impl Roster {
         ensures task { (d : Task) → result.now ≡ slice_index_or self.now.tasks place d }
         ensures home { result.now.cpu < self.now.cpus }
     {
-        &self.tasks[place]
+        self.tasks.at(place)
     }
 
     /// The number of the task at a place, where it has left.
@@ -157,7 +158,7 @@ impl Roster {
             ((d : Task) → is_listed (slice_index_or self.now.tasks place d) ≡ true) }
         ensures numbered { AllPairs (λ a b. a.number ≢ b.number) self.now.tasks }
     {
-        let task = &self.tasks[place];
+        let task = self.tasks.at(place);
         if parts::is_listed(task) {
             return None;
         }
@@ -184,7 +185,7 @@ impl Roster {
     {
         match self.place(number) {
             None => None,
-            Some(place) => Some(&self.tasks[place]),
+            Some(place) => Some(self.tasks.at(place)),
         }
     }
 
@@ -211,7 +212,7 @@ impl Roster {
     {
         match self.place(number) {
             None => None,
-            Some(place) => Some(lending::view_at(&self.tasks[place], &self.seats)),
+            Some(place) => Some(lending::view_at(self.tasks.at(place), &self.seats)),
         }
     }
 
@@ -223,7 +224,7 @@ impl Roster {
         match self.place(number) {
             None => None,
             Some(place) => {
-                let task = &self.tasks[place];
+                let task = self.tasks.at(place);
                 let uinact = self.uinact(task.cpu);
                 Some(lending::runner_at(task, &self.seats, uinact))
             }
@@ -320,12 +321,12 @@ impl Roster {
         ensures places { self.new.places ≡ self.old.places }
         ensures left { HasLeft place self.old self.new }
     {
-        if change::does_nothing(&self.tasks[place], time, change) {
+        if change::does_nothing(self.tasks.at(place), time, change) {
             return;
         }
         // For the prover alone: a look at the seats brings that there are at most 64.
         let _ = self.seats.len();
-        let cpu = self.tasks[place].cpu;
+        let cpu = self.tasks.at(place).cpu;
         let sat = turning::turn_task(
             &mut self.tasks,
             &mut self.queue,
@@ -359,7 +360,13 @@ impl Roster {
     {
         // For the prover alone: a look at the seats brings that there are at most 64.
         let _ = self.seats.len();
-        turning::turn_settled(&mut self.tasks[place], &mut self.queue, place, time, change)
+        turning::turn_settled(
+            self.tasks.at_mut(place),
+            &mut self.queue,
+            place,
+            time,
+            change,
+        )
     }
 
     /// Changes the task of a number, where it is listed.

@@ -46,16 +46,14 @@ HasLeft place old new =
     (left_of (slice_index_or old.tasks place d) old.seats))
 
 -- what a roster keeps: its run queue counts its list, each seat has its task's charges, who stands
--- on a CPU that is not in doubt sits there rightly, there is a place for each CPU, and the room for
--- 256 tasks that it was opened with, so it takes no more
-pub record IsKept (queue : RunQueue) (seats : SeatsView) (tasks : List Task) (capacity : ℕ)
-    (doubts : Doubts) : Type 0 where
+-- on a CPU that is not in doubt sits there rightly, and there is a place for each CPU
+pub record IsKept (queue : RunQueue) (seats : SeatsView) (tasks : List Task) (doubts : Doubts)
+    : Type 0 where
   pub counted : IsCounted (length queue.accounts.all) queue (owed_all seats tasks)
   pub waits : AllWait seats.seats tasks
   pub wide : length seats.seats ≡ length queue.accounts.all
   pub settled : AreSettled doubts (length queue.accounts.all) queue.schedule.places seats.seats
       (owed_all seats tasks)
-  pub room : capacity ≡ 256
 
 -- a task of the list that is seen but for what is left of its budget and its work
 pub record IsSeenAs (t : Task) (found : Option Task) : Type 0 where

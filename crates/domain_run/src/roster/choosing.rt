@@ -21,6 +21,7 @@ use crate::task::Task;
 use due_times::{Doubts, Seats};
 use edf_pick::Schedule;
 use grub_rules::Accounts;
+use slot_list::SlotList;
 
 /// Who stands on a CPU, if anyone does.
 #[inline(always)]
@@ -35,7 +36,7 @@ pub(super) fn occupant_of(places: &[Option<u32>], cpu: usize) -> Option<u32>
 
 /// Part 5: the state in which an occupant leaves its CPU.
 #[inline(always)]
-pub(super) fn state_of(tasks: &[Task], index: &Index, occupant: Option<u32>) -> PrevState
+pub(super) fn state_of(tasks: &SlotList<Task>, index: &Index, occupant: Option<u32>) -> PrevState
     requires numbered { AllPairs (λ a b. a.number ≢ b.number) tasks.now }
     ensures { result ≡ switches_spec.state_of tasks.now occupant }
 {
@@ -43,7 +44,7 @@ pub(super) fn state_of(tasks: &[Task], index: &Index, occupant: Option<u32>) -> 
         None => PrevState::Running,
         Some(number) => match index.place(tasks, number) {
             None => PrevState::Dead,
-            Some(place) => parts::left_in(tasks[place].condition),
+            Some(place) => parts::left_in(tasks.at(place).condition),
         },
     }
 }
@@ -75,7 +76,7 @@ fn start(task: &mut Task, accounts: &mut Accounts, seats: &mut Seats, cpu: usize
 // The task that stands on a CPU, if one does and is listed, belongs to it. Its place of the list.
 #[inline(always)]
 pub(super) fn home_on(
-    tasks: &mut Vec<Task>,
+    tasks: &mut SlotList<Task>,
     accounts: &mut Accounts,
     seats: &mut Seats,
     index: &Index,
@@ -84,23 +85,22 @@ pub(super) fn home_on(
     doubts: &mut Doubts,
 ) -> Option<usize>
     requires there { cpu < length accounts.old.all }
-    requires counts { spec.AreCounted accounts.old seats.old tasks.old.items }
+    requires counts { spec.AreCounted accounts.old seats.old tasks.old }
     ensures place { IfSome result
-        (λ p. spec.IsHome occupant cpu p (waiting.owed_all seats.new tasks.new.items)) }
+        (λ p. spec.IsHome occupant cpu p (waiting.owed_all seats.new tasks.new)) }
     ensures wide { length accounts.new.all ≡ length accounts.old.all }
-    ensures counts { spec.AreCounted accounts.new seats.new tasks.new.items }
-    ensures tasks { waiting.owed_all seats.new tasks.new.items
-        ≡ map (homed_here occupant cpu) (waiting.owed_all seats.old tasks.old.items) }
+    ensures counts { spec.AreCounted accounts.new seats.new tasks.new }
+    ensures tasks { waiting.owed_all seats.new tasks.new
+        ≡ map (homed_here occupant cpu) (waiting.owed_all seats.old tasks.old) }
     ensures clock { seats.new.upto ≡ seats.old.upto }
     ensures seats { length seats.new.seats ≡ length seats.old.seats }
     ensures marked { IsMarked doubts.old.rated doubts.old.cpus doubts.new.cpus seats.old.seats
-        seats.new.seats (waiting.owed_all seats.old tasks.old.items)
-        (waiting.owed_all seats.new tasks.new.items) }
+        seats.new.seats (waiting.owed_all seats.old tasks.old)
+        (waiting.owed_all seats.new tasks.new) }
     ensures here { cpu < 64 → bit_at doubts.new.cpus cpu ≡ 1 }
     ensures rated { doubts.new.rated ≡ doubts.old.rated }
     ensures sum { doubts.new.sum ≡ doubts.old.sum }
     ensures limit { doubts.new.limit ≡ doubts.old.limit }
-    ensures room { vec_capacity tasks.new ≡ vec_capacity tasks.old }
 {
     doubts.mark(cpu);
     let Some(number) = occupant else {
@@ -109,19 +109,19 @@ pub(super) fn home_on(
     let Some(place) = index.place(tasks, number) else {
         return None;
     };
-    let left = tasks[place].cpu;
+    let left = tasks.at(place).cpu;
     if left == cpu {
         return Some(place);
     }
     doubts.mark_left(left, seats.seat_of(left, number).is_some());
-    start(&mut tasks[place], accounts, seats, cpu);
+    start(tasks.at_mut(place), accounts, seats, cpu);
     Some(place)
 }
 
 /// Each task to which the last choice gave a CPU belongs to it.
 #[inline(always)]
 pub(super) fn home_all(
-    tasks: &mut Vec<Task>,
+    tasks: &mut SlotList<Task>,
     accounts: &mut Accounts,
     seats: &mut Seats,
     index: &Index,
@@ -129,22 +129,21 @@ pub(super) fn home_all(
     doubts: &mut Doubts,
 )
     requires there { spec.AreWithin (length accounts.old.all) schedule.now.moves }
-    requires counts { spec.AreCounted accounts.old seats.old tasks.old.items }
+    requires counts { spec.AreCounted accounts.old seats.old tasks.old }
     ensures wide { length accounts.new.all ≡ length accounts.old.all }
-    ensures counts { spec.AreCounted accounts.new seats.new tasks.new.items }
-    ensures tasks { waiting.owed_all seats.new tasks.new.items
+    ensures counts { spec.AreCounted accounts.new seats.new tasks.new }
+    ensures tasks { waiting.owed_all seats.new tasks.new
         ≡ map (spec.homed_by schedule.now.places schedule.now.moves)
-        (waiting.owed_all seats.old tasks.old.items) }
+        (waiting.owed_all seats.old tasks.old) }
     ensures clock { seats.new.upto ≡ seats.old.upto }
     ensures seats { length seats.new.seats ≡ length seats.old.seats }
     ensures marked { IsMarked doubts.old.rated doubts.old.cpus doubts.new.cpus seats.old.seats
-        seats.new.seats (waiting.owed_all seats.old tasks.old.items)
-        (waiting.owed_all seats.new tasks.new.items) }
+        seats.new.seats (waiting.owed_all seats.old tasks.old)
+        (waiting.owed_all seats.new tasks.new) }
     ensures moved { All (λ m. m.cpu < 64 → bit_at doubts.new.cpus m.cpu ≡ 1) schedule.now.moves }
     ensures rated { doubts.new.rated ≡ doubts.old.rated }
     ensures sum { doubts.new.sum ≡ doubts.old.sum }
     ensures limit { doubts.new.limit ≡ doubts.old.limit }
-    ensures room { vec_capacity tasks.new ≡ vec_capacity tasks.old }
 {
     let places = schedule.occupants();
     let moves = schedule.moves();

@@ -48,7 +48,7 @@ impl Roster {
         ensures { IsTrue result → All (MayDoze time) self.now.tasks }
     {
         'tasks: for place in 0..self.tasks.len() {
-            if !may_doze(&self.tasks[place], time) {
+            if !may_doze(self.tasks.at(place), time) {
                 return false;
             }
         }
@@ -65,7 +65,7 @@ impl Roster {
         ensures sound { All (IsSound time) self.new.tasks }
         ensures lag { (d : Task) → result ≡ (slice_index_or self.old.tasks place d).zero_lag }
     {
-        let lag = self.tasks[place].zero_lag;
+        let lag = self.tasks.at(place).zero_lag;
         if lag.is_some() {
             self.turn(place, time, &Change::PutAside);
         }
@@ -101,7 +101,7 @@ impl Roster {
         let Some(lag) = lag else {
             return;
         };
-        if is_ahead(self.tasks[place].condition, past, lag) {
+        if is_ahead(self.tasks.at(place).condition, past, lag) {
             self.turn(place, time, &Change::TakeBack { lag });
         }
     }
@@ -152,7 +152,7 @@ impl Roster {
             return;
         };
         self.vacate_at(cpu, place, seat);
-        let left = self.tasks[place].server.left;
+        let left = self.tasks.at(place).server.left;
         let left = left_after(left, used_in(left, seat.rate, ticks));
         lags[place] = self.turn_charged(place, time, &Change::RunAside { ticks, left });
     }

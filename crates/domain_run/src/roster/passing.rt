@@ -42,7 +42,7 @@ impl Roster {
         let Some(place) = self.place(number) else {
             return None;
         };
-        if self.tasks[place].cpu != cpu {
+        if self.tasks.at(place).cpu != cpu {
             return None;
         }
         Some(place)
@@ -87,7 +87,7 @@ impl Roster {
             return;
         };
         self.vacate_at(cpu, place, seat);
-        let left = self.tasks[place].server.left;
+        let left = self.tasks.at(place).server.left;
         let left = left_after(left, used_in(left, seat.rate, ticks));
         self.turn_charged(place, time, &Change::Run { ticks, left });
     }

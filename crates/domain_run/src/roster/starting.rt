@@ -22,6 +22,7 @@ use crate::task::Task;
 use due_times::{Basis, Doubts, Rating, Seat, Seats};
 use edf_pick::{Moved, Schedule};
 use grub_rules::Accounts;
+use slot_list::SlotList;
 
 /// When a tick begins, and in a domain of which limit.
 #[derive(Clone, Copy)]
@@ -35,7 +36,7 @@ pub(crate) struct Moment {
 /// Nobody sits on a CPU any more; who did, the task at a place of the list, is charged.
 #[inline(always)]
 pub(super) fn vacate_place(
-    tasks: &mut Vec<Task>,
+    tasks: &mut SlotList<Task>,
     seats: &mut Seats,
     cpu: usize,
     place: usize,
@@ -43,31 +44,29 @@ pub(super) fn vacate_place(
 )
     requires there { cpu < length seats.old.seats }
     requires sits { slice_index_or seats.old.seats cpu None ≡ Some seat }
-    requires at { IsAt tasks.old.items seat.number place }
+    requires at { IsAt tasks.old seat.number place }
     requires ahead { IsAhead seats.old.upto seat }
-    requires numbered { AllPairs (λ a b. a.number ≢ b.number) tasks.old.items }
-    requires waits { waiting.AllWait seats.old.seats tasks.old.items }
+    requires numbered { AllPairs (λ a b. a.number ≢ b.number) tasks.old }
+    requires waits { waiting.AllWait seats.old.seats tasks.old }
     ensures seats { seats.new ≡ record seats.old { seats = slice_set seats.old.seats cpu None } }
-    ensures tasks { waiting.owed_all seats.new tasks.new.items
-        ≡ waiting.owed_all seats.old tasks.old.items }
-    ensures waits { waiting.AllWait seats.new.seats tasks.new.items }
-    ensures room { vec_capacity tasks.new ≡ vec_capacity tasks.old }
+    ensures tasks { waiting.owed_all seats.new tasks.new
+        ≡ waiting.owed_all seats.old tasks.old }
+    ensures waits { waiting.AllWait seats.new.seats tasks.new }
 {
-    charge_on(&mut tasks[place], cpu, seat, seats.upto());
+    charge_on(tasks.at_mut(place), cpu, seat, seats.upto());
     seats.set(cpu, None);
 }
 
 /// Nobody sits on a CPU any more; who did is charged.
 #[inline(never)]
-pub(super) fn vacate_on(tasks: &mut Vec<Task>, seats: &mut Seats, index: &Index, cpu: usize)
+pub(super) fn vacate_on(tasks: &mut SlotList<Task>, seats: &mut Seats, index: &Index, cpu: usize)
     requires there { cpu < length seats.old.seats }
-    requires numbered { AllPairs (λ a b. a.number ≢ b.number) tasks.old.items }
-    requires waits { waiting.AllWait seats.old.seats tasks.old.items }
+    requires numbered { AllPairs (λ a b. a.number ≢ b.number) tasks.old }
+    requires waits { waiting.AllWait seats.old.seats tasks.old }
     ensures seats { seats.new ≡ record seats.old { seats = slice_set seats.old.seats cpu None } }
-    ensures tasks { waiting.owed_all seats.new tasks.new.items
-        ≡ waiting.owed_all seats.old tasks.old.items }
-    ensures waits { waiting.AllWait seats.new.seats tasks.new.items }
-    ensures room { vec_capacity tasks.new ≡ vec_capacity tasks.old }
+    ensures tasks { waiting.owed_all seats.new tasks.new
+        ≡ waiting.owed_all seats.old tasks.old }
+    ensures waits { waiting.AllWait seats.new.seats tasks.new }
 {
     let Some(seat) = seats.get(cpu) else {
         return;
@@ -80,15 +79,14 @@ pub(super) fn vacate_on(tasks: &mut Vec<Task>, seats: &mut Seats, index: &Index,
 
 // As `vacate_on`: mostly nobody sits there.
 #[inline(always)]
-fn leave_free_on(tasks: &mut Vec<Task>, seats: &mut Seats, index: &Index, cpu: usize)
+fn leave_free_on(tasks: &mut SlotList<Task>, seats: &mut Seats, index: &Index, cpu: usize)
     requires there { cpu < length seats.old.seats }
-    requires numbered { AllPairs (λ a b. a.number ≢ b.number) tasks.old.items }
-    requires waits { waiting.AllWait seats.old.seats tasks.old.items }
+    requires numbered { AllPairs (λ a b. a.number ≢ b.number) tasks.old }
+    requires waits { waiting.AllWait seats.old.seats tasks.old }
     ensures seats { seats.new ≡ record seats.old { seats = slice_set seats.old.seats cpu None } }
-    ensures tasks { waiting.owed_all seats.new tasks.new.items
-        ≡ waiting.owed_all seats.old tasks.old.items }
-    ensures waits { waiting.AllWait seats.new.seats tasks.new.items }
-    ensures room { vec_capacity tasks.new ≡ vec_capacity tasks.old }
+    ensures tasks { waiting.owed_all seats.new tasks.new
+        ≡ waiting.owed_all seats.old tasks.old }
+    ensures waits { waiting.AllWait seats.new.seats tasks.new }
 {
     if !seats.is_free(cpu) {
         vacate_on(tasks, seats, index, cpu);
@@ -141,7 +139,7 @@ fn rating_of(task: &Task, accounts: &Accounts, cpu: usize, limit: u64) -> Rating
 /// The task at a place, which belongs to a CPU on which nobody sits, sits there at its rate.
 #[inline(always)]
 pub(super) fn sit_at(
-    tasks: &[Task],
+    tasks: &SlotList<Task>,
     accounts: &Accounts,
     seats: &mut Seats,
     doubts: &mut Doubts,
@@ -181,7 +179,7 @@ pub(super) fn sit_at(
     ensures sum { doubts.new.sum ≡ doubts.old.sum }
     ensures limit { doubts.new.limit ≡ doubts.old.limit }
 {
-    let task = &tasks[place];
+    let task = tasks.at(place);
     let rating = rating_of(task, accounts, cpu, limit);
     let is_rated = rating.basis.is_some();
     let seat = seat_for(task, seats.upto(), rating);
@@ -193,7 +191,7 @@ pub(super) fn sit_at(
 /// rate, and nobody else does.
 #[inline(always)]
 fn seat_next(
-    tasks: &mut Vec<Task>,
+    tasks: &mut SlotList<Task>,
     accounts: &mut Accounts,
     seats: &mut Seats,
     index: &Index,
@@ -206,24 +204,23 @@ fn seat_next(
     requires wide { length seats.old.seats ≡ length accounts.old.all }
     requires cpus { (0 < length accounts.old.all) × (length accounts.old.all ≤ 64) }
     requires limit { IsLimit limit }
-    requires counts { spec.AreCounted accounts.old seats.old tasks.old.items }
-    requires within { sum_of (waiting.owed_all seats.old tasks.old.items)
+    requires counts { spec.AreCounted accounts.old seats.old tasks.old }
+    requires within { sum_of (waiting.owed_all seats.old tasks.old)
         ≤ cap (length accounts.old.all) limit }
     requires may { IfSome occupant
-        (waiting.MaySitOf (waiting.owed_all seats.old tasks.old.items)) }
+        (waiting.MaySitOf (waiting.owed_all seats.old tasks.old)) }
     ensures wide { length accounts.new.all ≡ length accounts.old.all }
-    ensures counts { spec.AreCounted accounts.new seats.new tasks.new.items }
-    ensures tasks { waiting.owed_all seats.new tasks.new.items
-        ≡ map (homed_here occupant cpu) (waiting.owed_all seats.old tasks.old.items) }
+    ensures counts { spec.AreCounted accounts.new seats.new tasks.new }
+    ensures tasks { waiting.owed_all seats.new tasks.new
+        ≡ map (homed_here occupant cpu) (waiting.owed_all seats.old tasks.old) }
     ensures clock { seats.new.upto ≡ seats.old.upto }
     ensures seats { length seats.new.seats ≡ length seats.old.seats }
     ensures here { doubts_spec.IsTrusted doubts.new
         (length accounts.old.all) occupant seats.new.seats
-        (waiting.owed_all seats.new tasks.new.items) cpu }
+        (waiting.owed_all seats.new tasks.new) cpu }
     ensures trust { doubts_spec.KeepsTrust (length accounts.old.all) cpu doubts.old seats.old.seats
-        (waiting.owed_all seats.old tasks.old.items) doubts.new seats.new.seats
-        (waiting.owed_all seats.new tasks.new.items) }
-    ensures room { vec_capacity tasks.new ≡ vec_capacity tasks.old }
+        (waiting.owed_all seats.old tasks.old) doubts.new seats.new.seats
+        (waiting.owed_all seats.new tasks.new) }
 {
     let place = home_on(tasks, accounts, seats, index, occupant, cpu, doubts);
     leave_free_on(tasks, seats, index, cpu);
@@ -240,7 +237,7 @@ fn seat_next(
 /// there is a switch for each of these CPUs.
 #[inline(always)]
 pub(super) fn seat_moved(
-    tasks: &mut Vec<Task>,
+    tasks: &mut SlotList<Task>,
     accounts: &mut Accounts,
     seats: &mut Seats,
     index: &Index,
@@ -253,27 +250,26 @@ pub(super) fn seat_moved(
     requires wide { length seats.old.seats ≡ length accounts.old.all }
     requires cpus { (0 < length accounts.old.all) × (length accounts.old.all ≤ 64) }
     requires limit { IsLimit moment.limit }
-    requires counts { spec.AreCounted accounts.old seats.old tasks.old.items }
-    requires within { sum_of (waiting.owed_all seats.old tasks.old.items)
+    requires counts { spec.AreCounted accounts.old seats.old tasks.old }
+    requires within { sum_of (waiting.owed_all seats.old tasks.old)
         ≤ cap (length accounts.old.all) moment.limit }
     requires may { (cpu : ℕ) → IfSome (occupant_in schedule.now.places cpu)
-        (waiting.MaySitOf (waiting.owed_all seats.old tasks.old.items)) }
+        (waiting.MaySitOf (waiting.owed_all seats.old tasks.old)) }
     requires settled { doubts_spec.AreSettledBut schedule.now.moves doubts.old
         (length accounts.old.all) schedule.now.places seats.old.seats
-        (waiting.owed_all seats.old tasks.old.items) }
+        (waiting.owed_all seats.old tasks.old) }
     requires spare { vec_len switches.old + length schedule.now.moves ≤ vec_capacity switches.old }
     ensures wide { length accounts.new.all ≡ length accounts.old.all }
-    ensures counts { spec.AreCounted accounts.new seats.new tasks.new.items }
-    ensures tasks { waiting.owed_all seats.new tasks.new.items
+    ensures counts { spec.AreCounted accounts.new seats.new tasks.new }
+    ensures tasks { waiting.owed_all seats.new tasks.new
         ≡ map (spec.homed_by schedule.now.places schedule.now.moves)
-        (waiting.owed_all seats.old tasks.old.items) }
+        (waiting.owed_all seats.old tasks.old) }
     ensures clock { seats.new.upto ≡ seats.old.upto }
     ensures seats { length seats.new.seats ≡ length seats.old.seats }
     ensures settled { doubts_spec.AreSettled doubts.new (length accounts.old.all)
-        schedule.now.places seats.new.seats (waiting.owed_all seats.new tasks.new.items) }
-    ensures room { vec_capacity tasks.new ≡ vec_capacity tasks.old }
+        schedule.now.places seats.new.seats (waiting.owed_all seats.new tasks.new) }
     ensures switches { switches.new.items ≡ switches.old.items
-        ++ map (spec.switch_of moment.time (waiting.owed_all seats.old tasks.old.items)
+        ++ map (spec.switch_of moment.time (waiting.owed_all seats.old tasks.old)
         schedule.now.places) schedule.now.moves }
     ensures spare { vec_capacity switches.new ≡ vec_capacity switches.old }
 {

@@ -15,6 +15,7 @@ use crate::run_queue::RunQueue;
 use crate::standing::standing_of;
 use crate::task::Task;
 use due_times::{Seat, Seats};
+use slot_list::SlotList;
 
 /// A task is charged what it owes since it was seated.
 #[inline(always)]
@@ -134,7 +135,7 @@ fn turn_one(
 /// Changes the task at a place of the list. Whether it sat.
 #[inline(always)]
 pub(super) fn turn_task(
-    tasks: &mut Vec<Task>,
+    tasks: &mut SlotList<Task>,
     queue: &mut RunQueue,
     seats: &mut Seats,
     place: usize,
@@ -142,31 +143,30 @@ pub(super) fn turn_task(
     change: &Change,
 ) -> bool
     requires narrow { length queue.old.accounts.all ≤ 64 }
-    requires there { place < length tasks.old.items }
+    requires there { place < length tasks.old }
     requires fits { Fits (length queue.old.accounts.all) change.now }
-    requires waits { waiting.AllWait seats.old.seats tasks.old.items }
-    requires sound { All (IsSound time) (waiting.owed_all seats.old tasks.old.items) }
+    requires waits { waiting.AllWait seats.old.seats tasks.old }
+    requires sound { All (IsSound time) (waiting.owed_all seats.old tasks.old) }
     requires may { (d : Task) → MayMake time change.now
-        (slice_index_or (waiting.owed_all seats.old tasks.old.items) place d) }
+        (slice_index_or (waiting.owed_all seats.old tasks.old) place d) }
     requires counted { spec.IsCounted (length queue.old.accounts.all) queue.old
-        (waiting.owed_all seats.old tasks.old.items) }
+        (waiting.owed_all seats.old tasks.old) }
     ensures step { IsStep (after_change time change.now) place
-        (waiting.owed_all seats.old tasks.old.items)
-        (waiting.owed_all seats.new tasks.new.items) }
-    ensures sound { All (IsSound time) (waiting.owed_all seats.new tasks.new.items) }
+        (waiting.owed_all seats.old tasks.old)
+        (waiting.owed_all seats.new tasks.new) }
+    ensures sound { All (IsSound time) (waiting.owed_all seats.new tasks.new) }
     ensures counted { spec.IsCounted (length queue.old.accounts.all) queue.new
-        (waiting.owed_all seats.new tasks.new.items) }
-    ensures waits { waiting.AllWait seats.new.seats tasks.new.items }
+        (waiting.owed_all seats.new tasks.new) }
+    ensures waits { waiting.AllWait seats.new.seats tasks.new }
     ensures seats { (d : Task) → seats.new.seats
-        ≡ waiting.left_of (slice_index_or (waiting.owed_all seats.new tasks.new.items) place d)
-        (waiting.left_of (slice_index_or (waiting.owed_all seats.old tasks.old.items) place d)
+        ≡ waiting.left_of (slice_index_or (waiting.owed_all seats.new tasks.new) place d)
+        (waiting.left_of (slice_index_or (waiting.owed_all seats.old tasks.old) place d)
         seats.old.seats) }
     ensures places { queue.new.schedule.places ≡ queue.old.schedule.places }
     ensures clock { seats.new.upto ≡ seats.old.upto }
     ensures wide { length seats.new.seats ≡ length seats.old.seats }
-    ensures room { vec_capacity tasks.new ≡ vec_capacity tasks.old }
     ensures sat { (d : Task) → result
-        ≡ is_some (waiting.seat_of seats.old.seats (slice_index_or tasks.old.items place d)) }
+        ≡ is_some (waiting.seat_of seats.old.seats (slice_index_or tasks.old place d)) }
 {
-    turn_one(&mut tasks[place], queue, seats, place, time, change)
+    turn_one(tasks.at_mut(place), queue, seats, place, time, change)
 }

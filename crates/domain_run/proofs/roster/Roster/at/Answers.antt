@@ -8,17 +8,17 @@ use Rattle.domain_run.proofs.roster.Roster.at.Goals as goal
 pub returns-clause-task : goal.returns-clause-task
 returns-clause-task c d =
     let s = c.self.inside in
-    let x = c.index.result.now in
+    let x = c.at.result.now in
     let p = c.args.place in
-    let h = inside_seen s.seats.upto s.seats.seats s.tasks.items p (subst (λ (r : RosterView). p < length r.tasks) (sym c.self.view_is) c.requires.there) in
+    let h = inside_seen s.seats.upto s.seats.seats s.tasks p (subst (λ (r : RosterView). p < length r.tasks) (sym c.self.view_is) c.requires.there) in
     let free = subst (λ (r : RosterView). (e : Task) → seat_of r.seats (get_or r.tasks p e) ≡ None) (sym c.self.view_is) c.requires.free in
-    subst (λ (r : RosterView). x ≡ get_or r.tasks p d) c.self.view_is (bare_at s.seats.upto s.seats.seats s.tasks.items p x h c.index.ensures free d)
+    subst (λ (r : RosterView). x ≡ get_or r.tasks p d) c.self.view_is (bare_at s.seats.upto s.seats.seats s.tasks p x h c.at.ensures free d)
 
 pub returns-clause-home : goal.returns-clause-home
 returns-clause-home c =
     let s = c.self.inside in
-    let x = c.index.result.now in
+    let x = c.at.result.now in
     let p = c.args.place in
-    let h = inside_seen s.seats.upto s.seats.seats s.tasks.items p (subst (λ (r : RosterView). p < length r.tasks) (sym c.self.view_is) c.requires.there) in
+    let h = inside_seen s.seats.upto s.seats.seats s.tasks p (subst (λ (r : RosterView). p < length r.tasks) (sym c.self.view_is) c.requires.there) in
     subst (λ (r : RosterView). x.cpu < r.cpus) c.self.view_is
-    (home_seen s.seats.upto s.seats.seats s.tasks.items p x h c.index.ensures (length s.queue.accounts.all) s.queue c.self.invariant.counted)
+    (home_seen s.seats.upto s.seats.seats s.tasks p x h c.at.ensures (length s.queue.accounts.all) s.queue c.self.invariant.counted)

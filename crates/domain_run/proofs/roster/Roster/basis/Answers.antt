@@ -9,7 +9,7 @@ pub returns : goal.returns
 returns c =
     let s = c.self.inside in
     let sums = c.self.invariant.counted.counts.sums in
-    let inactive = inactive_is s.queue.accounts (shares (owed_all s.seats s.tasks.items)) c.args.cpu sums in
+    let inactive = inactive_is s.queue.accounts (shares (owed_all s.seats s.tasks)) c.args.cpu sums in
     c.basis_of.ensures
     ∙ (λ i. record { uinact = inactive i; sum = sums.total i; cpus = length s.queue.accounts.all; limit = c.args.limit })
     ∙ ap (λ (r : RosterView). basis_in r.cpus c.args.limit r.tasks c.args.cpu) c.self.view_is

@@ -25,10 +25,10 @@ stood : (c : After-home_all) → IsApart c.self.inside.queue.schedule.places
 stood c = subst (λ (r : RosterView). IsApart r.places) (sym c.self.view_is) c.requires.apart
 
 -- who stands is placed
-seating : (c : After-home_all) → IsSeating (candidates (owed_all c.self.inside.seats c.self.inside.tasks.items)) (length c.self.inside.queue.schedule.places) c.pick.new.self.places
+seating : (c : After-home_all) → IsSeating (candidates (owed_all c.self.inside.seats c.self.inside.tasks)) (length c.self.inside.queue.schedule.places) c.pick.new.self.places
 seating c =
     let s = c.self.inside in
-    placed_seating s.queue.schedule.queue (owed_all s.seats s.tasks.items) s.queue.schedule.places c.pick.new.self.places c.self.invariant.counted.counts.order c.self.invariant.counted.roster.numbered (stood c) c.pick.ensures.places
+    placed_seating s.queue.schedule.queue (owed_all s.seats s.tasks) s.queue.schedule.places c.pick.new.self.places c.self.invariant.counted.counts.order c.self.invariant.counted.roster.numbered (stood c) c.pick.ensures.places
 
 pub home_all-requires-clause-there : goal.home_all-requires-clause-there
 home_all-requires-clause-there c =
@@ -44,12 +44,12 @@ home_all-requires-clause-counts c =
     record { sums = i.counted.counts.sums; roster = i.counted.roster; waits = i.waits }
 
 -- the tasks then
-homes : (c : After-home_all) → owed_all c.home_all.new.seats c.home_all.new.tasks.items ≡ map (with_last_cpu c.pick.new.self.places) (owed_all c.self.inside.seats c.self.inside.tasks.items)
+homes : (c : After-home_all) → owed_all c.home_all.new.seats c.home_all.new.tasks ≡ map (with_last_cpu c.pick.new.self.places) (owed_all c.self.inside.seats c.self.inside.tasks)
 homes c =
     let s = c.self.inside in
     let before = s.queue.schedule.places in
     let after = c.pick.new.self.places in
-    let tasks = owed_all s.seats s.tasks.items in
+    let tasks = owed_all s.seats s.tasks in
     c.home_all.ensures.tasks
     ∙ ap (λ (ms : List Moved). map (homed_by after ms) tasks) c.pick.ensures.moves
     ∙ homed_moves before after tasks (seating c).wide (stood c).once (seating c).apart.once c.self.invariant.counted.homed
@@ -60,26 +60,25 @@ invariant_of-self c =
     let a = (goal.at.invariant_of-self c).After-home_all in
     let new : RunQueue = record { accounts = c.home_all.new.accounts; schedule = c.pick.new.self; timers = s.queue.timers } in
     let all = c.home_all.ensures in
-    let counted = counted_homed (length s.queue.accounts.all) s.queue new s.seats c.home_all.new.seats s.tasks.items c.home_all.new.tasks.items c.self.invariant.counted all.wide all.counts
+    let counted = counted_homed (length s.queue.accounts.all) s.queue new s.seats c.home_all.new.seats s.tasks c.home_all.new.tasks c.self.invariant.counted all.wide all.counts
     (c.pick.ensures.queue) refl (homes a) in
     record {
-      counted = subst (λ (n : ℕ). IsCounted n new (owed_all c.home_all.new.seats c.home_all.new.tasks.items)) (sym all.wide) counted;
+      counted = subst (λ (n : ℕ). IsCounted n new (owed_all c.home_all.new.seats c.home_all.new.tasks)) (sym all.wide) counted;
       waits = all.counts.waits;
       wide = all.seats ∙ c.self.invariant.wide ∙ sym all.wide;
-      settled = subst (λ (n : ℕ). AreSettled c.home_all.new.doubts n c.pick.new.self.places c.home_all.new.seats.seats (owed_all c.home_all.new.seats c.home_all.new.tasks.items)) (sym all.wide)
-          (settled_again s.doubts c.home_all.new.doubts (length s.queue.accounts.all) s.queue.schedule.places c.pick.new.self.places s.seats.seats c.home_all.new.seats.seats (owed_all s.seats s.tasks.items) (owed_all c.home_all.new.seats c.home_all.new.tasks.items)
+      settled = subst (λ (n : ℕ). AreSettled c.home_all.new.doubts n c.pick.new.self.places c.home_all.new.seats.seats (owed_all c.home_all.new.seats c.home_all.new.tasks)) (sym all.wide)
+          (settled_again s.doubts c.home_all.new.doubts (length s.queue.accounts.all) s.queue.schedule.places c.pick.new.self.places s.seats.seats c.home_all.new.seats.seats (owed_all s.seats s.tasks) (owed_all c.home_all.new.seats c.home_all.new.tasks)
           all.rated all.sum all.limit all.marked
           (λ cpu few bare. still_first s.queue.schedule.places c.pick.new.self.places cpu (seating a).wide
           (moved_apart c.home_all.new.doubts.cpus cpu (moved_from 0 s.queue.schedule.places c.pick.new.self.places) (subst (λ (ms : List Moved). All (λ m. m.cpu < 64 → bit_at c.home_all.new.doubts.cpus m.cpu ≡ 1) ms) c.pick.ensures.moves all.moved) few bare))
           c.self.invariant.settled);
-      room = all.room ∙ c.self.invariant.room;
     }
 
 pub returns-clause-places : goal.returns-clause-places
 returns-clause-places c =
     let s = c.self.inside in
     let before = s.queue.schedule.places in
-    let tasks = owed_all s.seats s.tasks.items in
+    let tasks = owed_all s.seats s.tasks in
     c.pick.ensures.places
     ∙ placed_counted (length before) s.queue.schedule.queue tasks before c.self.invariant.counted.counts.order c.self.invariant.counted.roster.numbered
     ∙ ap (λ (r : RosterView). placed (length r.places) (candidates r.tasks) r.places) c.self.view_is

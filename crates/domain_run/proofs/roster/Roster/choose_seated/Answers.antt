@@ -26,10 +26,10 @@ stood : (c : After-pick) → IsApart c.self.inside.queue.schedule.places
 stood c = subst (λ (r : RosterView). IsApart r.places) (sym c.self.view_is) c.requires.apart
 
 -- who stands is placed
-seating : (c : After-pick) → IsSeating (candidates (owed_all c.self.inside.seats c.self.inside.tasks.items)) (length c.self.inside.queue.schedule.places) c.pick.new.self.places
+seating : (c : After-pick) → IsSeating (candidates (owed_all c.self.inside.seats c.self.inside.tasks)) (length c.self.inside.queue.schedule.places) c.pick.new.self.places
 seating c =
     let s = c.self.inside in
-    placed_seating s.queue.schedule.queue (owed_all s.seats s.tasks.items) s.queue.schedule.places c.pick.new.self.places c.self.invariant.counted.counts.order c.self.invariant.counted.roster.numbered (stood c) c.pick.ensures.places
+    placed_seating s.queue.schedule.queue (owed_all s.seats s.tasks) s.queue.schedule.places c.pick.new.self.places c.self.invariant.counted.counts.order c.self.invariant.counted.roster.numbered (stood c) c.pick.ensures.places
 
 pub seat_moved-requires-clause-there : goal.seat_moved-requires-clause-there
 seat_moved-requires-clause-there c =
@@ -58,14 +58,14 @@ seat_moved-requires-clause-may c cpu =
     let s = c.self.inside in
     let a = (goal.at.seat_moved-requires-clause-may c).After-pick in
     let may = subst (λ (r : RosterView). All MaySitIfReady r.tasks) (sym c.self.view_is) c.requires.may in
-    may_stand c.pick.new.self.places (owed_all s.seats s.tasks.items) (seating a).candidates c.self.invariant.counted.roster.numbered may cpu
+    may_stand c.pick.new.self.places (owed_all s.seats s.tasks) (seating a).candidates c.self.invariant.counted.roster.numbered may cpu
 
 pub seat_moved-requires-clause-settled : goal.seat_moved-requires-clause-settled
 seat_moved-requires-clause-settled c =
     let s = c.self.inside in
     let a = (goal.at.seat_moved-requires-clause-settled c).After-pick in
     let w = length s.queue.accounts.all in
-    let tasks = owed_all s.seats s.tasks.items in
+    let tasks = owed_all s.seats s.tasks in
     let before = s.queue.schedule.places in
     let after = c.pick.new.self.places in
     subst (λ (ms : List Moved). AreSettledBut ms s.doubts w after s.seats.seats tasks) (sym c.pick.ensures.moves)
@@ -81,18 +81,18 @@ seat_moved-requires-clause-spare c =
 stood_still : (c : After-seat_moved) → IsApart c.self.inside.queue.schedule.places
 stood_still c = subst (λ (r : RosterView). IsApart r.places) (sym c.self.view_is) c.requires.apart
 
-seated : (c : After-seat_moved) → IsSeating (candidates (owed_all c.self.inside.seats c.self.inside.tasks.items)) (length c.self.inside.queue.schedule.places) c.pick.new.self.places
+seated : (c : After-seat_moved) → IsSeating (candidates (owed_all c.self.inside.seats c.self.inside.tasks)) (length c.self.inside.queue.schedule.places) c.pick.new.self.places
 seated c =
     let s = c.self.inside in
-    placed_seating s.queue.schedule.queue (owed_all s.seats s.tasks.items) s.queue.schedule.places c.pick.new.self.places c.self.invariant.counted.counts.order c.self.invariant.counted.roster.numbered (stood_still c) c.pick.ensures.places
+    placed_seating s.queue.schedule.queue (owed_all s.seats s.tasks) s.queue.schedule.places c.pick.new.self.places c.self.invariant.counted.counts.order c.self.invariant.counted.roster.numbered (stood_still c) c.pick.ensures.places
 
 -- the tasks then
-homes : (c : After-seat_moved) → owed_all c.seat_moved.new.seats c.seat_moved.new.tasks.items ≡ map (with_last_cpu c.pick.new.self.places) (owed_all c.self.inside.seats c.self.inside.tasks.items)
+homes : (c : After-seat_moved) → owed_all c.seat_moved.new.seats c.seat_moved.new.tasks ≡ map (with_last_cpu c.pick.new.self.places) (owed_all c.self.inside.seats c.self.inside.tasks)
 homes c =
     let s = c.self.inside in
     let before = s.queue.schedule.places in
     let after = c.pick.new.self.places in
-    let tasks = owed_all s.seats s.tasks.items in
+    let tasks = owed_all s.seats s.tasks in
     c.seat_moved.ensures.tasks
     ∙ ap (λ (ms : List Moved). map (homed_by after ms) tasks) c.pick.ensures.moves
     ∙ homed_moves before after tasks (seated c).wide (stood_still c).once (seated c).apart.once c.self.invariant.counted.homed
@@ -104,21 +104,20 @@ invariant_of-self c =
     let new : RunQueue = record { accounts = c.seat_moved.new.accounts; schedule = c.pick.new.self; timers = s.queue.timers } in
     let all = c.seat_moved.ensures in
     let seats = c.seat_moved.new.seats in
-    let items = c.seat_moved.new.tasks.items in
-    let counted = counted_homed (length s.queue.accounts.all) s.queue new s.seats seats s.tasks.items items c.self.invariant.counted all.wide all.counts c.pick.ensures.queue refl (homes a) in
+    let items = c.seat_moved.new.tasks in
+    let counted = counted_homed (length s.queue.accounts.all) s.queue new s.seats seats s.tasks items c.self.invariant.counted all.wide all.counts c.pick.ensures.queue refl (homes a) in
     record {
       counted = subst (λ (n : ℕ). IsCounted n new (owed_all seats items)) (sym all.wide) counted;
       waits = all.counts.waits;
       wide = all.seats ∙ c.self.invariant.wide ∙ sym all.wide;
       settled = subst (λ (n : ℕ). AreSettled c.seat_moved.new.doubts n c.pick.new.self.places seats.seats (owed_all seats items)) (sym all.wide) all.settled;
-      room = all.room ∙ c.self.invariant.room;
     }
 
 pub returns-clause-places : goal.returns-clause-places
 returns-clause-places c =
     let s = c.self.inside in
     let before = s.queue.schedule.places in
-    let tasks = owed_all s.seats s.tasks.items in
+    let tasks = owed_all s.seats s.tasks in
     c.pick.ensures.places
     ∙ placed_counted (length before) s.queue.schedule.queue tasks before c.self.invariant.counted.counts.order c.self.invariant.counted.roster.numbered
     ∙ ap (λ (r : RosterView). placed (length r.places) (candidates r.tasks) r.places) c.self.view_is

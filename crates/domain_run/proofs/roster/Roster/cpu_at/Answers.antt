@@ -6,16 +6,16 @@ use Rattle.domain_run.proofs.roster.Roster.cpu_at.Goals as goal
 pub returns-clause-cpu : goal.returns-clause-cpu
 returns-clause-cpu c d =
     let s = c.self.inside in
-    let x = c.index.result.now in
+    let x = c.at.result.now in
     let p = c.args.place in
-    let h = inside_seen s.seats.upto s.seats.seats s.tasks.items p (subst (λ (r : RosterView). p < length r.tasks) (sym c.self.view_is) c.requires) in
-    subst (λ (r : RosterView). x.cpu ≡ (get_or r.tasks p d).cpu) c.self.view_is (cpu_seen s.seats.upto s.seats.seats s.tasks.items p x h c.index.ensures d)
+    let h = inside_seen s.seats.upto s.seats.seats s.tasks p (subst (λ (r : RosterView). p < length r.tasks) (sym c.self.view_is) c.requires) in
+    subst (λ (r : RosterView). x.cpu ≡ (get_or r.tasks p d).cpu) c.self.view_is (cpu_seen s.seats.upto s.seats.seats s.tasks p x h c.at.ensures d)
 
 pub returns-clause-home : goal.returns-clause-home
 returns-clause-home c =
     let s = c.self.inside in
-    let x = c.index.result.now in
+    let x = c.at.result.now in
     let p = c.args.place in
-    let h = inside_seen s.seats.upto s.seats.seats s.tasks.items p (subst (λ (r : RosterView). p < length r.tasks) (sym c.self.view_is) c.requires) in
+    let h = inside_seen s.seats.upto s.seats.seats s.tasks p (subst (λ (r : RosterView). p < length r.tasks) (sym c.self.view_is) c.requires) in
     subst (λ (r : RosterView). x.cpu < r.cpus) c.self.view_is
-    (home_seen s.seats.upto s.seats.seats s.tasks.items p x h c.index.ensures (length s.queue.accounts.all) s.queue c.self.invariant.counted)
+    (home_seen s.seats.upto s.seats.seats s.tasks p x h c.at.ensures (length s.queue.accounts.all) s.queue c.self.invariant.counted)

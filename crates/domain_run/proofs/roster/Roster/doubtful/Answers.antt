@@ -16,8 +16,7 @@ invariant_of-self c =
       counted = i.counted;
       waits = i.waits;
       wide = i.wide;
-      settled = renew_settled s.doubts c.renew.new.self (length s.queue.accounts.all) s.queue.schedule.places s.seats.seats (owed_all s.seats s.tasks.items) c.sum-sum.result c.args.limit c.renew.ensures.bare c.renew.ensures.free c.renew.ensures.rated c.renew.ensures.sum c.renew.ensures.limit i.settled;
-      room = i.room;
+      settled = renew_settled s.doubts c.renew.new.self (length s.queue.accounts.all) s.queue.schedule.places s.seats.seats (owed_all s.seats s.tasks) c.sum-sum.result c.args.limit c.renew.ensures.bare c.renew.ensures.free c.renew.ensures.rated c.renew.ensures.sum c.renew.ensures.limit i.settled;
     }
 
 pub returns-clause-others : goal.returns-clause-others
@@ -26,9 +25,9 @@ returns-clause-others c =
     let i = c.self.invariant in
     let d = c.renew.new.self in
     let w = length s.queue.accounts.all in
-    let tasks = owed_all s.seats s.tasks.items in
+    let tasks = owed_all s.seats s.tasks in
     let settled = renew_settled s.doubts d w s.queue.schedule.places s.seats.seats tasks c.sum-sum.result c.args.limit c.renew.ensures.bare c.renew.ensures.free c.renew.ensures.rated c.renew.ensures.sum c.renew.ensures.limit i.settled in
     let few : w ≤ 64 = subst (λ (r : RosterView). r.cpus ≤ 64) (sym c.self.view_is) c.requires.few in
     let sum : d.sum ≡ sum_of tasks = c.renew.ensures.sum ∙ c.sum-sum.ensures ∙ ap (λ (r : RosterView). sum_of r.tasks) (sym c.self.view_is) in
     subst (λ (r : RosterView). All (λ t. bit_at d.cpus t.cpu ≡ 0 → IsSeated r.places r.cpus c.args.limit r.tasks r.seats t) r.tasks) c.self.view_is
-    (seated_all d w c.args.limit s.queue.schedule.places s.seats s.tasks.items few sum c.renew.ensures.limit (λ k x h. home_at w s.queue tasks k x h i.counted) i.waits settled)
+    (seated_all d w c.args.limit s.queue.schedule.places s.seats s.tasks few sum c.renew.ensures.limit (λ k x h. home_at w s.queue tasks k x h i.counted) i.waits settled)

@@ -12,7 +12,7 @@ returns-in-None-clause-absent c = find_absent c.args.self.now.tasks c.args.numbe
 pub returns-in-Some-clause-there : goal.returns-in-Some-clause-there
 returns-in-Some-clause-there c =
     let s = c.self.inside in
-    let x = c.index.result.now in
+    let x = c.at.result.now in
     let at = subst (λ (r : RosterView). IsAt r.tasks c.args.number c.in-Some.place) (sym c.self.view_is) c.in-Some.ensures.there in
     subst (λ (r : RosterView). IsSeenAs x (find (λ t. eqb t.number c.args.number) r.tasks)) c.self.view_is
-    (seen_owed s.seats.upto s.seats.seats x _ (found_owed s.seats.upto s.seats.seats s.tasks.items c.args.number c.in-Some.place x c.self.invariant.counted.roster.numbered at c.index.ensures))
+    (seen_owed s.seats.upto s.seats.seats x _ (found_owed s.seats.upto s.seats.seats s.tasks c.args.number c.in-Some.place x c.self.invariant.counted.roster.numbered at c.at.ensures))

@@ -23,39 +23,39 @@ returns-in_default-at-clause-tasks c =
 
 pub used_in-requires-clause-high : goal.used_in-requires-clause-high
 used_in-requires-clause-high c =
-    let left = c.index.result.now.server.left in
+    let left = c.at.result.now.server.left in
     let fits : SFits w128 left = search rules in
     let value : to_z w128 (of_z w128 left) ≡ left = to_z-of_z {w = w128} {z = left} fits in
-    let f = facts_of c.args.self.now c.vacate_at.new.self c.args.time c.args.ticks c.args.cpu c.in-Some-at.place c.in-Some.seat c.index.result.now c.self.inside.queue c.self-2.inside.queue c.self.inside.seats c.self-2.inside.seats c.self.inside.tasks.items c.self-2.inside.tasks.items c.vacate_at.ensures c.self.view_is c.self.invariant.waits c.self-2.view_is c.in-Some.ensures.seat c.in-Some.ensures.ahead c.in-Some-at.ensures.there c.in-Some-at.ensures.home c.index.ensures c.requires.some c.requires.early c.requires.ends c.requires.sound in
+    let f = facts_of c.args.self.now c.vacate_at.new.self c.args.time c.args.ticks c.args.cpu c.in-Some-at.place c.in-Some.seat c.at.result.now c.self.inside.queue c.self-2.inside.queue c.self.inside.seats c.self-2.inside.seats c.self.inside.tasks c.self-2.inside.tasks c.vacate_at.ensures c.self.view_is c.self.invariant.waits c.self-2.view_is c.in-Some.ensures.seat c.in-Some.ensures.ahead c.in-Some-at.ensures.there c.in-Some-at.ensures.home c.at.ensures c.requires.some c.requires.early c.requires.ends c.requires.sound in
     subst (λ (z : ℤ). z ≤ℤ pos (2 ^ 52)) (sym value) f.fin.high
 
 pub used_in-requires-clause-lasted : goal.used_in-requires-clause-lasted
 used_in-requires-clause-lasted c =
-    let left = c.index.result.now.server.left in
+    let left = c.at.result.now.server.left in
     let fits : SFits w128 left = search rules in
     let value : to_z w128 (of_z w128 left) ≡ left = to_z-of_z {w = w128} {z = left} fits in
-    let f = facts_of c.args.self.now c.vacate_at.new.self c.args.time c.args.ticks c.args.cpu c.in-Some-at.place c.in-Some.seat c.index.result.now c.self.inside.queue c.self-2.inside.queue c.self.inside.seats c.self-2.inside.seats c.self.inside.tasks.items c.self-2.inside.tasks.items c.vacate_at.ensures c.self.view_is c.self.invariant.waits c.self-2.view_is c.in-Some.ensures.seat c.in-Some.ensures.ahead c.in-Some-at.ensures.there c.in-Some-at.ensures.home c.index.ensures c.requires.some c.requires.early c.requires.ends c.requires.sound in
+    let f = facts_of c.args.self.now c.vacate_at.new.self c.args.time c.args.ticks c.args.cpu c.in-Some-at.place c.in-Some.seat c.at.result.now c.self.inside.queue c.self-2.inside.queue c.self.inside.seats c.self-2.inside.seats c.self.inside.tasks c.self-2.inside.tasks c.vacate_at.ensures c.self.view_is c.self.invariant.waits c.self-2.view_is c.in-Some.ensures.seat c.in-Some.ensures.ahead c.in-Some-at.ensures.there c.in-Some-at.ensures.home c.at.ensures c.requires.some c.requires.early c.requires.ends c.requires.sound in
     subst (λ (z : ℤ). pos (c.in-Some.seat.rate * (c.args.ticks - 1)) <ℤ z) (sym value) f.fin.lasts.lasted
 
 pub left_after-left-requires-clause-lifted : goal.left_after-left-requires-clause-lifted
 left_after-left-requires-clause-lifted c =
-    let left = c.index.result.now.server.left in
+    let left = c.at.result.now.server.left in
     let fits : SFits w128 left = search rules in
     let value : to_z w128 (of_z w128 left) ≡ left = to_z-of_z {w = w128} {z = left} fits in
-    let f = facts_of c.args.self.now c.vacate_at.new.self c.args.time c.args.ticks c.args.cpu c.in-Some-at.place c.in-Some.seat c.index.result.now c.self.inside.queue c.self-2.inside.queue c.self.inside.seats c.self-2.inside.seats c.self.inside.tasks.items c.self-2.inside.tasks.items c.vacate_at.ensures c.self.view_is c.self.invariant.waits c.self-2.view_is c.in-Some.ensures.seat c.in-Some.ensures.ahead c.in-Some-at.ensures.there c.in-Some-at.ensures.home c.index.ensures c.requires.some c.requires.early c.requires.ends c.requires.sound in
+    let f = facts_of c.args.self.now c.vacate_at.new.self c.args.time c.args.ticks c.args.cpu c.in-Some-at.place c.in-Some.seat c.at.result.now c.self.inside.queue c.self-2.inside.queue c.self.inside.seats c.self-2.inside.seats c.self.inside.tasks c.self-2.inside.tasks c.vacate_at.ensures c.self.view_is c.self.invariant.waits c.self-2.view_is c.in-Some.ensures.seat c.in-Some.ensures.ahead c.in-Some-at.ensures.there c.in-Some-at.ensures.home c.at.ensures c.requires.some c.requires.early c.requires.ends c.requires.sound in
     subst (λ (z : ℤ). pos 0 <ℤ z) (sym value) f.fin.lifted
 
 pub left_after-left-requires-clause-high : goal.left_after-left-requires-clause-high
 left_after-left-requires-clause-high c =
-    let left = c.index.result.now.server.left in
+    let left = c.at.result.now.server.left in
     let fits : SFits w128 left = search rules in
     let value : to_z w128 (of_z w128 left) ≡ left = to_z-of_z {w = w128} {z = left} fits in
-    let f = facts_of c.args.self.now c.vacate_at.new.self c.args.time c.args.ticks c.args.cpu c.in-Some-at.place c.in-Some.seat c.index.result.now c.self.inside.queue c.self-2.inside.queue c.self.inside.seats c.self-2.inside.seats c.self.inside.tasks.items c.self-2.inside.tasks.items c.vacate_at.ensures c.self.view_is c.self.invariant.waits c.self-2.view_is c.in-Some.ensures.seat c.in-Some.ensures.ahead c.in-Some-at.ensures.there c.in-Some-at.ensures.home c.index.ensures c.requires.some c.requires.early c.requires.ends c.requires.sound in
+    let f = facts_of c.args.self.now c.vacate_at.new.self c.args.time c.args.ticks c.args.cpu c.in-Some-at.place c.in-Some.seat c.at.result.now c.self.inside.queue c.self-2.inside.queue c.self.inside.seats c.self-2.inside.seats c.self.inside.tasks c.self-2.inside.tasks c.vacate_at.ensures c.self.view_is c.self.invariant.waits c.self-2.view_is c.in-Some.ensures.seat c.in-Some.ensures.ahead c.in-Some-at.ensures.there c.in-Some-at.ensures.home c.at.ensures c.requires.some c.requires.early c.requires.ends c.requires.sound in
     subst (λ (z : ℤ). z ≤ℤ pos (2 ^ 52)) (sym value) f.fin.high
 
 pub turn_charged-requires-clause-may : goal.turn_charged-requires-clause-may
 turn_charged-requires-clause-may c d =
-    let left = c.index.result.now.server.left in
+    let left = c.at.result.now.server.left in
     let fits : SFits w128 left = search rules in
     let value : to_z w128 (of_z w128 left) ≡ left = to_z-of_z {w = w128} {z = left} fits in
     let new = c.left_after-left.result in
@@ -63,8 +63,8 @@ turn_charged-requires-clause-may c d =
     let value2 : to_z w128 (of_z w128 new) ≡ new = to_z-of_z {w = w128} {z = new} fits2 in
     let used : c.used_in.result ≡ c.in-Some.seat.rate * c.args.ticks = c.used_in.ensures.used ∙ times_one c.in-Some.seat.rate c.args.ticks c.requires.some in
     let left_is : to_z w128 (of_z w128 new) ≡ left -ℤ pos (c.in-Some.seat.rate * c.args.ticks) = value2 ∙ c.left_after-left.ensures ∙ (λ i. value i -ℤ pos (used i)) in
-    let f = facts_of c.args.self.now c.vacate_at.new.self c.args.time c.args.ticks c.args.cpu c.in-Some-at.place c.in-Some.seat c.index.result.now c.self.inside.queue c.self-2.inside.queue c.self.inside.seats c.self-2.inside.seats c.self.inside.tasks.items c.self-2.inside.tasks.items c.vacate_at.ensures c.self.view_is c.self.invariant.waits c.self-2.view_is c.in-Some.ensures.seat c.in-Some.ensures.ahead c.in-Some-at.ensures.there c.in-Some-at.ensures.home c.index.ensures c.requires.some c.requires.early c.requires.ends c.requires.sound in
-    let x = c.index.result.now in
+    let f = facts_of c.args.self.now c.vacate_at.new.self c.args.time c.args.ticks c.args.cpu c.in-Some-at.place c.in-Some.seat c.at.result.now c.self.inside.queue c.self-2.inside.queue c.self.inside.seats c.self-2.inside.seats c.self.inside.tasks c.self-2.inside.tasks c.vacate_at.ensures c.self.view_is c.self.invariant.waits c.self-2.view_is c.in-Some.ensures.seat c.in-Some.ensures.ahead c.in-Some-at.ensures.there c.in-Some-at.ensures.home c.at.ensures c.requires.some c.requires.early c.requires.ends c.requires.sound in
+    let x = c.at.result.now in
     let p = c.in-Some-at.place in
     let is : x ≡ get_or c.vacate_at.new.self.tasks p d = f.read ∙ get_or_default c.args.self.now.tasks p x d c.in-Some-at.ensures.there.within ∙ ap (λ (r : RosterView). get_or r.tasks p d) (sym c.vacate_at.ensures) in
     subst (MayRun c.args.time c.args.ticks (to_z w128 (of_z w128 new))) is (subst (λ (z : ℤ). MayRun c.args.time c.args.ticks z x) (sym left_is) f.fin.may)
@@ -82,7 +82,7 @@ returns-clause-seats c = c.turn_charged.ensures.seats ∙ ap (λ (r : RosterView
 
 pub returns-clause-tasks : goal.returns-clause-tasks
 returns-clause-tasks c =
-    let left = c.index.result.now.server.left in
+    let left = c.at.result.now.server.left in
     let fits : SFits w128 left = search rules in
     let value : to_z w128 (of_z w128 left) ≡ left = to_z-of_z {w = w128} {z = left} fits in
     let new = c.left_after-left.result in
@@ -90,10 +90,10 @@ returns-clause-tasks c =
     let value2 : to_z w128 (of_z w128 new) ≡ new = to_z-of_z {w = w128} {z = new} fits2 in
     let used : c.used_in.result ≡ c.in-Some.seat.rate * c.args.ticks = c.used_in.ensures.used ∙ times_one c.in-Some.seat.rate c.args.ticks c.requires.some in
     let left_is : to_z w128 (of_z w128 new) ≡ left -ℤ pos (c.in-Some.seat.rate * c.args.ticks) = value2 ∙ c.left_after-left.ensures ∙ (λ i. value i -ℤ pos (used i)) in
-    let f = facts_of c.args.self.now c.vacate_at.new.self c.args.time c.args.ticks c.args.cpu c.in-Some-at.place c.in-Some.seat c.index.result.now c.self.inside.queue c.self-2.inside.queue c.self.inside.seats c.self-2.inside.seats c.self.inside.tasks.items c.self-2.inside.tasks.items c.vacate_at.ensures c.self.view_is c.self.invariant.waits c.self-2.view_is c.in-Some.ensures.seat c.in-Some.ensures.ahead c.in-Some-at.ensures.there c.in-Some-at.ensures.home c.index.ensures c.requires.some c.requires.early c.requires.ends c.requires.sound in
+    let f = facts_of c.args.self.now c.vacate_at.new.self c.args.time c.args.ticks c.args.cpu c.in-Some-at.place c.in-Some.seat c.at.result.now c.self.inside.queue c.self-2.inside.queue c.self.inside.seats c.self-2.inside.seats c.self.inside.tasks c.self-2.inside.tasks c.vacate_at.ensures c.self.view_is c.self.invariant.waits c.self-2.view_is c.in-Some.ensures.seat c.in-Some.ensures.ahead c.in-Some-at.ensures.there c.in-Some-at.ensures.home c.at.ensures c.requires.some c.requires.early c.requires.ends c.requires.sound in
     let old = c.args.self.now in
     let mid = c.vacate_at.new.self in
-    let x = c.index.result.now in
+    let x = c.at.result.now in
     let p = c.in-Some-at.place in
     let k = c.args.ticks in
     let z = to_z w128 (of_z w128 c.left_after-left.result) in

@@ -9,4 +9,4 @@ pub returns-clause-others : goal.returns-clause-others
 returns-clause-others c =
     let s = c.self.inside in
     subst (λ (r : RosterView). AreNotDue r.tasks c.args.time c.args.from c.next_due.result) c.self.view_is
-    (none_due_at c.args.time c.args.from c.next_due.result s.queue.timers (owed_all s.seats s.tasks.items) c.self.invariant.counted.counts.due c.next_due.ensures.others)
+    (none_due_at c.args.time c.args.from c.next_due.result s.queue.timers (owed_all s.seats s.tasks) c.self.invariant.counted.counts.due c.next_due.ensures.others)

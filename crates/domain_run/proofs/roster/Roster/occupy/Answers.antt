@@ -4,10 +4,9 @@ use Rattle.std.proofs.lemmas.Bool.{cases_eq}
 use Rattle.attr_check.specs.Ratio.{cap}
 use Rattle.domain_run.specs.declared.task.Task.{Task}
 use Rattle.domain_run.specs.Tick.{sum_of}
-use Rattle.domain_run.specs.private.Choosing.{AreCounted}
 use Rattle.domain_run.specs.private.Doubts.{IsSettled, IsTrusted, AreSettled}
 use Rattle.domain_run.specs.private.Roster.{RosterView, rate_in, basis_in}
-use Rattle.domain_run.specs.private.Waiting.{owed_all, seat_of, AllWait, MaySit, IsRight}
+use Rattle.domain_run.specs.private.Waiting.{owed_all, seat_of, MaySit, IsRight}
 use Rattle.domain_run.proofs.Bare.{inside_seen}
 use Rattle.domain_run.proofs.Doubting.{settled_right}
 use Rattle.domain_run.proofs.Seatings.{kept_again}
@@ -28,13 +27,11 @@ pub sit_at-requires-clause-counts : goal.sit_at-requires-clause-counts
 sit_at-requires-clause-counts c =
     let s = c.self.inside in
     let i = c.self.invariant in
-    subst (AreCounted s.queue.accounts s.seats) (sym c.deref.ensures.value)
     (record { sums = i.counted.counts.sums; roster = i.counted.roster; waits = i.waits })
 
 pub sit_at-requires-clause-within : goal.sit_at-requires-clause-within
 sit_at-requires-clause-within c =
     let s = c.self.inside in
-    subst (λ (ts : List Task). sum_of (owed_all s.seats ts) ≤ cap (length s.queue.accounts.all) c.args.limit) (sym c.deref.ensures.value)
     (subst (λ (r : RosterView). sum_of r.tasks ≤ cap r.cpus c.args.limit) (sym c.self.view_is) c.requires.within)
 
 pub sit_at-requires-clause-free : goal.sit_at-requires-clause-free
@@ -44,33 +41,30 @@ pub sit_at-requires-clause-at : goal.sit_at-requires-clause-at
 sit_at-requires-clause-at c =
     let s = c.self.inside in
     let p = c.args.place in
-    subst (λ (ts : List Task). p < length ts) (sym c.deref.ensures.value)
-    (inside_seen s.seats.upto s.seats.seats s.tasks.items p (subst (λ (r : RosterView). p < length r.tasks) (sym c.self.view_is) c.requires.at))
+    (inside_seen s.seats.upto s.seats.seats s.tasks p (subst (λ (r : RosterView). p < length r.tasks) (sym c.self.view_is) c.requires.at))
 
 pub sit_at-requires-clause-home : goal.sit_at-requires-clause-home
 sit_at-requires-clause-home c d =
     let s = c.self.inside in
     let p = c.args.place in
-    subst (λ (ts : List Task). (get_or (owed_all s.seats ts) p d).cpu ≡ c.args.cpu) (sym c.deref.ensures.value)
     (subst (λ (r : RosterView). (get_or r.tasks p d).cpu ≡ c.args.cpu) (sym c.self.view_is) (c.requires.home d))
 
 pub sit_at-requires-clause-may : goal.sit_at-requires-clause-may
 sit_at-requires-clause-may c d =
     let s = c.self.inside in
     let p = c.args.place in
-    subst (λ (ts : List Task). MaySit (get_or (owed_all s.seats ts) p d)) (sym c.deref.ensures.value)
     (subst (λ (r : RosterView). MaySit (get_or r.tasks p d)) (sym c.self.view_is) (c.requires.may d))
 
 -- callers see the tasks as before
-seen : (c : After-sit_at) → owed_all c.sit_at.new.seats c.self.inside.tasks.items ≡ owed_all c.self.inside.seats c.self.inside.tasks.items
+seen : (c : After-sit_at) → owed_all c.sit_at.new.seats c.self.inside.tasks ≡ owed_all c.self.inside.seats c.self.inside.tasks
 seen c =
-    ap (owed_all c.sit_at.new.seats) (sym c.deref.ensures.value) ∙ c.sit_at.ensures.tasks ∙ ap (owed_all c.self.inside.seats) c.deref.ensures.value
+    c.sit_at.ensures.tasks
 
 one_of : (c : After-sit_at) → Task
 one_of c = a_task c.args.place c.args.self.now.tasks c.requires.at
 
 -- who stands on the CPU
-stands : (c : After-sit_at) → Some (get_or (owed_all c.self.inside.seats c.self.inside.tasks.items) c.args.place (one_of c)).number ≡ get_or c.self.inside.queue.schedule.places c.args.cpu None
+stands : (c : After-sit_at) → Some (get_or (owed_all c.self.inside.seats c.self.inside.tasks) c.args.place (one_of c)).number ≡ get_or c.self.inside.queue.schedule.places c.args.cpu None
 stands c = sym (subst (λ (r : RosterView). get_or r.places c.args.cpu None ≡ Some (get_or r.tasks c.args.place (one_of c)).number) (sym c.self.view_is) (c.requires.stands (one_of c)))
 
 pub invariant_of-self : goal.invariant_of-self
@@ -81,7 +75,7 @@ invariant_of-self c =
     let p = c.args.place in
     let w = length s.queue.accounts.all in
     let places = s.queue.schedule.places in
-    let items = s.tasks.items in
+    let items = s.tasks in
     let v = c.sit_at.new.seats in
     let d = c.sit_at.new.doubts in
     let e = c.sit_at.ensures in
@@ -89,15 +83,15 @@ invariant_of-self c =
     let here : IsTrusted d w (get_or places cpu None) v.seats (owed_all v items) cpu =
     subst (λ (ts : List Task). IsTrusted d w (get_or places cpu None) v.seats ts cpu) (sym (seen a))
     (subst (λ (o : Option ℕ). IsTrusted d w o v.seats (owed_all s.seats items) cpu) (stands a)
-    (subst (λ (ts : List Task). IsTrusted d w (Some (get_or (owed_all s.seats ts) p x).number) v.seats (owed_all s.seats ts) cpu) c.deref.ensures.value (e.here x))) in
+    ((e.here x))) in
     let settled : AreSettled d w places v.seats (owed_all v items) = λ i. elim (cases_eq i cpu) [
       | inl same ↦ subst (λ (n : ℕ). IsTrusted d w (get_or places n None) v.seats (owed_all v items) n) (sym same) here
       | inr other ↦
-          let was = subst (λ (ts : List Task). IsTrusted s.doubts w (get_or places i None) s.seats.seats (owed_all s.seats ts) i) (sym c.deref.ensures.value) (c.self.invariant.settled i) in
+          let was = (c.self.invariant.settled i) in
           subst (λ (ts : List Task). IsTrusted d w (get_or places i None) v.seats ts i) (sym (seen a))
-          (subst (λ (ts : List Task). IsTrusted d w (get_or places i None) v.seats (owed_all s.seats ts) i) c.deref.ensures.value (e.trust i (get_or places i None) other was))
+          ((e.trust i (get_or places i None) other was))
     ] in
-    kept_again s.queue s.seats v items items _ s.doubts d c.self.invariant (seen a) (subst (AllWait v.seats) c.deref.ensures.value e.waits) e.wide settled
+    kept_again s.queue s.seats v items items s.doubts d c.self.invariant (seen a) (e.waits) e.wide settled
 
 pub returns-clause-tasks : goal.returns-clause-tasks
 returns-clause-tasks c = seen (goal.at.returns-clause-tasks c).After-sit_at ∙ ap (λ (r : RosterView). r.tasks) c.self.view_is
@@ -111,7 +105,7 @@ returns-clause-right c =
     let limit = c.args.limit in
     let w = length s.queue.accounts.all in
     let o = get_or s.queue.schedule.places cpu None in
-    let items = s.tasks.items in
+    let items = s.tasks in
     let v = c.sit_at.new.seats in
     let e = c.sit_at.ensures in
     let x = one_of a in
@@ -119,7 +113,7 @@ returns-clause-right c =
     let mine : IsSettled o (basis_in w limit now cpu) (get_or v.seats cpu None) =
     subst (λ (ts : List Task). IsSettled o (basis_in w limit ts cpu) (get_or v.seats cpu None)) (sym (seen a))
     (subst (λ (n : Option ℕ). IsSettled n (basis_in w limit (owed_all s.seats items) cpu) (get_or v.seats cpu None)) (stands a)
-    (subst (λ (ts : List Task). IsSettled (Some (get_or (owed_all s.seats ts) p x).number) (basis_in w limit (owed_all s.seats ts) cpu) (get_or v.seats cpu None)) c.deref.ensures.value (e.sits x))) in
-    let all = settled_right w limit v.upto cpu o v.seats items mine (subst (AllWait v.seats) c.deref.ensures.value e.waits) in
+    ((e.sits x))) in
+    let all = settled_right w limit v.upto cpu o v.seats items mine (e.waits) in
     let moved = subst (λ (ts : List Task). All (λ t. t.cpu ≡ cpu → IsRight o t.number (rate_in w limit ts t) (seat_of v.seats t)) now) (seen a) all in
     subst (λ (r : RosterView). All (λ t. t.cpu ≡ cpu → IsRight (get_or r.places cpu None) t.number (rate_in r.cpus limit r.tasks t) (seat_of v.seats t)) now) c.self.view_is moved

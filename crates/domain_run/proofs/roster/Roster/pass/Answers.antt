@@ -57,8 +57,8 @@ returns-clause-tasks c =
     let l = c.loop-cpu in
     let s = c.self-2.inside in
     let k = c.args.ticks in
-    ap (λ (v : SeatsView). owed_all v s.tasks.items) c.pass.ensures.passed
-    ∙ pass_view s.seats.upto c.args.time k s.seats.seats s.tasks.items (strict c) c.self-2.invariant.waits
+    ap (λ (v : SeatsView). owed_all v s.tasks) c.pass.ensures.passed
+    ∙ pass_view s.seats.upto c.args.time k s.seats.seats s.tasks (strict c) c.self-2.invariant.waits
     ∙ ap (λ (r : RosterView). map (passed c.args.time k r.seats) r.tasks) c.self-2.view_is
     ∙ l.invariant.left
 
@@ -66,17 +66,16 @@ pub invariant_of-self : goal.invariant_of-self
 invariant_of-self c =
     let s = c.self-2.inside in
     let v = c.pass.new.self in
-    let counted = counted_unlike (owed s.seats.upto s.seats.seats) (alike_owed s.seats.upto s.seats.seats) (length s.queue.accounts.all) s.queue s.tasks.items c.self-2.invariant.counted in
+    let counted = counted_unlike (owed s.seats.upto s.seats.seats) (alike_owed s.seats.upto s.seats.seats) (length s.queue.accounts.all) s.queue s.tasks c.self-2.invariant.counted in
     record {
-      counted = counted_like (owed v.upto v.seats) (alike_owed v.upto v.seats) (length s.queue.accounts.all) s.queue s.tasks.items counted;
-      waits = subst (λ (x : SeatsView). AllWait x.seats s.tasks.items) (sym c.pass.ensures.passed) c.self-2.invariant.waits;
+      counted = counted_like (owed v.upto v.seats) (alike_owed v.upto v.seats) (length s.queue.accounts.all) s.queue s.tasks counted;
+      waits = subst (λ (x : SeatsView). AllWait x.seats s.tasks) (sym c.pass.ensures.passed) c.self-2.invariant.waits;
       wide = ap (λ (x : SeatsView). length x.seats) c.pass.ensures.passed ∙ c.self-2.invariant.wide;
-      settled = clock_settled s.doubts (length s.queue.accounts.all) s.queue.schedule.places s.seats v s.tasks.items (ap (λ (x : SeatsView). x.seats) c.pass.ensures.passed) c.self-2.invariant.settled;
-      room = c.self-2.invariant.room;
+      settled = clock_settled s.doubts (length s.queue.accounts.all) s.queue.schedule.places s.seats v s.tasks (ap (λ (x : SeatsView). x.seats) c.pass.ensures.passed) c.self-2.invariant.settled;
     }
 
 pub returns-clause-sound : goal.returns-clause-sound
 returns-clause-sound c =
     let s = c.self-2.inside in
     let sound = subst (λ (r : RosterView). All (IsSound c.args.time) r.tasks) (sym c.self-2.view_is) c.loop-cpu.invariant.sound in
-    subst (λ (v : SeatsView). All (IsSound c.args.time) (owed_all v s.tasks.items)) (sym c.pass.ensures.passed) (pass_sound s.seats.upto c.args.time c.args.ticks s.seats.seats s.tasks.items (strict c) c.self-2.invariant.waits sound)
+    subst (λ (v : SeatsView). All (IsSound c.args.time) (owed_all v s.tasks)) (sym c.pass.ensures.passed) (pass_sound s.seats.upto c.args.time c.args.ticks s.seats.seats s.tasks (strict c) c.self-2.invariant.waits sound)

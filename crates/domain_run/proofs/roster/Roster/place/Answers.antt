@@ -1,6 +1,5 @@
-use Rattle.std.proofs.Common.{List, subst}
+use Rattle.std.proofs.Common.{subst}
 use Rattle.std.specs.Prelude.{IfSome, IfNone}
-use Rattle.domain_run.specs.declared.task.Task.{Task}
 use Rattle.domain_run.specs.private.Index.{IsAt, IsAbsent}
 use Rattle.domain_run.specs.private.Roster.{RosterView}
 use Rattle.domain_run.specs.private.Waiting.{owed}
@@ -12,11 +11,11 @@ returns-clause-there c =
     let s = c.self.inside in
     let o = c.place.result in
     subst (λ (r : RosterView). IfSome o (IsAt r.tasks c.args.number)) c.self.view_is
-    (some_like (owed s.seats.upto s.seats.seats) (alike_owed s.seats.upto s.seats.seats) s.tasks.items c.args.number o (subst (λ (ts : List Task). IfSome o (IsAt ts c.args.number)) c.deref.ensures.value c.place.ensures.there))
+    (some_like (owed s.seats.upto s.seats.seats) (alike_owed s.seats.upto s.seats.seats) s.tasks c.args.number o (c.place.ensures.there))
 
 pub returns-clause-absent : goal.returns-clause-absent
 returns-clause-absent c =
     let s = c.self.inside in
     let o = c.place.result in
     subst (λ (r : RosterView). IfNone o (IsAbsent r.tasks c.args.number)) c.self.view_is
-    (none_like (owed s.seats.upto s.seats.seats) (alike_owed s.seats.upto s.seats.seats) s.tasks.items c.args.number o (subst (λ (ts : List Task). IfNone o (IsAbsent ts c.args.number)) c.deref.ensures.value c.place.ensures.absent))
+    (none_like (owed s.seats.upto s.seats.seats) (alike_owed s.seats.upto s.seats.seats) s.tasks c.args.number o (c.place.ensures.absent))

@@ -16,10 +16,10 @@ use Rattle.domain_run.proofs.roster.Roster.runner.Goals as goal
 pub uinact-uinact-requires : goal.uinact-uinact-requires
 uinact-uinact-requires c =
     let s = c.self.inside in
-    let x = c.index-task.result.now in
-    let counted = counted_unlike (owed s.seats.upto s.seats.seats) (alike_owed s.seats.upto s.seats.seats) (length s.queue.accounts.all) s.queue s.tasks.items c.self.invariant.counted in
+    let x = c.at-task.result.now in
+    let counted = counted_unlike (owed s.seats.upto s.seats.seats) (alike_owed s.seats.upto s.seats.seats) (length s.queue.accounts.all) s.queue s.tasks c.self.invariant.counted in
     subst (λ (r : RosterView). x.cpu < r.cpus) c.self.view_is
-    (subst (λ (t : Task). t.cpu < length s.queue.accounts.all) (sym c.index-task.ensures) (home_at (length s.queue.accounts.all) s.queue s.tasks.items c.in-Some.place x (let many : length (map (owed s.seats.upto s.seats.seats) s.tasks.items) ≡ length s.tasks.items = simp length-map in omega (arith, many, c.in-Some.ensures.there.within, ap (λ (r : RosterView). length r.tasks) c.self.view_is)) counted))
+    (subst (λ (t : Task). t.cpu < length s.queue.accounts.all) (sym c.at-task.ensures) (home_at (length s.queue.accounts.all) s.queue s.tasks c.in-Some.place x (let many : length (map (owed s.seats.upto s.seats.seats) s.tasks) ≡ length s.tasks = simp length-map in omega (arith, many, c.in-Some.ensures.there.within, ap (λ (r : RosterView). length r.tasks) c.self.view_is)) counted))
 
 pub returns-in-None : goal.returns-in-None
 returns-in-None c = sym (ap (option_map (runner_in c.args.self.now.tasks)) (find_absent c.args.self.now.tasks c.args.number c.in-None.ensures.absent))
@@ -27,10 +27,10 @@ returns-in-None c = sym (ap (option_map (runner_in c.args.self.now.tasks)) (find
 pub returns-in-Some : goal.returns-in-Some
 returns-in-Some c =
     let s = c.self.inside in
-    let x = c.index-task.result.now in
+    let x = c.at-task.result.now in
     let at = subst (λ (r : RosterView). IsAt r.tasks c.args.number c.in-Some.place) (sym c.self.view_is) c.in-Some.ensures.there in
-    let found = found_owed s.seats.upto s.seats.seats s.tasks.items c.args.number c.in-Some.place x c.self.invariant.counted.roster.numbered at c.index-task.ensures in
-    let view : owed_all s.seats s.tasks.items ≡ c.args.self.now.tasks = ap (λ (r : RosterView). r.tasks) c.self.view_is in
+    let found = found_owed s.seats.upto s.seats.seats s.tasks c.args.number c.in-Some.place x c.self.invariant.counted.roster.numbered at c.at-task.ensures in
+    let view : owed_all s.seats s.tasks ≡ c.args.self.now.tasks = ap (λ (r : RosterView). r.tasks) c.self.view_is in
     let y = owed s.seats.upto s.seats.seats x in
     ap (λ (v : Running). Some v) (c.runner_at.ensures ∙ ap (λ (u : ℕ). runner_of u y) (c.uinact-uinact.ensures ∙ ap (λ n. uinact n (shares c.args.self.now.tasks)) (sym (alike_owed s.seats.upto s.seats.seats x).cpu)))
     ∙ sym (ap (option_map (runner_in c.args.self.now.tasks)) found)

@@ -15,11 +15,11 @@ returns-else-is_ahead-clause-step c =
     let p = c.args.place in
     let past = c.args.past in
     let z = c.in-Some.lag in
-    let raw = c.index.result.now in
-    let seen = owed_all s.seats s.tasks.items in
+    let raw = c.at.result.now in
+    let seen = owed_all s.seats s.tasks in
     let there = subst (λ (r : RosterView). p < length r.tasks) (sym c.self.view_is) c.requires.there in
     let gone : (is_contending raw.condition || nat_le z past) ≡ true = false_not (is_contending raw.condition || nat_le z past) (sym c.is_ahead.ensures ∙ c.if-is_ahead.false) in
     let still = step_none seen p (with_lag past c.args.lag) (λ d.
     ap (λ o. with_lag past o (get_or seen p d)) c.in-Some.is
-    ∙ lag_gone past z (get_or seen p d) (ap (λ k. is_contending k || nat_le z past) (seen_alike s.seats s.tasks.items p raw d there c.index.ensures).condition ∙ gone)) in
+    ∙ lag_gone past z (get_or seen p d) (ap (λ k. is_contending k || nat_le z past) (seen_alike s.seats s.tasks p raw d there c.at.ensures).condition ∙ gone)) in
     subst (λ (r : RosterView). IsStep (with_lag past c.args.lag) p r.tasks r.tasks) c.self.view_is still

@@ -16,5 +16,5 @@ returns-clause-lasts c =
     let s = c.self.inside in
     let ends = ends_from (s.seats.upto + c.min.result) s.seats.seats (omega (arith, c.first_end.ensures.end, c.first_end.ensures.ahead, c.upto.ensures.upto, c.min.ensures)) in
     subst (λ (r : RosterView). All (λ t. IfSome (seat_of r.seats t) (λ s. Lasts c.min.result s.rate t)) r.tasks) c.self.view_is
-    (all_last s.seats.upto c.min.result s.seats.seats s.tasks.items (omega (arith, c.first_end.ensures.ahead, c.upto.ensures.upto, c.min.ensures, c.requires.some))
+    (all_last s.seats.upto c.min.result s.seats.seats s.tasks (omega (arith, c.first_end.ensures.ahead, c.upto.ensures.upto, c.min.ensures, c.requires.some))
     (both_ends s.seats.upto (s.seats.upto + c.min.result) s.seats.seats c.first_end.ensures.seats ends) c.self.invariant.waits)

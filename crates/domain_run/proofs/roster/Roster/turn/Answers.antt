@@ -17,29 +17,29 @@ pub invariant_of-self : goal.invariant_of-self
 invariant_of-self c =
     let s = c.self.inside in
     let e = c.turn_task-sat.ensures in
-    let tasks = owed_all s.seats s.tasks.items in
+    let tasks = owed_all s.seats s.tasks in
     let p = c.args.place in
     let w = length s.queue.accounts.all in
-    let many : length tasks ≡ length s.tasks.items = simp length-map in
-    let within : p < length s.tasks.items = let h = subst (λ (r : RosterView). p < length r.tasks) (sym c.self.view_is) c.requires.there in omega (arith, h, many) in
+    let many : length tasks ≡ length s.tasks = simp length-map in
+    let within : p < length s.tasks = let h = subst (λ (r : RosterView). p < length r.tasks) (sym c.self.view_is) c.requires.there in omega (arith, h, many) in
     let inside : p < length tasks = omega (arith, within, many) in
-    let x = get_or tasks p c.index-2.result.now in
-    let read : x ≡ get_or tasks p x = get_or_default tasks p c.index-2.result.now x inside in
-    let raw = c.index-2.result.now in
-    let seen = get_or-map (owed s.seats.upto s.seats.seats) s.tasks.items p raw raw within in
-    let alike = alike_owed s.seats.upto s.seats.seats (get_or s.tasks.items p raw) in
-    let home : x.cpu ≡ raw.cpu = ap (λ (t : Task). t.cpu) seen ∙ alike.cpu ∙ sym (ap (λ (t : Task). t.cpu) c.index-2.ensures) in
-    let named : x.number ≡ raw.number = ap (λ (t : Task). t.number) seen ∙ alike.number ∙ sym (ap (λ (t : Task). t.number) c.index-2.ensures) in
+    let x = get_or tasks p c.at-2.result.now in
+    let read : x ≡ get_or tasks p x = get_or_default tasks p c.at-2.result.now x inside in
+    let raw = c.at-2.result.now in
+    let seen = get_or-map (owed s.seats.upto s.seats.seats) s.tasks p raw raw within in
+    let alike = alike_owed s.seats.upto s.seats.seats (get_or s.tasks p raw) in
+    let home : x.cpu ≡ raw.cpu = ap (λ (t : Task). t.cpu) seen ∙ alike.cpu ∙ sym (ap (λ (t : Task). t.cpu) c.at-2.ensures) in
+    let named : x.number ≡ raw.number = ap (λ (t : Task). t.number) seen ∙ alike.number ∙ sym (ap (λ (t : Task). t.number) c.at-2.ensures) in
     let fit = place_fit w s.queue tasks p c.args.time c.args.change.now x inside (subst (λ (r : RosterView). Fits r.cpus c.args.change.now) (sym c.self.view_is) c.requires.fits) c.self.invariant.counted in
     let stays : (after_change c.args.time c.args.change.now x).cpu ≡ x.cpu = ap (λ (t : Task). (after_change c.args.time c.args.change.now t).cpu) read ∙ fit.cpu ∙ ap (λ (t : Task). t.cpu) (sym read) in
     let keeps : (after_change c.args.time c.args.change.now x).number ≡ x.number = ap (λ (t : Task). (after_change c.args.time c.args.change.now t).number) read ∙ fit.number ∙ ap (λ (t : Task). t.number) (sym read) in
     let d = c.mark_left.new.self in
     let marks = c.mark_left.ensures in
-    let sat : c.turn_task-sat.result ≡ is_some (seat_of s.seats.seats raw) = e.sat raw ∙ ap (λ (t : Task). is_some (seat_of s.seats.seats t)) (sym c.index-2.ensures) in
+    let sat : c.turn_task-sat.result ≡ is_some (seat_of s.seats.seats raw) = e.sat raw ∙ ap (λ (t : Task). is_some (seat_of s.seats.seats t)) (sym c.at-2.ensures) in
     let left_it : IsLeft s.doubts.rated d.cpus raw.cpu raw.number s.seats.seats = left_unseated s.doubts.rated d.cpus raw.cpu raw.number s.seats.seats (seat_by raw.number (get_or s.seats.seats raw.cpu None)) c.turn_task-sat.result refl sat marks.sat marks.free in
     let queue = c.turn_task-sat.new.queue in
     let seats = c.turn_task-sat.new.seats in
-    let items = c.turn_task-sat.new.tasks.items in
+    let items = c.turn_task-sat.new.tasks in
     record {
       counted = subst (λ (n : ℕ). IsCounted n queue (owed_all seats items)) (sym e.counted.wide) e.counted;
       waits = e.waits;
@@ -48,5 +48,4 @@ invariant_of-self c =
           (subst (λ (ps : Places). AreSettled d w ps seats.seats (owed_all seats items)) (sym e.places)
           (turn_settled s.doubts d w s.queue.schedule.places s.seats.seats seats.seats tasks (owed_all seats items) p raw.cpu raw.number (after_change c.args.time c.args.change.now) x inside read home named stays keeps
           e.step e.seats left_it marks.bare marks.rated marks.sum marks.limit c.self.invariant.settled));
-      room = e.room ∙ c.self.invariant.room;
     }

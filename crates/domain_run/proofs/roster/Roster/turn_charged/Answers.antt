@@ -32,83 +32,82 @@ pub turn_settled-requires-clause-sound : goal.turn_settled-requires-clause-sound
 turn_settled-requires-clause-sound c =
     let s = c.self.inside in
     let p = c.args.place in
-    let x = c.index_mut.result.now in
-    let read = c.index_mut.ensures.value in
-    let h = within s.queue s.seats s.tasks.items c.args.self.now p c.self.view_is c.requires.there in
+    let x = c.at_mut.result.now in
+    let read = c.at_mut.ensures.value in
+    let h = within s.queue s.seats s.tasks c.args.self.now p c.self.view_is c.requires.there in
     let fits = subst (λ (r : RosterView). Fits r.cpus c.args.change.now) (sym c.self.view_is) c.requires.fits in
-    let none = unseated s.queue s.seats s.tasks.items c.args.self.now p x c.self.view_is h read c.requires.free in
-    sound_bare (length s.queue.accounts.all) c.args.time c.args.change.now s.queue s.seats s.tasks.items p x h read fits c.self.invariant.counted none (subst (λ (r : RosterView). All (IsSound c.args.time) r.tasks) (sym c.self.view_is) c.requires.sound)
+    let none = unseated s.queue s.seats s.tasks c.args.self.now p x c.self.view_is h read c.requires.free in
+    sound_bare (length s.queue.accounts.all) c.args.time c.args.change.now s.queue s.seats s.tasks p x h read fits c.self.invariant.counted none (subst (λ (r : RosterView). All (IsSound c.args.time) r.tasks) (sym c.self.view_is) c.requires.sound)
 
 pub turn_settled-requires-clause-may : goal.turn_settled-requires-clause-may
 turn_settled-requires-clause-may c =
     let s = c.self.inside in
     let p = c.args.place in
-    let x = c.index_mut.result.now in
-    let read = c.index_mut.ensures.value in
-    let h = within s.queue s.seats s.tasks.items c.args.self.now p c.self.view_is c.requires.there in
+    let x = c.at_mut.result.now in
+    let read = c.at_mut.ensures.value in
+    let h = within s.queue s.seats s.tasks c.args.self.now p c.self.view_is c.requires.there in
     let fits = subst (λ (r : RosterView). Fits r.cpus c.args.change.now) (sym c.self.view_is) c.requires.fits in
-    let none = unseated s.queue s.seats s.tasks.items c.args.self.now p x c.self.view_is h read c.requires.free in
-    may_bare (length s.queue.accounts.all) c.args.time c.args.change.now s.queue s.seats s.tasks.items p x h read fits c.self.invariant.counted none (subst (λ (r : RosterView). (d : Task) → MayMake c.args.time c.args.change.now (get_or r.tasks p d)) (sym c.self.view_is) c.requires.may)
+    let none = unseated s.queue s.seats s.tasks c.args.self.now p x c.self.view_is h read c.requires.free in
+    may_bare (length s.queue.accounts.all) c.args.time c.args.change.now s.queue s.seats s.tasks p x h read fits c.self.invariant.counted none (subst (λ (r : RosterView). (d : Task) → MayMake c.args.time c.args.change.now (get_or r.tasks p d)) (sym c.self.view_is) c.requires.may)
 
 pub turn_settled-requires-clause-turns : goal.turn_settled-requires-clause-turns
 turn_settled-requires-clause-turns c =
     let s = c.self.inside in
     let p = c.args.place in
-    let x = c.index_mut.result.now in
-    let read = c.index_mut.ensures.value in
-    let h = within s.queue s.seats s.tasks.items c.args.self.now p c.self.view_is c.requires.there in
+    let x = c.at_mut.result.now in
+    let read = c.at_mut.ensures.value in
+    let h = within s.queue s.seats s.tasks c.args.self.now p c.self.view_is c.requires.there in
     let fits = subst (λ (r : RosterView). Fits r.cpus c.args.change.now) (sym c.self.view_is) c.requires.fits in
-    let none = unseated s.queue s.seats s.tasks.items c.args.self.now p x c.self.view_is h read c.requires.free in
-    turns_bare (length s.queue.accounts.all) c.args.time c.args.change.now s.queue s.seats s.tasks.items p x h read fits c.self.invariant.counted none
+    let none = unseated s.queue s.seats s.tasks c.args.self.now p x c.self.view_is h read c.requires.free in
+    turns_bare (length s.queue.accounts.all) c.args.time c.args.change.now s.queue s.seats s.tasks p x h read fits c.self.invariant.counted none
 
 pub invariant_of-self : goal.invariant_of-self
 invariant_of-self c =
     let s = c.self.inside in
     let p = c.args.place in
-    let x = c.index_mut.result.now in
-    let read = c.index_mut.ensures.value in
-    let h = within s.queue s.seats s.tasks.items c.args.self.now p c.self.view_is c.requires.there in
+    let x = c.at_mut.result.now in
+    let read = c.at_mut.ensures.value in
+    let h = within s.queue s.seats s.tasks c.args.self.now p c.self.view_is c.requires.there in
     let fits = subst (λ (r : RosterView). Fits r.cpus c.args.change.now) (sym c.self.view_is) c.requires.fits in
-    let none = unseated s.queue s.seats s.tasks.items c.args.self.now p x c.self.view_is h read c.requires.free in
+    let none = unseated s.queue s.seats s.tasks c.args.self.now p x c.self.view_is h read c.requires.free in
     let y = c.turn_settled.new.task in
     let made = c.turn_settled.ensures.task in
     let queue = c.turn_settled.new.queue in
-    let tasks = owed_all s.seats (set s.tasks.items p y) in
-    let counted = counted_bare (length s.queue.accounts.all) c.args.time c.args.change.now s.queue s.seats s.tasks.items p x h read fits c.self.invariant.counted none c.turn_settled.new.queue y made c.turn_settled.ensures.turned in
-    let free = empty s.queue s.seats s.tasks.items c.args.self.now p x c.self.view_is h read c.requires.free in
+    let tasks = owed_all s.seats (set s.tasks p y) in
+    let counted = counted_bare (length s.queue.accounts.all) c.args.time c.args.change.now s.queue s.seats s.tasks p x h read fits c.self.invariant.counted none c.turn_settled.new.queue y made c.turn_settled.ensures.turned in
+    let free = empty s.queue s.seats s.tasks c.args.self.now p x c.self.view_is h read c.requires.free in
     record {
       counted = subst (λ (n : ℕ). IsCounted n queue tasks) (sym counted.wide) counted;
-      waits = waits_bare (length s.queue.accounts.all) c.args.time c.args.change.now s.queue s.seats s.tasks.items p x h read fits c.self.invariant.counted none c.turn_settled.new.queue y made c.self.invariant.waits;
+      waits = waits_bare (length s.queue.accounts.all) c.args.time c.args.change.now s.queue s.seats s.tasks p x h read fits c.self.invariant.counted none c.turn_settled.new.queue y made c.self.invariant.waits;
       wide = c.self.invariant.wide ∙ sym counted.wide;
       settled = subst (λ (n : ℕ). AreSettled s.doubts n queue.schedule.places s.seats.seats tasks) (sym counted.wide)
           (subst (λ (ps : Places). AreSettled s.doubts (length s.queue.accounts.all) ps s.seats.seats tasks) (sym c.turn_settled.ensures.turned.places)
-          (settled_bare (length s.queue.accounts.all) c.args.time c.args.change.now s.queue s.seats s.tasks.items p x h read fits c.self.invariant.counted none c.turn_settled.new.queue y made s.doubts s.queue.schedule.places free c.self.invariant.settled));
-      room = c.self.invariant.room;
+          (settled_bare (length s.queue.accounts.all) c.args.time c.args.change.now s.queue s.seats s.tasks p x h read fits c.self.invariant.counted none c.turn_settled.new.queue y made s.doubts s.queue.schedule.places free c.self.invariant.settled));
     }
 
 pub returns-clause-step : goal.returns-clause-step
 returns-clause-step c =
     let s = c.self.inside in
     let p = c.args.place in
-    let x = c.index_mut.result.now in
-    let read = c.index_mut.ensures.value in
-    let h = within s.queue s.seats s.tasks.items c.args.self.now p c.self.view_is c.requires.there in
+    let x = c.at_mut.result.now in
+    let read = c.at_mut.ensures.value in
+    let h = within s.queue s.seats s.tasks c.args.self.now p c.self.view_is c.requires.there in
     let fits = subst (λ (r : RosterView). Fits r.cpus c.args.change.now) (sym c.self.view_is) c.requires.fits in
-    let none = unseated s.queue s.seats s.tasks.items c.args.self.now p x c.self.view_is h read c.requires.free in
+    let none = unseated s.queue s.seats s.tasks c.args.self.now p x c.self.view_is h read c.requires.free in
     let y = c.turn_settled.new.task in
     let made = c.turn_settled.ensures.task in
-    subst (λ (r : RosterView). IsStep (after_change c.args.time c.args.change.now) p r.tasks (owed_all s.seats (set s.tasks.items p y))) c.self.view_is
-    (step_bare (length s.queue.accounts.all) c.args.time c.args.change.now s.queue s.seats s.tasks.items p x h read fits c.self.invariant.counted none c.turn_settled.new.queue y made)
+    subst (λ (r : RosterView). IsStep (after_change c.args.time c.args.change.now) p r.tasks (owed_all s.seats (set s.tasks p y))) c.self.view_is
+    (step_bare (length s.queue.accounts.all) c.args.time c.args.change.now s.queue s.seats s.tasks p x h read fits c.self.invariant.counted none c.turn_settled.new.queue y made)
 
 pub returns-clause-sound : goal.returns-clause-sound
 returns-clause-sound c =
     let s = c.self.inside in
     let p = c.args.place in
-    let x = c.index_mut.result.now in
-    let read = c.index_mut.ensures.value in
-    let h = within s.queue s.seats s.tasks.items c.args.self.now p c.self.view_is c.requires.there in
+    let x = c.at_mut.result.now in
+    let read = c.at_mut.ensures.value in
+    let h = within s.queue s.seats s.tasks c.args.self.now p c.self.view_is c.requires.there in
     let fits = subst (λ (r : RosterView). Fits r.cpus c.args.change.now) (sym c.self.view_is) c.requires.fits in
-    let none = unseated s.queue s.seats s.tasks.items c.args.self.now p x c.self.view_is h read c.requires.free in
+    let none = unseated s.queue s.seats s.tasks c.args.self.now p x c.self.view_is h read c.requires.free in
     let y = c.turn_settled.new.task in
     let made = c.turn_settled.ensures.task in
-    sound_all_bare (length s.queue.accounts.all) c.args.time c.args.change.now s.queue s.seats s.tasks.items p x h read fits c.self.invariant.counted none c.turn_settled.new.queue y made c.turn_settled.ensures.sound (subst (λ (r : RosterView). All (IsSound c.args.time) r.tasks) (sym c.self.view_is) c.requires.sound)
+    sound_all_bare (length s.queue.accounts.all) c.args.time c.args.change.now s.queue s.seats s.tasks p x h read fits c.self.invariant.counted none c.turn_settled.new.queue y made c.turn_settled.ensures.sound (subst (λ (r : RosterView). All (IsSound c.args.time) r.tasks) (sym c.self.view_is) c.requires.sound)

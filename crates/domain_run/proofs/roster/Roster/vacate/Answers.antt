@@ -1,6 +1,6 @@
-use Rattle.std.proofs.Common.{◌<◌, ℕ, None, length, sym, ap, subst, ◌∙◌, arith}
+use Rattle.std.proofs.Common.{◌<◌, None, length, sym, ap, subst, ◌∙◌, arith}
 use Rattle.std.proofs.lemmas.List.{length-set}
-use Rattle.domain_run.specs.private.Roster.{RosterView, IsKept}
+use Rattle.domain_run.specs.private.Roster.{RosterView}
 use Rattle.due_times.specs.Seats.{SeatsView}
 use Rattle.domain_run.specs.private.Waiting.{owed}
 use Rattle.domain_run.proofs.Waiting.{alike_owed, numbered_unlike}
@@ -16,23 +16,22 @@ vacate_on-requires-clause-there c =
 pub vacate_on-requires-clause-numbered : goal.vacate_on-requires-clause-numbered
 vacate_on-requires-clause-numbered c =
     let s = c.self.inside in
-    numbered_unlike (owed s.seats.upto s.seats.seats) (alike_owed s.seats.upto s.seats.seats) s.tasks.items c.self.invariant.counted.roster.numbered
+    numbered_unlike (owed s.seats.upto s.seats.seats) (alike_owed s.seats.upto s.seats.seats) s.tasks c.self.invariant.counted.roster.numbered
 
 pub invariant_of-self : goal.invariant_of-self
 invariant_of-self c =
     let s = c.self.inside in
     let v = c.vacate_on.new.seats in
-    let after = c.vacate_on.new.tasks.items in
+    let after = c.vacate_on.new.tasks in
     let is = c.vacate_on.ensures in
     let marks = c.mark.ensures in
     let d = c.mark.new.self in
-    subst (λ (n : ℕ). IsKept s.queue v after n d) (sym is.room)
-    (kept_again s.queue s.seats v s.tasks.items after _ s.doubts d c.self.invariant is.tasks is.waits
+    (kept_again s.queue s.seats v s.tasks after s.doubts d c.self.invariant is.tasks is.waits
     (ap (λ (x : SeatsView). length x.seats) is.seats ∙ length-set s.seats.seats c.args.cpu None)
-    (set_settled s.doubts d (length s.queue.accounts.all) s.queue.schedule.places s.seats v s.tasks.items after c.args.cpu None is.seats is.tasks marks.marked marks.bare marks.rated marks.sum marks.limit c.self.invariant.settled))
+    (set_settled s.doubts d (length s.queue.accounts.all) s.queue.schedule.places s.seats v s.tasks after c.args.cpu None is.seats is.tasks marks.marked marks.bare marks.rated marks.sum marks.limit c.self.invariant.settled))
 
 pub returns : goal.returns
 returns c =
     let s = c.self.inside in
     let is = c.vacate_on.ensures in
-    view_again s.queue c.args.cpu None s.seats c.vacate_on.new.seats s.tasks.items c.vacate_on.new.tasks.items c.args.self.now c.self.view_is is.seats is.tasks
+    view_again s.queue c.args.cpu None s.seats c.vacate_on.new.seats s.tasks c.vacate_on.new.tasks c.args.self.now c.self.view_is is.seats is.tasks

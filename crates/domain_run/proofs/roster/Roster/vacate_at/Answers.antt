@@ -1,7 +1,7 @@
-use Rattle.std.proofs.Common.{◌≡◌, ◌<◌, ℕ, Some, None, length, get_or, sym, ap, subst, ◌∙◌, arith}
+use Rattle.std.proofs.Common.{◌≡◌, ◌<◌, Some, None, length, get_or, sym, ap, subst, ◌∙◌, arith}
 use Rattle.std.proofs.lemmas.List.{length-set}
 use Rattle.domain_run.specs.private.Index.{IsAt}
-use Rattle.domain_run.specs.private.Roster.{RosterView, IsKept}
+use Rattle.domain_run.specs.private.Roster.{RosterView}
 use Rattle.due_times.specs.Seats.{SeatsView, IsAhead}
 use Rattle.domain_run.specs.private.Waiting.{owed}
 use Rattle.domain_run.proofs.Waiting.{alike_owed, numbered_unlike, at_unlike}
@@ -20,7 +20,7 @@ vacate_place-requires-clause-sits c = subst (λ (r : RosterView). get_or r.seats
 pub vacate_place-requires-clause-at : goal.vacate_place-requires-clause-at
 vacate_place-requires-clause-at c =
     let s = c.self.inside in
-    at_unlike (owed s.seats.upto s.seats.seats) (alike_owed s.seats.upto s.seats.seats) c.args.seat.number c.args.place s.tasks.items
+    at_unlike (owed s.seats.upto s.seats.seats) (alike_owed s.seats.upto s.seats.seats) c.args.seat.number c.args.place s.tasks
     (subst (λ (r : RosterView). IsAt r.tasks c.args.seat.number c.args.place) (sym c.self.view_is) c.requires.at)
 
 pub vacate_place-requires-clause-ahead : goal.vacate_place-requires-clause-ahead
@@ -29,23 +29,22 @@ vacate_place-requires-clause-ahead c = subst (λ (r : RosterView). IsAhead r.clo
 pub vacate_place-requires-clause-numbered : goal.vacate_place-requires-clause-numbered
 vacate_place-requires-clause-numbered c =
     let s = c.self.inside in
-    numbered_unlike (owed s.seats.upto s.seats.seats) (alike_owed s.seats.upto s.seats.seats) s.tasks.items c.self.invariant.counted.roster.numbered
+    numbered_unlike (owed s.seats.upto s.seats.seats) (alike_owed s.seats.upto s.seats.seats) s.tasks c.self.invariant.counted.roster.numbered
 
 pub invariant_of-self : goal.invariant_of-self
 invariant_of-self c =
     let s = c.self.inside in
     let v = c.vacate_place.new.seats in
-    let after = c.vacate_place.new.tasks.items in
+    let after = c.vacate_place.new.tasks in
     let is = c.vacate_place.ensures in
     let marks = c.mark.ensures in
     let d = c.mark.new.self in
-    subst (λ (n : ℕ). IsKept s.queue v after n d) (sym is.room)
-    (kept_again s.queue s.seats v s.tasks.items after _ s.doubts d c.self.invariant is.tasks is.waits
+    (kept_again s.queue s.seats v s.tasks after s.doubts d c.self.invariant is.tasks is.waits
     (ap (λ (x : SeatsView). length x.seats) is.seats ∙ length-set s.seats.seats c.args.cpu None)
-    (set_settled s.doubts d (length s.queue.accounts.all) s.queue.schedule.places s.seats v s.tasks.items after c.args.cpu None is.seats is.tasks marks.marked marks.bare marks.rated marks.sum marks.limit c.self.invariant.settled))
+    (set_settled s.doubts d (length s.queue.accounts.all) s.queue.schedule.places s.seats v s.tasks after c.args.cpu None is.seats is.tasks marks.marked marks.bare marks.rated marks.sum marks.limit c.self.invariant.settled))
 
 pub returns : goal.returns
 returns c =
     let s = c.self.inside in
     let is = c.vacate_place.ensures in
-    view_again s.queue c.args.cpu None s.seats c.vacate_place.new.seats s.tasks.items c.vacate_place.new.tasks.items c.args.self.now c.self.view_is is.seats is.tasks
+    view_again s.queue c.args.cpu None s.seats c.vacate_place.new.seats s.tasks c.vacate_place.new.tasks c.args.self.now c.self.view_is is.seats is.tasks

@@ -14,9 +14,9 @@ returns-in-None c = sym (ap (option_map view_of) (find_absent c.args.self.now.ta
 pub returns-in-Some : goal.returns-in-Some
 returns-in-Some c =
     let s = c.self.inside in
-    let x = c.index.result.now in
+    let x = c.at.result.now in
     let at = subst (λ (r : RosterView). IsAt r.tasks c.args.number c.in-Some.place) (sym c.self.view_is) c.in-Some.ensures.there in
-    let found = found_owed s.seats.upto s.seats.seats s.tasks.items c.args.number c.in-Some.place x c.self.invariant.counted.roster.numbered at c.index.ensures in
+    let found = found_owed s.seats.upto s.seats.seats s.tasks c.args.number c.in-Some.place x c.self.invariant.counted.roster.numbered at c.at.ensures in
     ap (λ (v : TaskView). Some v) c.view_at.ensures
     ∙ sym (ap (option_map view_of) found)
     ∙ ap (λ (r : RosterView). option_map view_of (find (λ t. eqb t.number c.args.number) r.tasks)) c.self.view_is

@@ -10,15 +10,14 @@ pub loop-i-init : goal.loop-i-init
 loop-i-init c = record {
   wide = refl;
   counts = c.requires.counts;
-  written = sym (homed_none c.occupants-places.result.now (owed_all c.args.seats.now c.args.tasks.now.items));
+  written = sym (homed_none c.occupants-places.result.now (owed_all c.args.seats.now c.args.tasks.now));
   clock = refl;
   long = refl;
-  marked = marked_more c.args.doubts.now.rated c.args.doubts.now.cpus c.args.doubts.now.cpus c.args.seats.now.seats (owed_all c.args.seats.now c.args.tasks.now.items) (λ i e. e);
+  marked = marked_more c.args.doubts.now.rated c.args.doubts.now.cpus c.args.doubts.now.cpus c.args.seats.now.seats (owed_all c.args.seats.now c.args.tasks.now) (λ i e. e);
   moved = λ j d h few. absurd (omega (arith, h));
   rated = refl;
   sum = refl;
   limit = refl;
-  room = refl;
 }
 
 pub home_on-requires-clause-there : goal.home_on-requires-clause-there
@@ -37,14 +36,13 @@ loop-i-preserved c =
     record {
       wide = e.wide ∙ l.invariant.wide;
       counts = e.counts;
-      written = e.tasks ∙ homed_more c.occupants-places.result.now c.moves-moves.result.now (owed_all c.args.seats.now c.args.tasks.now.items) (owed_all l.seats l.tasks.items) l.i nobody c.occupant_of-occupant.result (omega arith) l.invariant.written c.occupant_of-occupant.ensures;
+      written = e.tasks ∙ homed_more c.occupants-places.result.now c.moves-moves.result.now (owed_all c.args.seats.now c.args.tasks.now) (owed_all l.seats l.tasks) l.i nobody c.occupant_of-occupant.result (omega arith) l.invariant.written c.occupant_of-occupant.ensures;
       clock = e.clock ∙ l.invariant.clock;
       long = e.seats ∙ l.invariant.long;
-      marked = marked_trans c.args.doubts.now.rated c.args.doubts.now.cpus l.doubts.cpus c.home_on.new.doubts.cpus c.args.seats.now.seats l.seats.seats c.home_on.new.seats.seats (owed_all c.args.seats.now c.args.tasks.now.items) (owed_all l.seats l.tasks.items) (owed_all c.home_on.new.seats c.home_on.new.tasks.items) l.invariant.marked
-          (subst (λ (r : ℕ). IsMarked r l.doubts.cpus c.home_on.new.doubts.cpus l.seats.seats c.home_on.new.seats.seats (owed_all l.seats l.tasks.items) (owed_all c.home_on.new.seats c.home_on.new.tasks.items)) l.invariant.rated e.marked);
+      marked = marked_trans c.args.doubts.now.rated c.args.doubts.now.cpus l.doubts.cpus c.home_on.new.doubts.cpus c.args.seats.now.seats l.seats.seats c.home_on.new.seats.seats (owed_all c.args.seats.now c.args.tasks.now) (owed_all l.seats l.tasks) (owed_all c.home_on.new.seats c.home_on.new.tasks) l.invariant.marked
+          (subst (λ (r : ℕ). IsMarked r l.doubts.cpus c.home_on.new.doubts.cpus l.seats.seats c.home_on.new.seats.seats (owed_all l.seats l.tasks) (owed_all c.home_on.new.seats c.home_on.new.tasks)) l.invariant.rated e.marked);
       moved = λ j d h few. marked_next l.doubts.cpus c.home_on.new.doubts.cpus l.i c.moves-moves.result.now j d nobody h few l.invariant.moved e.marked.bare e.here (omega arith);
       rated = e.rated ∙ l.invariant.rated;
       sum = e.sum ∙ l.invariant.sum;
       limit = e.limit ∙ l.invariant.limit;
-      room = e.room ∙ l.invariant.room;
     }

@@ -1,10 +1,9 @@
-use Rattle.std.proofs.Common.{◌≡◌, ℕ, None, Some, List, map, set, sym, ap, subst, refl, ◌∙◌}
+use Rattle.std.proofs.Common.{◌≡◌, ℕ, None, Some, map, set, sym, ap, subst, refl, ◌∙◌}
 use Rattle.std.specs.Int.{bit_at}
 use Rattle.std.proofs.lemmas.List.{get_or_default}
 use Rattle.domain_run.specs.declared.task.Task.{Task}
 use Rattle.domain_run.specs.Parts.{with_cpu}
 use Rattle.domain_run.specs.private.Choosing.{IsHome}
-use Rattle.domain_run.specs.private.Index.{IsAt, IsAbsent}
 use Rattle.domain_run.specs.private.Roster.{homed_here}
 use Rattle.domain_run.specs.private.Waiting.{owed, owed_all}
 use Rattle.domain_run.proofs.Choosing.{start_waits, start_held, started_counts, started_home, started_tasks, started_view, started_clock, started_wide, stays_tasks}
@@ -16,91 +15,91 @@ use Rattle.domain_run.proofs.roster.choosing.home_on.Goals as goal
 
 pub returns-in_default-clause-tasks : goal.returns-in_default-clause-tasks
 returns-in_default-clause-tasks c =
-    let tasks = owed_all c.args.seats.now c.args.tasks.now.items in
+    let tasks = owed_all c.args.seats.now c.args.tasks.now in
     sym (ap (λ o. map (homed_here o c.args.cpu) tasks) c.in_default.is ∙ map_itself (homed_here None c.args.cpu) tasks (λ k d h. refl))
 
 pub returns-in_default-place-clause-tasks : goal.returns-in_default-place-clause-tasks
 returns-in_default-place-clause-tasks c =
     let s = c.args.seats.now in
-    let items = c.args.tasks.now.items in
+    let items = c.args.tasks.now in
     let n = c.in-Some.number in
-    let absent = absent_like (owed s.upto s.seats) (alike_owed s.upto s.seats) n items (subst (λ (ts : List Task). IsAbsent ts n) c.deref.ensures.value c.in_default-place.ensures.absent) in
+    let absent = absent_like (owed s.upto s.seats) (alike_owed s.upto s.seats) n items (c.in_default-place.ensures.absent) in
     sym (ap (λ o. map (homed_here o c.args.cpu) (owed_all s items)) c.in-Some.is ∙ map_others (with_cpu (Some c.args.cpu)) n (owed_all s items) absent)
 
 pub returns-then-left-cpu-clause-tasks : goal.returns-then-left-cpu-clause-tasks
 returns-then-left-cpu-clause-tasks c =
     let s = c.args.seats.now in
-    let items = c.args.tasks.now.items in
+    let items = c.args.tasks.now in
     let n = c.in-Some.number in
     let p = c.in-Some-place.place in
-    let at = subst (λ (ts : List Task). IsAt ts n p) c.deref.ensures.value c.in-Some-place.ensures.there in
-    stays_tasks c.args.accounts.now s items p c.index.result.now at.within c.index.ensures c.requires.counts c.args.cpu n c.if-left-cpu.true
+    let at = c.in-Some-place.ensures.there in
+    stays_tasks c.args.accounts.now s items p c.at.result.now at.within c.at.ensures c.requires.counts c.args.cpu n c.if-left-cpu.true
     (at_like (owed s.upto s.seats) (alike_owed s.upto s.seats) n p items at)
     ∙ ap (λ o. map (homed_here o c.args.cpu) (owed_all s items)) (sym c.in-Some.is)
 
 pub start-requires-clause-waits : goal.start-requires-clause-waits
 start-requires-clause-waits c =
-    let at = subst (λ (ts : List Task). IsAt ts c.in-Some.number c.in-Some-place.place) c.deref.ensures.value c.in-Some-place.ensures.there in
-    start_waits c.args.accounts.now c.args.seats.now c.args.tasks.now.items c.in-Some-place.place c.index_mut.result.now at.within c.index_mut.ensures.value c.requires.counts
+    let at = c.in-Some-place.ensures.there in
+    start_waits c.args.accounts.now c.args.seats.now c.args.tasks.now c.in-Some-place.place c.at_mut.result.now at.within c.at_mut.ensures.value c.requires.counts
 
 pub start-requires-clause-held : goal.start-requires-clause-held
 start-requires-clause-held c =
-    let at = subst (λ (ts : List Task). IsAt ts c.in-Some.number c.in-Some-place.place) c.deref.ensures.value c.in-Some-place.ensures.there in
-    start_held c.args.accounts.now c.args.seats.now c.args.tasks.now.items c.in-Some-place.place c.index_mut.result.now at.within c.index_mut.ensures.value c.requires.counts
+    let at = c.in-Some-place.ensures.there in
+    start_held c.args.accounts.now c.args.seats.now c.args.tasks.now c.in-Some-place.place c.at_mut.result.now at.within c.at_mut.ensures.value c.requires.counts
 
 pub returns-clause-place : goal.returns-clause-place
 returns-clause-place c =
-    let at = subst (λ (ts : List Task). IsAt ts c.in-Some.number c.in-Some-place.place) c.deref.ensures.value c.in-Some-place.ensures.there in
-    let x = c.index_mut.result.now in
-    let number : c.in-Some.number ≡ x.number = sym (at.is x) ∙ sym (ap (λ (t : Task). t.number) c.index_mut.ensures.value) in
-    let home = started_home c.args.accounts.now c.args.seats.now c.args.tasks.now.items c.in-Some-place.place x at.within c.index_mut.ensures.value c.requires.counts
+    let at = c.in-Some-place.ensures.there in
+    let x = c.at_mut.result.now in
+    let number : c.in-Some.number ≡ x.number = sym (at.is x) ∙ sym (ap (λ (t : Task). t.number) c.at_mut.ensures.value) in
+    let home = started_home c.args.accounts.now c.args.seats.now c.args.tasks.now c.in-Some-place.place x at.within c.at_mut.ensures.value c.requires.counts
     c.args.cpu c.start.new.accounts c.start.new.seats c.start.new.task c.requires.there c.start.ensures.task c.start.ensures.seats c.in-Some.number number in
-    subst (λ o. IsHome o c.args.cpu c.in-Some-place.place (owed_all c.start.new.seats (set c.args.tasks.now.items c.in-Some-place.place c.start.new.task))) (sym c.in-Some.is) home
+    subst (λ o. IsHome o c.args.cpu c.in-Some-place.place (owed_all c.start.new.seats (set c.args.tasks.now c.in-Some-place.place c.start.new.task))) (sym c.in-Some.is) home
 
 pub returns-clause-counts : goal.returns-clause-counts
 returns-clause-counts c =
-    let at = subst (λ (ts : List Task). IsAt ts c.in-Some.number c.in-Some-place.place) c.deref.ensures.value c.in-Some-place.ensures.there in
-    started_counts c.args.accounts.now c.args.seats.now c.args.tasks.now.items c.in-Some-place.place c.index_mut.result.now at.within c.index_mut.ensures.value c.requires.counts
+    let at = c.in-Some-place.ensures.there in
+    started_counts c.args.accounts.now c.args.seats.now c.args.tasks.now c.in-Some-place.place c.at_mut.result.now at.within c.at_mut.ensures.value c.requires.counts
     c.args.cpu c.start.new.accounts c.start.new.seats c.start.new.task c.requires.there c.start.ensures.task c.start.ensures.seats c.start.ensures.sums
 
 pub returns-clause-tasks : goal.returns-clause-tasks
 returns-clause-tasks c =
     let s = c.args.seats.now in
-    let items = c.args.tasks.now.items in
+    let items = c.args.tasks.now in
     let n = c.in-Some.number in
     let p = c.in-Some-place.place in
-    let at = subst (λ (ts : List Task). IsAt ts n p) c.deref.ensures.value c.in-Some-place.ensures.there in
-    started_tasks c.args.accounts.now s items p c.index_mut.result.now at.within c.index_mut.ensures.value c.requires.counts
+    let at = c.in-Some-place.ensures.there in
+    started_tasks c.args.accounts.now s items p c.at_mut.result.now at.within c.at_mut.ensures.value c.requires.counts
     c.args.cpu c.start.new.accounts c.start.new.seats c.start.new.task c.requires.there c.start.ensures.task c.start.ensures.seats n (at_like (owed s.upto s.seats) (alike_owed s.upto s.seats) n p items at)
     ∙ ap (λ o. map (homed_here o c.args.cpu) (owed_all s items)) (sym c.in-Some.is)
 
 pub returns-clause-clock : goal.returns-clause-clock
 returns-clause-clock c =
-    let at = subst (λ (ts : List Task). IsAt ts c.in-Some.number c.in-Some-place.place) c.deref.ensures.value c.in-Some-place.ensures.there in
-    started_clock c.args.accounts.now c.args.seats.now c.args.tasks.now.items c.in-Some-place.place c.index_mut.result.now at.within c.index_mut.ensures.value c.requires.counts
+    let at = c.in-Some-place.ensures.there in
+    started_clock c.args.accounts.now c.args.seats.now c.args.tasks.now c.in-Some-place.place c.at_mut.result.now at.within c.at_mut.ensures.value c.requires.counts
     c.args.cpu c.start.new.accounts c.start.new.seats c.start.new.task c.requires.there c.start.ensures.task c.start.ensures.seats
 
 pub returns-clause-seats : goal.returns-clause-seats
 returns-clause-seats c =
-    let at = subst (λ (ts : List Task). IsAt ts c.in-Some.number c.in-Some-place.place) c.deref.ensures.value c.in-Some-place.ensures.there in
-    started_wide c.args.accounts.now c.args.seats.now c.args.tasks.now.items c.in-Some-place.place c.index_mut.result.now at.within c.index_mut.ensures.value c.requires.counts
+    let at = c.in-Some-place.ensures.there in
+    started_wide c.args.accounts.now c.args.seats.now c.args.tasks.now c.in-Some-place.place c.at_mut.result.now at.within c.at_mut.ensures.value c.requires.counts
     c.args.cpu c.start.new.accounts c.start.new.seats c.start.new.task c.requires.there c.start.ensures.task c.start.ensures.seats
 
 pub returns-clause-marked : goal.returns-clause-marked
 returns-clause-marked c =
     let s = c.args.seats.now in
-    let items = c.args.tasks.now.items in
+    let items = c.args.tasks.now in
     let p = c.in-Some-place.place in
     let n = c.in-Some.number in
-    let at = subst (λ (ts : List Task). IsAt ts n p) c.deref.ensures.value c.in-Some-place.ensures.there in
-    let x = c.index_mut.result.now in
-    let same : c.index.result.now ≡ x = c.index.ensures ∙ get_or_default items p c.index.result.now x at.within ∙ sym c.index_mut.ensures.value in
-    let number : n ≡ x.number = sym (at.is x) ∙ sym (ap (λ (t : Task). t.number) c.index_mut.ensures.value) in
+    let at = c.in-Some-place.ensures.there in
+    let x = c.at_mut.result.now in
+    let same : c.at.result.now ≡ x = c.at.ensures ∙ get_or_default items p c.at.result.now x at.within ∙ sym c.at_mut.ensures.value in
+    let number : n ≡ x.number = sym (at.is x) ∙ sym (ap (λ (t : Task). t.number) c.at_mut.ensures.value) in
     let one = c.mark.ensures in
     let two = c.mark_left.ensures in
     let b = c.mark_left.new.self.cpus in
-    let left = left_unseated c.args.doubts.now.rated b c.index.result.now.cpu n s.seats c.seat_of.result _ c.seat_of.ensures.seat c.is_some.ensures two.sat (λ e few none. ap (λ (r : ℕ). bit_at r c.index.result.now.cpu) (sym one.rated) ∙ two.free e few none) in
-    start_marked c.args.doubts.now.rated c.args.doubts.now.cpus b c.args.cpu s c.start.new.seats items p x c.start.new.task at.within c.index_mut.ensures.value c.start.ensures.task c.start.ensures.seats
-    (started_view c.args.accounts.now s items p x at.within c.index_mut.ensures.value c.requires.counts c.args.cpu c.start.new.accounts c.start.new.seats c.start.new.task c.requires.there c.start.ensures.task c.start.ensures.seats)
+    let left = left_unseated c.args.doubts.now.rated b c.at.result.now.cpu n s.seats c.seat_of.result _ c.seat_of.ensures.seat c.is_some.ensures two.sat (λ e few none. ap (λ (r : ℕ). bit_at r c.at.result.now.cpu) (sym one.rated) ∙ two.free e few none) in
+    start_marked c.args.doubts.now.rated c.args.doubts.now.cpus b c.args.cpu s c.start.new.seats items p x c.start.new.task at.within c.at_mut.ensures.value c.start.ensures.task c.start.ensures.seats
+    (started_view c.args.accounts.now s items p x at.within c.at_mut.ensures.value c.requires.counts c.args.cpu c.start.new.accounts c.start.new.seats c.start.new.task c.requires.there c.start.ensures.task c.start.ensures.seats)
     (subst (λ (m : ℕ). IsLeft c.args.doubts.now.rated b x.cpu m s.seats) number (subst (λ (t : Task). IsLeft c.args.doubts.now.rated b t.cpu n s.seats) same left))
     (kept_mark c.mark.new.self.cpus b c.args.cpu two.bare one.marked) (λ i e. one.bare i (two.bare i e))

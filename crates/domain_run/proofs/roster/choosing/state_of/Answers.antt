@@ -1,5 +1,6 @@
 use Rattle.std.proofs.Common.{ℕ, Option, sym, ap, ◌∙◌}
-use Rattle.domain_run.specs.Switches.{left_by, state_of}
+use Rattle.domain_run.specs.declared.task.Task.{Task}
+use Rattle.domain_run.specs.Switches.{left_by, left_in, state_of}
 use Rattle.domain_run.proofs.Finding.{find_absent, find_at}
 use Rattle.domain_run.proofs.roster.choosing.state_of.Goals as goal
 
@@ -13,5 +14,5 @@ returns-in-Some-place c =
     let tasks = c.args.tasks.now in
     let p = c.in-Some-place.place in
     let at = c.in-Some-place.ensures.there in
-    c.left_in.ensures
-    ∙ sym (ap (λ (o : Option ℕ). state_of tasks o) c.in-Some.is ∙ ap left_by (find_at tasks c.in-Some.number p c.index-tasks-place.result c.requires.numbered at))
+    c.left_in.ensures ∙ ap (λ (t : Task). left_in t.condition) c.at.ensures
+    ∙ sym (ap (λ (o : Option ℕ). state_of tasks o) c.in-Some.is ∙ ap left_by (find_at tasks c.in-Some.number p c.at.result.now c.requires.numbered at))

@@ -12,15 +12,15 @@ use Rattle.domain_run.proofs.roster.listing.push_task.Goals as goal
 pub join-requires-clause-fits : goal.join-requires-clause-fits
 join-requires-clause-fits c =
     let bw : c.share_of.result.bw ≡ c.args.task.params.bw = ap (λ (s : Share). s.bw) c.share_of.ensures in
-    omega (arith, bw, c.requires.short, c.requires.counted.counts.sums.total, total_short c.args.tasks.now.items c.requires.counted.roster)
+    omega (arith, bw, c.requires.short, c.requires.counted.counts.sums.total, total_short c.args.tasks.now c.requires.counted.roster)
 
 pub returns-clause-counted : goal.returns-clause-counted
 returns-clause-counted c =
-    let tasks = c.args.tasks.now.items in
+    let tasks = c.args.tasks.now in
     let queue = c.args.queue.now in
     let t = c.args.task in
     let new : RunQueue = record { accounts = c.join.new.self; schedule = queue.schedule; timers = c.push.new.self } in
-    subst (IsCounted (length queue.accounts.all) new) (sym c.push_reserved.ensures.items) (record {
+    subst (IsCounted (length queue.accounts.all) new) (sym c.push-2.ensures) (record {
       wide = c.join.ensures.cpus;
       counts = counts_push queue new tasks t c.requires.idle refl (c.push.ensures ∙ ap (λ (n : ℕ). queue.timers ++ n ∷ []) c.due_of.ensures) c.requires.home (subst (λ x. Exchanges queue.accounts new.accounts [] (x ∷ [])) c.share_of.ensures c.join.ensures) c.requires.counted.counts;
       roster = roster_push tasks t c.requires.few c.requires.short c.requires.absent c.requires.counted.roster;

@@ -1,5 +1,5 @@
 use Rattle.std.proofs.Common.{◌≡◌, ◌<◌, ◌≤◌, ◌++◌, ◌∷◌, [], ℕ, Option, List, length, map, take, get_or, inl, inr, sym, ap, subst, refl, ◌∙◌, arith}
-use Rattle.std.specs.Prelude.{◌≢◌, AllPairs, IfSome}
+use Rattle.std.specs.Prelude.{IfSome}
 use Rattle.std.proofs.lemmas.Bool.{cases_eq}
 use Rattle.std.proofs.lemmas.List.{get_or_default, append-nil, append_assoc, map-append, take_more}
 use Rattle.attr_check.specs.Ratio.{cap}
@@ -20,7 +20,7 @@ use Rattle.domain_run.proofs.roster.starting.seat_moved.Goals as goal
 
 pub loop-i-init : goal.loop-i-init
 loop-i-init c =
-    let tasks = owed_all c.args.seats.now c.args.tasks.now.items in
+    let tasks = owed_all c.args.seats.now c.args.tasks.now in
     let but = subst (λ (ms : List Moved). AreSettledBut ms c.args.doubts.now (length c.args.accounts.now.all) c.args.schedule.now.places c.args.seats.now.seats tasks) (sym c.moves-moves.ensures) c.requires.settled in
     record {
       wide = refl;
@@ -32,7 +32,6 @@ loop-i-init c =
       long = refl;
       trusted = λ cpu others. subst (λ (ps : Places). IsTrusted c.args.doubts.now (length c.args.accounts.now.all) (occupant ps cpu) c.args.seats.now.seats tasks cpu) (sym c.occupants-places.ensures.occupants)
           (but cpu (λ j d h. others j d (omega arith) h));
-      room = refl;
       switches = sym (append-nil c.args.switches.now.items);
       few = omega arith;
       spare = refl;
@@ -42,8 +41,7 @@ pub state_of-state-requires : goal.state_of-state-requires
 state_of-state-requires c =
     let l = c.loop-i in
     record {
-      numbered = subst (λ (ts : List Task). AllPairs (λ a b. a.number ≢ b.number) ts) (sym c.deref.ensures.value)
-          (numbered_unlike (owed l.seats.upto l.seats.seats) (alike_owed l.seats.upto l.seats.seats) l.tasks.items l.invariant.counts.roster.numbered);
+      numbered = (numbered_unlike (owed l.seats.upto l.seats.seats) (alike_owed l.seats.upto l.seats.seats) l.tasks l.invariant.counts.roster.numbered);
     }
 
 pub switch_of-requires : goal.switch_of-requires
@@ -68,10 +66,10 @@ pub seat_next-requires-clause-counts : goal.seat_next-requires-clause-counts
 seat_next-requires-clause-counts c = c.loop-i.invariant.counts
 
 pub seat_next-requires-clause-within : goal.seat_next-requires-clause-within
-seat_next-requires-clause-within c = subst (λ (n : ℕ). sum_of (owed_all c.loop-i.seats c.loop-i.tasks.items) ≤ cap n c.args.moment.limit) (sym c.loop-i.invariant.wide) c.loop-i.invariant.within
+seat_next-requires-clause-within c = subst (λ (n : ℕ). sum_of (owed_all c.loop-i.seats c.loop-i.tasks) ≤ cap n c.args.moment.limit) (sym c.loop-i.invariant.wide) c.loop-i.invariant.within
 
 pub seat_next-requires-clause-may : goal.seat_next-requires-clause-may
-seat_next-requires-clause-may c = subst (λ (o : Option ℕ). IfSome o (MaySitOf (owed_all c.loop-i.seats c.loop-i.tasks.items))) (sym c.occupant_of-next.ensures) (c.loop-i.invariant.may _)
+seat_next-requires-clause-may c = subst (λ (o : Option ℕ). IfSome o (MaySitOf (owed_all c.loop-i.seats c.loop-i.tasks))) (sym c.occupant_of-next.ensures) (c.loop-i.invariant.may _)
 
 pub loop-i-preserved : goal.loop-i-preserved
 loop-i-preserved c =
@@ -82,22 +80,22 @@ loop-i-preserved c =
     let places = c.occupants-places.result.now in
     let moves = c.moves-moves.result.now in
     let cpu : ℕ = (get_or moves l.i nobody).cpu in
-    let was = owed_all l.seats l.tasks.items in
-    let now = owed_all new.seats new.tasks.items in
+    let was = owed_all l.seats l.tasks in
+    let now = owed_all new.seats new.tasks in
     let o = c.occupant_of-next.result in
     let m : Moved = get_or moves l.i nobody in
-    let first = owed_all c.args.seats.now c.args.tasks.now.items in
+    let first = owed_all c.args.seats.now c.args.tasks.now in
     let f : Moved → Switch = switch_of c.args.moment.time first places in
     let start = c.args.switches.now.items in
     let state : c.state_of-state.result ≡ state_of first m.before =
-    c.state_of-state.ensures ∙ ap (λ (ts : List Task). state_of ts m.before) c.deref.ensures.value
-    ∙ state_started l.seats.upto l.seats.seats l.tasks.items first places (take l.i moves) m.before l.invariant.written in
+    c.state_of-state.ensures
+    ∙ state_started l.seats.upto l.seats.seats l.tasks first places (take l.i moves) m.before l.invariant.written in
     let one : c.switch_of.result ≡ f m =
     c.switch_of.ensures ∙ (λ i. record { time = c.args.moment.time; prev = m.before; next = c.occupant_of-next.ensures i; cpu = m.cpu; state = state i }) in
     record {
       wide = e.wide ∙ l.invariant.wide;
       counts = e.counts;
-      written = e.tasks ∙ homed_more places moves (owed_all c.args.seats.now c.args.tasks.now.items) was l.i nobody o (omega arith) l.invariant.written c.occupant_of-next.ensures;
+      written = e.tasks ∙ homed_more places moves (owed_all c.args.seats.now c.args.tasks.now) was l.i nobody o (omega arith) l.invariant.written c.occupant_of-next.ensures;
       within = subst (λ (n : ℕ). n ≤ cap w c.args.moment.limit) (sym (ap sum_of e.tasks ∙ here_sum o cpu was)) l.invariant.within;
       may = λ i. subst (λ (ts : List Task). IfSome (occupant places i) (MaySitOf ts)) (sym e.tasks) (here_may_some o cpu was (occupant places i) (l.invariant.may i));
       clock = e.clock ∙ l.invariant.clock;
@@ -117,7 +115,6 @@ loop-i-preserved c =
             subst (λ (n : ℕ). IsTrusted new.doubts n (occupant places i) new.seats.seats now i) l.invariant.wide
             (e.trust i (occupant places i) other (subst (λ (n : ℕ). IsTrusted l.doubts n (occupant places i) l.seats.seats was i) (sym l.invariant.wide) before))
       ];
-      room = e.room ∙ l.invariant.room;
       switches = c.push_reserved.ensures.items
           ∙ ap (λ (x : Switch). l.switches.items ++ x ∷ []) one
           ∙ ap (λ (ss : List Switch). ss ++ f m ∷ []) l.invariant.switches
@@ -130,5 +127,5 @@ loop-i-preserved c =
 pub returns-clause-settled : goal.returns-clause-settled
 returns-clause-settled c =
     let l = c.loop-i in
-    λ cpu. subst (λ (ps : Places). IsTrusted l.doubts (length c.args.accounts.now.all) (occupant ps cpu) l.seats.seats (owed_all l.seats l.tasks.items) cpu) c.occupants-places.ensures.occupants
+    λ cpu. subst (λ (ps : Places). IsTrusted l.doubts (length c.args.accounts.now.all) (occupant ps cpu) l.seats.seats (owed_all l.seats l.tasks) cpu) c.occupants-places.ensures.occupants
     (l.invariant.trusted cpu (λ j d low h. absurd (omega (arith, low, h))))

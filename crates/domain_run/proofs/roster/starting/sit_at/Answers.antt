@@ -28,8 +28,8 @@ seat_for-seat-requires-clause-may c =
     let s = c.args.seats.now in
     let items = c.args.tasks.now in
     let p = c.args.place in
-    let x = c.index-tasks-place.result in
-    let read = c.index-tasks-place.is ∙ get_or_default items p _ x c.requires.at in
+    let x = c.at-task.result.now in
+    let read = c.at-task.ensures ∙ get_or_default items p _ x c.requires.at in
     subst MaySit (sym (bare_on s.upto s.seats items p x c.requires.at read c.args.cpu c.requires.free c.requires.home x)) (c.requires.may x)
 
 pub returns-clause-tasks : goal.returns-clause-tasks
@@ -45,8 +45,8 @@ returns-clause-waits c =
     let s = c.args.seats.now in
     let items = c.args.tasks.now in
     let p = c.args.place in
-    let x = c.index-tasks-place.result in
-    let read = c.index-tasks-place.is ∙ get_or_default items p _ x c.requires.at in
+    let x = c.at-task.result.now in
+    let read = c.at-task.ensures ∙ get_or_default items p _ x c.requires.at in
     let seat = c.seat_for-seat.result in
     let there : c.args.cpu < length s.seats = omega (arith, c.requires.there, c.requires.wide) in
     let since : seat.since ≡ s.upto = c.seat_for-seat.ensures.since ∙ c.upto.ensures.upto in

@@ -1,6 +1,4 @@
-use Rattle.std.proofs.Common.{List, sym, ap, subst, ◌∙◌}
-use Rattle.domain_run.specs.declared.task.Task.{Task}
-use Rattle.domain_run.specs.private.Index.{IsAt, IsAbsent}
+use Rattle.std.proofs.Common.{sym, ap, subst, ◌∙◌}
 use Rattle.due_times.specs.Seats.{SeatsView}
 use Rattle.domain_run.specs.private.Waiting.{owed_all, AllWait}
 use Rattle.domain_run.proofs.Seatings.{lost_view, lost_waits}
@@ -10,19 +8,19 @@ pub returns-in-None-clause-tasks : goal.returns-in-None-clause-tasks
 returns-in-None-clause-tasks c =
     let s = c.args.seats.now in
     let seat = c.in-Some.seat in
-    let absent = subst (λ (ts : List Task). IsAbsent ts seat.number) c.deref.ensures.value c.in-None.ensures.absent in
-    ap (λ (v : SeatsView). owed_all v c.args.tasks.now.items) c.set.ensures ∙ lost_view s.upto c.args.cpu s.seats c.args.tasks.now.items seat (sym c.in-Some.ensures.seat) absent
+    let absent = c.in-None.ensures.absent in
+    ap (λ (v : SeatsView). owed_all v c.args.tasks.now) c.set.ensures ∙ lost_view s.upto c.args.cpu s.seats c.args.tasks.now seat (sym c.in-Some.ensures.seat) absent
 
 pub returns-in-None-clause-waits : goal.returns-in-None-clause-waits
 returns-in-None-clause-waits c =
     let s = c.args.seats.now in
     let seat = c.in-Some.seat in
-    let absent = subst (λ (ts : List Task). IsAbsent ts seat.number) c.deref.ensures.value c.in-None.ensures.absent in
-    subst (λ (v : SeatsView). AllWait v.seats c.args.tasks.now.items) (sym c.set.ensures) (lost_waits s.upto c.args.cpu s.seats c.args.tasks.now.items seat (sym c.in-Some.ensures.seat) absent c.requires.waits)
+    let absent = c.in-None.ensures.absent in
+    subst (λ (v : SeatsView). AllWait v.seats c.args.tasks.now) (sym c.set.ensures) (lost_waits s.upto c.args.cpu s.seats c.args.tasks.now seat (sym c.in-Some.ensures.seat) absent c.requires.waits)
 
 pub vacate_place-requires-clause-at : goal.vacate_place-requires-clause-at
 vacate_place-requires-clause-at c =
-    subst (λ (ts : List Task). IsAt ts c.in-Some.seat.number c.in-Some-place.place) c.deref.ensures.value c.in-Some-place.ensures.there
+    c.in-Some-place.ensures.there
 
 pub vacate_place-requires-clause-sits : goal.vacate_place-requires-clause-sits
 vacate_place-requires-clause-sits c = sym c.in-Some.ensures.seat

@@ -8,17 +8,17 @@ use Rattle.domain_run.proofs.roster.starting.vacate_place.Goals as goal
 pub charge_on-requires-clause-waits : goal.charge_on-requires-clause-waits
 charge_on-requires-clause-waits c =
     let s = c.args.seats.now in
-    let x = c.index_mut.result.now in
-    let read = c.index_mut.ensures.value in
+    let x = c.at_mut.result.now in
+    let read = c.at_mut.ensures.value in
     let number : x.number ≡ c.args.seat.number = ap (λ (t : Task). t.number) read ∙ c.requires.at.is x in
-    charge_waits s.upto c.args.cpu s.seats c.args.tasks.now.items c.args.seat c.requires.sits c.args.place x c.requires.at.within read number c.requires.numbered c.requires.waits
+    charge_waits s.upto c.args.cpu s.seats c.args.tasks.now c.args.seat c.requires.sits c.args.place x c.requires.at.within read number c.requires.numbered c.requires.waits
 
 pub returns-clause-tasks : goal.returns-clause-tasks
 returns-clause-tasks c =
     let s = c.args.seats.now in
-    let items = c.args.tasks.now.items in
-    let x = c.index_mut.result.now in
-    let read = c.index_mut.ensures.value in
+    let items = c.args.tasks.now in
+    let x = c.at_mut.result.now in
+    let read = c.at_mut.ensures.value in
     let number : x.number ≡ c.args.seat.number = ap (λ (t : Task). t.number) read ∙ c.requires.at.is x in
     let is : c.charge_on.new.task ≡ charged_on c.args.cpu s.upto c.args.seat x = c.charge_on.ensures ∙ ap (λ (n : ℕ). charged_on c.args.cpu n c.args.seat x) c.upto.ensures.upto in
     ap (λ (v : SeatsView). owed_all v (set items c.args.place c.charge_on.new.task)) c.set.ensures
@@ -28,9 +28,9 @@ returns-clause-tasks c =
 pub returns-clause-waits : goal.returns-clause-waits
 returns-clause-waits c =
     let s = c.args.seats.now in
-    let items = c.args.tasks.now.items in
-    let x = c.index_mut.result.now in
-    let read = c.index_mut.ensures.value in
+    let items = c.args.tasks.now in
+    let x = c.at_mut.result.now in
+    let read = c.at_mut.ensures.value in
     let number : x.number ≡ c.args.seat.number = ap (λ (t : Task). t.number) read ∙ c.requires.at.is x in
     let is : c.charge_on.new.task ≡ charged_on c.args.cpu s.upto c.args.seat x = c.charge_on.ensures ∙ ap (λ (n : ℕ). charged_on c.args.cpu n c.args.seat x) c.upto.ensures.upto in
     subst (λ (v : SeatsView). AllWait v.seats (set items c.args.place c.charge_on.new.task)) (sym c.set.ensures)
