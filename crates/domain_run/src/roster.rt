@@ -67,7 +67,7 @@ pub(crate) struct Roster {
 }
 
 impl Model for Roster {
-    ghost use Rattle.std.specs.Prelude.{length, vec_capacity};
+    ghost use Rattle.std.specs.Prelude.{length};
     ghost use Rattle.domain_run.specs.private.Roster.{RosterView, IsKept};
     ghost use Rattle.domain_run.specs.private.Waiting.{owed_all};
 

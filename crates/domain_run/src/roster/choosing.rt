@@ -1,6 +1,6 @@
 //! Who starts on a CPU belongs to it from then on. The schedule has it so already.
 
-ghost use Rattle.std.specs.Prelude.{◌≡◌, ◌≢◌, ◌<◌, ◌∷◌, [], All, AllPairs, IfSome, None, Some, map, length, slice_index_or, vec_capacity};
+ghost use Rattle.std.specs.Prelude.{◌≡◌, ◌≢◌, ◌<◌, ◌∷◌, [], All, AllPairs, IfSome, None, Some, map, length, slice_index_or};
 ghost use Rattle.std.specs.Int.{bit_at};
 ghost use Rattle.grub_rules.specs.Accounts.{Exchanges, Holds};
 ghost use Rattle.domain_run.specs.Parts.{with_cpu};

@@ -1,7 +1,7 @@
 //! A task comes onto the list; tasks that have left go off it.
 
 ghost use Rattle.std.specs.List.{remove};
-ghost use Rattle.std.specs.Prelude.{◌≡◌, ◌<◌, ◌≤◌, ◌+◌, ◌^◌, ◌++◌, ◌∷◌, [], map, take, filter, false, All, length, vec_len, vec_capacity};
+ghost use Rattle.std.specs.Prelude.{◌≡◌, ◌<◌, ◌≤◌, ◌+◌, ◌^◌, ◌++◌, ◌∷◌, [], map, take, filter, false, All, length};
 ghost use Rattle.grub_rules.specs.Accounts.{AreAccounts};
 ghost use Rattle.domain_run.specs.Conditions.{is_ready};
 ghost use Rattle.domain_run.specs.Parts as parts_spec;
