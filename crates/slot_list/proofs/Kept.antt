@@ -86,9 +86,9 @@ front_pairs : (R : ℕ → ℕ → Type 0) (xs : List ℕ) (x : ℕ) → AllPair
 front_pairs R xs x pairs i j d less h =
     let last = last_in xs x in
     subst (λ (u : ℕ). R u (get_or xs j d))
-        (get_or_append_left xs (x ∷ []) d i (omega (arith, less, h)))
+    (get_or_append_left xs (x ∷ []) d i (omega (arith, less, h)))
     (subst (λ (u : ℕ). R (get_or (xs ++ x ∷ []) i d) u) (get_or_append_left xs (x ∷ []) d j h)
-        (pairs i j d less (omega (arith, h, last))))
+    (pairs i j d less (omega (arith, h, last))))
 
 -- what holds of each two holds of each with the last
 last_pairs : (R : ℕ → ℕ → Type 0) (xs : List ℕ) (x : ℕ) → AllPairs R (xs ++ x ∷ [])
@@ -96,7 +96,7 @@ last_pairs : (R : ℕ → ℕ → Type 0) (xs : List ℕ) (x : ℕ) → AllPairs
 last_pairs R xs x pairs k d h =
     subst (λ (u : ℕ). R u x) (get_or_append_left xs (x ∷ []) d k h)
     (subst (λ (t : ℕ). R (get_or (xs ++ x ∷ []) k d) t) (last_is xs x d)
-        (pairs k (length xs) d h (last_in xs x)))
+    (pairs k (length xs) d h (last_in xs x)))
 
 -- the last of those that are free is the last of the order now
 pub kept_pushed : (n : ℕ) (order free : List ℕ) (s capacity o f : ℕ)

@@ -68,9 +68,9 @@ pub values_other : {X : Type 0} (slots : List X) (order : List ℕ) (t : ℕ) (x
 values_other slots [] t x apart = refl
 values_other slots (s ∷ order) t x apart =
     ap (λ o. cons_option o (values_at (set slots t x) order))
-        (get_set_other slots t s x (apart zero zero (omega arith)))
+    (get_set_other slots t s x (apart zero zero (omega arith)))
     ∙ ap (cons_option (slice_get slots s))
-        (values_other slots order t x (rest_all (λ s. s ≢ t) s order apart))
+    (values_other slots order t x (rest_all (λ s. s ≢ t) s order apart))
 
 -- the first is another than the rest
 pub first_apart : (s : ℕ) (order : List ℕ) → AllPairs (λ s t. s ≢ t) (s ∷ order)
@@ -98,10 +98,10 @@ values_set slots (s ∷ order) (suc i) x all once h =
     let within : i < length order = omega (arith, h) in
     let other : s ≢ get_or order i 0 = λ e. once zero (suc i) 0 (omega arith) h e in
     ap (λ o. cons_option o (values_at (set slots (get_or order i 0) x) order))
-        (get_set_other slots (get_or order i 0) s x other)
+    (get_set_other slots (get_or order i 0) s x other)
     ∙ ap (cons_option (slice_get slots s))
-        (values_set slots order i x (rest_all (λ s. s < length slots) s order all)
-        (rest_once s order once) within)
+    (values_set slots order i x (rest_all (λ s. s < length slots) s order all)
+    (rest_once s order once) within)
     ∙ ap (λ o. cons_option o (set (values_at slots order) i x)) (some_at slots s x there)
     ∙ sym (ap (λ vs. set vs (suc i) x) (values_first slots s order x there))
 
@@ -119,7 +119,7 @@ values_remove slots (s ∷ order) (suc i) all =
     let d = a_value slots s there in
     values_first slots s (remove order i) d there
     ∙ ap (λ vs. get_or slots s d ∷ vs)
-        (values_remove slots order i (rest_all (λ s. s < length slots) s order all))
+    (values_remove slots order i (rest_all (λ s. s < length slots) s order all))
     ∙ sym (ap (λ vs. remove vs (suc i)) (values_first slots s order d there))
 
 -- one slot more changes none of those before
@@ -128,9 +128,9 @@ pub values_more : {X : Type 0} (slots : List X) (order : List ℕ) (x : X)
 values_more slots [] x all = refl
 values_more slots (s ∷ order) x all =
     ap (λ o. cons_option o (values_at (slots ++ x ∷ []) order))
-        (before slots s x (all zero zero (omega arith)))
+    (before slots s x (all zero zero (omega arith)))
     ∙ ap (cons_option (slice_get slots s))
-        (values_more slots order x (rest_all (λ s. s < length slots) s order all))
+    (values_more slots order x (rest_all (λ s. s < length slots) s order all))
   where
     before : {X : Type 0} (slots : List X) (s : ℕ) (x : X) → s < length slots
         → slice_get (slots ++ x ∷ []) s ≡ slice_get slots s

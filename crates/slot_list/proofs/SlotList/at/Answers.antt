@@ -22,6 +22,6 @@ returns g c =
     let p = c.args.place in
     let within = within_as _ _ _ p there c.self.view_is c.requires in
     let slot : c.from.result ≡ get_or order p 0 =
-        c.from.ensures ∙ c.index.ensures ∙ get_or_default order p c.index.result.now 0 within in
+    c.from.ensures ∙ c.index.ensures ∙ get_or_default order p c.index.result.now 0 within in
     read_as c.self.inside.slots.items order c.args.self.now p c.from.result c.index-2.result.now
     there c.self.view_is within slot c.index-2.ensures

@@ -25,7 +25,7 @@ returns g c =
     let n = c.from.result in
     let within = within_as _ _ _ p is.there c.self.view_is c.requires in
     let slot : n ≡ get_or order p 0 =
-        c.from.ensures ∙ c.index.ensures ∙ get_or_default order p c.index.result.now 0 within in
+    c.from.ensures ∙ c.index.ensures ∙ get_or_default order p c.index.result.now 0 within in
     let x = c.index_mut.result.now in
     let read = read_as slots order now p n x is.there c.self.view_is within slot in (
       (refl, λ w. written_as slots order now p n w is.there is.once c.self.view_is within slot),

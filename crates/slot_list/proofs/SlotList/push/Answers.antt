@@ -32,7 +32,7 @@ returns-in-Some g c =
     let was = free_as c.in-Some.ensures.items c.self.invariant in
     let there = last_all (λ u. u < length slots) left slot was.free_there in
     let apart : All (λ u. u ≢ slot) order =
-        λ k d h. last_all (λ t. get_or order k d ≢ t) left slot (was.apart k d h) in
+    λ k d h. last_all (λ t. get_or order k d ≢ t) left slot (was.apart k d h) in
     ap (values_at (set slots c.from.result v)) c.push_reserved.ensures.items
     ∙ ap (λ (n : ℕ). values_at (set slots n v) (order ++ slot ∷ [])) c.from.ensures
     ∙ values_last (set slots slot v) order slot v (get_set_same slots slot v there)
@@ -44,8 +44,16 @@ pub overflow_cast-len : goal.overflow_cast-len
 overflow_cast-len g c =
     let s = c.self.inside in
     let long = long_as _ _ _ c.self.invariant.there c.self.view_is in
-    omega (arith, long, c.requires.few, c.len.ensures, s.slots.ok.0, s.free.ok.0,
-    c.in-None.ensures.cases.0, c.self.invariant.all)
+    omega (
+      arith,
+      long,
+      c.requires.few,
+      c.len.ensures,
+      s.slots.ok.0,
+      s.free.ok.0,
+      c.in-None.ensures.cases.0,
+      c.self.invariant.all,
+    )
 
 pub push_reserved-requires-in-None : goal.push_reserved-requires-in-None
 push_reserved-requires-in-None g c =
@@ -57,8 +65,16 @@ push_reserved-requires-in-None-2 g c =
     let s = c.self.inside in
     let is = c.self.invariant in
     let long = long_as _ _ _ is.there c.self.view_is in
-    omega (arith, long, c.requires.few, s.slots.ok.0, s.free.ok.0, c.in-None.ensures.cases.0,
-    is.all, is.room)
+    omega (
+      arith,
+      long,
+      c.requires.few,
+      s.slots.ok.0,
+      s.free.ok.0,
+      c.in-None.ensures.cases.0,
+      is.all,
+      is.room,
+    )
 
 pub invariant_of-self-in-None : goal.invariant_of-self-in-None
 invariant_of-self-in-None g c =
