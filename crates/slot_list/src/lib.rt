@@ -72,7 +72,7 @@ impl<T> SlotList<T> {
 }
 
 impl<T: Drop> SlotList<T> {
-    /// Of no values, with room for 256. No other call takes memory.
+    /// Of no values; `NoMemory` where the room for 256 is refused. No other call takes memory.
     pub fn open(alloc: Global) -> Result<SlotList<T>, NoMemory>
         ensures { IfOk result (λ list. list ≡ []) }
     {
