@@ -10,7 +10,7 @@ use Rattle.domain_run.specs.declared.call.Reply.{Reply}
 use Rattle.domain_run.specs.declared.call.Reply.TheVariants.{Admitted, Full, Twice, Busy}
 use Rattle.domain_run.specs.Domain.{Domain}
 use Rattle.domain_run.specs.Tick.{sum_of, ticked, ticks}
-use Rattle.domain_run.specs.declared.switch.Switch.{Switch}
+use Rattle.domain_run.specs.Switch.{Switch}
 use Rattle.domain_run.specs.Passing.{behind}
 use Rattle.domain_run.proofs.CallerLemmas.{after_call_behind, with_number_contains}
 use Rattle.domain_run.specs.Run.{after_calls}

@@ -1,6 +1,6 @@
 -- The text of the run of one section that is made piece by piece.
 use Rattle.std.proofs.Common.{◌≡◌, ℕ, ◌^◌, ◌≤◌, List, [], ◌∷◌, length, ap, ◌∙◌, arith}
-use Rattle.domain_run.specs.declared.switch.Switch.{Switch}
+use Rattle.domain_run.specs.Switch.{Switch}
 use Rattle.call_book.specs.SectionView.{SectionView}
 use Rattle.call_book.specs.Limits.{IsSection}
 use Rattle.switch_text.specs.SlicedTrace.{sliced_trace}

@@ -8,7 +8,7 @@ use Rattle.std.proofs.lemmas.List.Sums.{fold-append, prefix_len_is}
 use Rattle.std.proofs.lemmas.List.Folds.{length-prefix_len}
 use Rattle.domain_run.specs.declared.happened.What.TheVariants.{JobEnds}
 use Rattle.domain_run.specs.declared.happened.Happened.{Happened}
-use Rattle.domain_run.specs.declared.switch.Switch.{Switch}
+use Rattle.domain_run.specs.Switch.{Switch}
 use Rattle.domain_run.specs.declared.switch.PrevState.TheVariants.{Running}
 use Rattle.chart_pieces.specs.declared.standing.Moment.{Moment}
 use Rattle.chart_pieces.specs.declared.window.Window.{Window}

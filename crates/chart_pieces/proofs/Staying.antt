@@ -5,7 +5,7 @@ use Rattle.std.specs.List.{range_with_len}
 use Rattle.std.proofs.Math.ListN.{set}
 use Rattle.std.proofs.lemmas.Bool.{ne_eqb, cases_eq}
 use Rattle.std.proofs.lemmas.List.{drop_more, reverse-append}
-use Rattle.domain_run.specs.declared.switch.Switch.{Switch}
+use Rattle.domain_run.specs.Switch.{Switch}
 use Rattle.run_figures.specs.Stays.{until, is_task}
 use Rattle.chart_pieces.specs.declared.row.Bar.{Bar}
 use Rattle.chart_pieces.specs.declared.window.Window.{Window}

@@ -1,6 +1,6 @@
 -- Bars: where a task ran, read off the switches (own).
 use Rattle.std.specs.Prelude.{ℕ, ◌-◌, if◌then◌else◌, List, [], ◌∷◌, ◌++◌, filter}
-use Rattle.domain_run.specs.declared.switch.Switch.{Switch}
+use Rattle.domain_run.specs.Switch.{Switch}
 use Rattle.run_figures.specs.Stays.{until, is_task}
 use Rattle.chart_pieces.specs.declared.row.Bar.{Bar}
 use Rattle.chart_pieces.specs.declared.window.Window.{Window}

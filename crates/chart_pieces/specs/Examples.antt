@@ -3,7 +3,7 @@ use Rattle.std.specs.Prelude.{ℕ, ◌≡◌, true, false, List, [], ◌∷◌, 
 use Rattle.domain_run.specs.declared.happened.What.{What}
 use Rattle.domain_run.specs.declared.happened.What.TheVariants.{JobEnds, NextReleased, Spent, Cut, Replenished, Released, WokenSpent}
 use Rattle.domain_run.specs.declared.happened.Happened.{Happened}
-use Rattle.domain_run.specs.declared.switch.Switch.{Switch}
+use Rattle.domain_run.specs.Switch.{Switch}
 use Rattle.domain_run.specs.declared.switch.PrevState.{PrevState}
 use Rattle.domain_run.specs.declared.switch.PrevState.TheVariants.{Running, Preempted, Dead}
 use Rattle.run_figures.specs.Runs.{RunView}

@@ -2,7 +2,7 @@
 -- (own).
 use Rattle.std.specs.Prelude.{ℕ, ◌==◌, List, [], ◌∷◌, ◌++◌, drop, filter, length, map, Option, Some, None}
 use Rattle.domain_run.specs.declared.happened.Happened.{Happened}
-use Rattle.domain_run.specs.declared.switch.Switch.{Switch}
+use Rattle.domain_run.specs.Switch.{Switch}
 use Rattle.run_figures.specs.Throttling.{up_to}
 use Rattle.chart_pieces.specs.declared.standing.Turn.TheVariants.{Told, Leaves, Comes}
 use Rattle.chart_pieces.specs.declared.standing.Moment.{Moment}

@@ -64,10 +64,10 @@ pub(crate) fn no_lines(alloc: Global, tasks: &[Admitted]) -> Result<Vec<Line>, N
 fn push_bar(line: &mut Line, window: &Window, switch: &Switch, next: u64) -> Result<(), NoMemory>
     ensures { OnOk result (line.new ≡ lines.with_bar window.now switch.now next line.old) }
 {
-    if window.touches(switch.time, next) {
+    if window.touches(switch.time(), next) {
         line.bars.push(Bar {
-            cpu: switch.cpu,
-            start: switch.time,
+            cpu: switch.cpu(),
+            start: switch.time(),
             stop: next,
         })?;
     }
@@ -86,7 +86,7 @@ pub(crate) fn put_bar(
     ensures { OnOk result (table.new.items ≡ map
         (lines.with_bar_of switch.now.next window.now switch.now next) table.old.items) }
 {
-    let Some(number) = switch.next else {
+    let Some(number) = switch.next() else {
         return Ok(());
     };
     match places.find(number) {

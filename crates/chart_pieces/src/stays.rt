@@ -37,9 +37,9 @@ pub(crate) fn put_bars(
     while left > 0 {
         left -= 1;
         let switch = &run.switches[left];
-        let cpu = switch.cpu as usize;
+        let cpu = switch.cpu() as usize;
         put_bar(table, places, window, switch, nexts[cpu])?;
-        nexts[cpu] = switch.time;
+        nexts[cpu] = switch.time();
     }
     Ok(())
 }

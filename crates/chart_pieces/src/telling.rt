@@ -73,18 +73,18 @@ fn tell_leaving(
     ensures { OnOk result (table.new.items ≡ map
         (lines.line_all window.now (moments.leaving switch.now switch.now.prev)) table.old.items) }
 {
-    match switch.prev {
+    match switch.prev() {
         None => Ok(()),
         Some(number) => tell(
             table,
             places,
             window,
             &Moment {
-                time: switch.time,
+                time: switch.time(),
                 number,
                 turn: Turn::Leaves {
-                    cpu: switch.cpu,
-                    state: switch.state,
+                    cpu: switch.cpu(),
+                    state: switch.state(),
                 },
             },
         ),
@@ -102,16 +102,16 @@ fn tell_coming(
     ensures { OnOk result (table.new.items ≡ map
         (lines.line_all window.now (moments.coming switch.now switch.now.next)) table.old.items) }
 {
-    match switch.next {
+    match switch.next() {
         None => Ok(()),
         Some(number) => tell(
             table,
             places,
             window,
             &Moment {
-                time: switch.time,
+                time: switch.time(),
                 number,
-                turn: Turn::Comes { cpu: switch.cpu },
+                turn: Turn::Comes { cpu: switch.cpu() },
             },
         ),
     }
@@ -146,7 +146,7 @@ pub(crate) fn tell_moments(
 {
     let mut from = 0;
     for switch in switches {
-        from += tell_until(table, places, window, &happened[from..], switch.time)?;
+        from += tell_until(table, places, window, &happened[from..], switch.time())?;
         tell_switch(table, places, window, switch)?;
     }
     tell_all(table, places, window, &happened[from..])

@@ -12,7 +12,7 @@ use Rattle.edf_pick.specs.Schedule.{IsAtHome, homed_on, homed_by as homed_all}
 use Rattle.edf_pick.proofs.CallerLemmas.{same_is, all_homes}
 use Rattle.domain_run.specs.declared.task.Task.{Task}
 use Rattle.domain_run.specs.declared.task.Condition.{Condition}
-use Rattle.domain_run.specs.declared.switch.Switch.{Switch}
+use Rattle.domain_run.specs.Switch.{Switch}
 use Rattle.domain_run.specs.Parts.{with_cpu, with_last_cpu}
 use Rattle.domain_run.specs.Sound.{occupant}
 use Rattle.domain_run.specs.Switches.{same_occupant, left_by, state_of, switches_from}

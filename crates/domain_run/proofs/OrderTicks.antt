@@ -11,7 +11,7 @@ use Rattle.edf_pick.specs.Places.{Places, placed, stands}
 use Rattle.edf_pick.specs.Order.{with_candidate, ordered}
 use Rattle.edf_pick.proofs.CallerLemmas.{IsNumbered, numbered_map, ordered_insert, placed_ordered}
 use Rattle.domain_run.specs.declared.task.Task.{Task}
-use Rattle.domain_run.specs.declared.switch.Switch.{Switch}
+use Rattle.domain_run.specs.Switch.{Switch}
 use Rattle.domain_run.specs.Conditions.{is_ready}
 use Rattle.domain_run.specs.Parts.{replenish_due, settled, is_listed, unblocked, with_last_cpu, ran}
 use Rattle.domain_run.specs.Switches.{same_occupant, left_by, state_of, switches_from}

@@ -1,6 +1,6 @@
 -- Who starts on a CPU sits there at once.
 use Rattle.std.proofs.Common.{◌≡◌, ℕ, ◌<◌, Option, Some, None, List, [], ◌∷◌, length, map, get_or, Bool, cond, eqb, ◌&&◌, true, false, refl, sym, ap, ◌∙◌, subst, arith}
-use Rattle.std.specs.Prelude.{◌≢◌, All, AllPairs, Any, IsTrue, IfSome}
+use Rattle.std.specs.Prelude.{◌≢◌, All, AllPairs, Any, IsTrue, IfSome, find}
 use Rattle.std.proofs.lemmas.Bool.{eqb-true}
 use Rattle.std.proofs.lemmas.List.{get_or-map, get_or_default, length-map}
 use Rattle.std.proofs.lemmas.List.Folds.{Any-from_list_any}
@@ -12,7 +12,11 @@ use Rattle.edf_pick.specs.Places.{Places}
 use Rattle.domain_run.specs.Conditions.{is_ready}
 use Rattle.domain_run.specs.Parts.{with_cpu}
 use Rattle.domain_run.specs.Sound.{occupant, IsSound}
-use Rattle.domain_run.specs.Switches.{state_of}
+use Rattle.domain_run.specs.declared.task.Condition.{Condition}
+use Rattle.domain_run.specs.declared.task.Condition.TheVariants.{Ready, Throttled, Blocked, Waiting, Leaving}
+use Rattle.domain_run.specs.declared.switch.PrevState.TheVariants.{Running}
+use Rattle.domain_run.specs.Switch.{IsLeftIn}
+use Rattle.domain_run.specs.Switches.{left_in, left_by, state_of}
 use Rattle.domain_run.specs.Tick.{candidates, sum_of}
 use Rattle.domain_run.specs.private.Choosing.{IsHome, homed_by}
 use Rattle.domain_run.specs.private.Roster.{homed_here}
@@ -49,6 +53,22 @@ moved_condition places (m ∷ moves) t = moved_condition places moves (homed_her
 -- the state in which an occupant leaves, told by the tasks as they are stored
 pub state_stored : (upto : ℕ) (seats : List (Option Seat)) (items : List Task) (o : Option ℕ) → state_of items o ≡ state_of (map (owed upto seats) items) o
 state_stored upto seats items o = sym (state_alike (owed upto seats) (λ t. (alike_owed upto seats t).number) (λ t. (alike_owed upto seats t).condition) items o)
+
+-- a task leaves in another state than idle
+left_as : (c : Condition) → left_in c ≢ Running
+left_as Ready = λ e. cc
+left_as Throttled = λ e. cc
+left_as (Blocked u) = λ e. cc
+left_as Waiting = λ e. cc
+left_as Leaving = λ e. cc
+
+left_as_found : (found : Option Task) → left_by found ≢ Running
+left_as_found None = λ e. cc
+left_as_found (Some t) = left_as t.condition
+
+pub left_in_state : (tasks : List Task) (o : Option ℕ) → IsLeftIn (state_of tasks o) o
+left_in_state tasks None = refl
+left_in_state tasks (Some n) = left_as_found (find (λ t. eqb t.number n) tasks)
 
 -- where some have started, it is as before
 pub state_started : (upto : ℕ) (seats : List (Option Seat)) (items first : List Task) (places : Places) (moves : List Moved) (o : Option ℕ) → map (owed upto seats) items ≡ map (homed_by places moves) first → state_of items o ≡ state_of first o

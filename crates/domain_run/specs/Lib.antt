@@ -2,6 +2,7 @@ pub mod Domain
 pub mod Passing
 pub mod Conditions
 pub mod Parts
+pub mod Switch
 pub mod Switches
 pub mod Tick
 pub mod Calls

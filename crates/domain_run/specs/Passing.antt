@@ -1,6 +1,6 @@
 -- A domain whose switches so far are forgotten, and one that had more before them.
 use Rattle.std.specs.Prelude.{List, [], ◌++◌}
-use Rattle.domain_run.specs.declared.switch.Switch.{Switch}
+use Rattle.domain_run.specs.Switch.{Switch}
 use Rattle.domain_run.specs.Domain.{Domain}
 
 abbrev pub without_switches : Domain → Domain

@@ -7,7 +7,7 @@ use Rattle.domain_run.specs.declared.task.Task.{Task}
 use Rattle.domain_run.specs.declared.task.Condition.{Condition}
 use Rattle.domain_run.specs.declared.task.Condition.TheVariants.{Ready, Throttled, Blocked, Waiting, Leaving}
 use Rattle.domain_run.specs.Conditions.{is_ready, is_throttled, is_contending}
-use Rattle.domain_run.specs.declared.switch.Switch.{Switch}
+use Rattle.domain_run.specs.Switch.{Switch}
 use Rattle.domain_run.specs.Switches.{is_before}
 use Rattle.domain_run.specs.Domain.{Domain, IsCpus, IsLimit}
 use Rattle.domain_run.specs.Bounds.{IsEarly, IsSoon, IsServed}

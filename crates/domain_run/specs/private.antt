@@ -1,4 +1,5 @@
 pub mod Numbers
+pub mod Packed
 pub mod RunQueue
 pub mod Paying
 pub mod Index

@@ -19,8 +19,8 @@ use no_memory::NoMemory;
 use std::marker::Model;
 use task_script::{Name, Script};
 
-/// So many switches wait at least before an advance stops; each is 32 bytes, so a buffer has some
-/// 128 kB.
+/// So many switches wait at least before an advance stops; each is 16 bytes, so a buffer has some
+/// 64 kB.
 const PIECE: usize = 4096;
 
 /// A domain whose switches wait in a buffer, of which the room is made once. No call on it takes

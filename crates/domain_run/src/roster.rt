@@ -414,6 +414,7 @@ impl Roster {
     /// for each CPU that the choice gave to another one.
     #[inline(always)]
     pub(crate) fn choose_seated(&mut self, moment: Moment, switches: &mut Vec<Switch>)
+        requires early { moment.time < 2 ^ 48 }
         requires wide { length self.old.places ≡ self.old.cpus }
         requires apart { IsApart self.old.places }
         requires cpus { (0 < self.old.cpus) × (self.old.cpus ≤ 64) }

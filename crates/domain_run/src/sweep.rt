@@ -279,7 +279,8 @@ fn wake_unheard(roster: &mut Roster, time: u64)
 /// Part 5 on a CPU that another one has: a switch is added.
 #[inline(always)]
 fn add_switch(switches: &mut Vec<Switch>, time: u64, roster: &Roster, moved: &Moved)
-    requires narrow { moved.now.cpu < 65536 }
+    requires early { time < 2 ^ 48 }
+    requires narrow { moved.now.cpu < 256 }
     requires room { vec_len switches.old < vec_capacity switches.old }
     ensures switches { switches.new.items ≡ switches.old.items
         ++ choosing_spec.switch_of time roster.now.tasks roster.now.places moved.now ∷ [] }
@@ -294,6 +295,7 @@ fn add_switch(switches: &mut Vec<Switch>, time: u64, roster: &Roster, moved: &Mo
 /// Part 5: there is a switch for each CPU that the last choice gave to another one.
 #[inline(always)]
 fn add_switches(switches: &mut Vec<Switch>, time: u64, roster: &Roster)
+    requires early { time < 2 ^ 48 }
     requires narrow { choosing_spec.AreWithin 64 roster.now.moves }
     requires room { vec_len switches.old + length roster.now.moves ≤ vec_capacity switches.old }
     ensures switches { switches.new.items ≡ switches.old.items

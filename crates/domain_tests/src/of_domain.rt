@@ -7,5 +7,5 @@ use domain_run::Switch;
 
 #[test]
 fn a_switch_is_small(rt: HostRuntime) {
-    assert!(rt; std::mem::size_of::<Switch>() <= 32);
+    assert!(rt; std::mem::size_of::<Switch>() <= 16);
 }

@@ -4,7 +4,7 @@ use Rattle.std.specs.Prelude.{All, AllPairs, IsTrue, Bool, true, if◌then◌els
 use Rattle.std.proofs.lemmas.List.{append-nil, length-map, get_or-map}
 use Rattle.std.proofs.lemmas.List.Elements.{All-nil, All-append, All-weaker}
 use Rattle.domain_run.specs.declared.happened.Happened.{Happened}
-use Rattle.domain_run.specs.declared.switch.Switch.{Switch}
+use Rattle.domain_run.specs.Switch.{Switch}
 use Rattle.domain_run.specs.Domain.{Domain}
 use Rattle.domain_run.specs.Log.{LogView, Tells}
 use Rattle.domain_run.specs.Passing.{behind, without_switches}

@@ -13,8 +13,8 @@ use jump_run::{Done, advance_piece};
 use run_figures::{Accounting, Admitted};
 use std::alloc::Global;
 
-/// So many switches, or so much that happened, end a piece: each is 32 bytes, so a piece holds some
-/// 256 kB, and one more event.
+/// So many switches, or so much that happened, end a piece: a switch is 16 bytes and what happens
+/// 32, so a piece holds some 192 kB, and one more event.
 const ENOUGH: usize = 4096;
 
 /// A task by its number. An accounting hears of its parameters only at its end.

@@ -7,7 +7,7 @@ use Rattle.std.proofs.lemmas.List.{length-map, take_more, get_or-take, get_or_de
 use Rattle.std.proofs.lemmas.List.FromFn.{length-range_with_len, get_or-range_with_len}
 use Rattle.std.proofs.lemmas.List.Elements.{All-head, All-tail, All-map, filter-append}
 use Rattle.std.proofs.lemmas.List.Sums.{sum_by-cons, sum_by-append, fold-append, length-filter, count_by-le-length}
-use Rattle.domain_run.specs.declared.switch.Switch.{Switch}
+use Rattle.domain_run.specs.Switch.{Switch}
 use Rattle.domain_run.specs.Switches.{is_before}
 use Rattle.run_figures.specs.declared.ran.Ran.{Ran}
 use Rattle.run_figures.specs.declared.ran.Cpu.{Cpu}

@@ -8,7 +8,7 @@ use Rattle.std.proofs.lemmas.List.{take_all, take_rest, take-append-le, length-t
 use Rattle.std.proofs.lemmas.List.Elements.{All-head, All-tail, All-map}
 use Rattle.std.proofs.lemmas.List.Sums.{sum_by-cons, count_by-le-length, prefix_len-le-length}
 use Rattle.domain_run.specs.declared.happened.Happened.{Happened}
-use Rattle.domain_run.specs.declared.switch.Switch.{Switch}
+use Rattle.domain_run.specs.Switch.{Switch}
 use Rattle.domain_run.specs.declared.switch.PrevState.TheVariants.{Running}
 use Rattle.domain_run.specs.Switches.{is_before}
 use Rattle.run_figures.specs.declared.told.Told.{Told}

@@ -7,7 +7,7 @@ use Rattle.std.proofs.lemmas.List.{take_all, get_or-map, length-map, get_or_defa
 use Rattle.std.proofs.lemmas.List.Sums.{fold-append, fold_more, prefix_len_is, count_by_more_yes, count_by_more_no}
 use Rattle.domain_run.specs.declared.happened.What.TheVariants.{JobEnds}
 use Rattle.domain_run.specs.declared.happened.Happened.{Happened}
-use Rattle.domain_run.specs.declared.switch.Switch.{Switch}
+use Rattle.domain_run.specs.Switch.{Switch}
 use Rattle.run_figures.specs.declared.throttle.Throttle.{Throttle}
 use Rattle.run_figures.specs.declared.told.Told.{Told}
 use Rattle.run_figures.specs.Jobs.{of_task}

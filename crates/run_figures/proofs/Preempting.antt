@@ -4,7 +4,7 @@ use Rattle.std.specs.Prelude.{AllPairs, is_some, is_none}
 use Rattle.std.proofs.Math.ListN.{set}
 use Rattle.std.proofs.lemmas.List.{map-id, set-get_or}
 use Rattle.std.proofs.lemmas.Bool.{cases_eq, ne_eqb, eq-eqb}
-use Rattle.domain_run.specs.declared.switch.Switch.{Switch}
+use Rattle.domain_run.specs.Switch.{Switch}
 use Rattle.run_figures.specs.declared.told.Told.{Told}
 use Rattle.run_figures.specs.Stays.{is_task}
 use Rattle.run_figures.specs.Places.{IsAt, IsAbsent, if_number}

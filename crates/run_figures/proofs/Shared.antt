@@ -4,7 +4,7 @@ use Rattle.std.specs.Prelude.{AllPairs, IfSome, sum_by}
 use Rattle.std.proofs.lemmas.Bool.{ne_eqb}
 use Rattle.std.proofs.lemmas.List.Elements.{All-head, All-tail, All-nil, All-cons}
 use Rattle.std.proofs.lemmas.List.Sums.{sum_by-cons}
-use Rattle.domain_run.specs.declared.switch.Switch.{Switch}
+use Rattle.domain_run.specs.Switch.{Switch}
 use Rattle.run_figures.specs.Stays.{Stay, until, stays_by, stays}
 use Rattle.run_figures.specs.Places.{IsAbsent}
 use Rattle.run_figures.proofs.Turning.{rest_apart, others_absent, rest_absent}

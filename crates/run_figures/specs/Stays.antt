@@ -1,6 +1,6 @@
 -- The time of tasks on CPUs, read off the switches (own).
 use Rattle.std.specs.Prelude.{ℕ, ◌+◌, ◌-◌, ◌==◌, Bool, false, if◌then◌else◌, List, [], ◌∷◌, ◌++◌, filter, map, sum_by, Option, Some, None}
-use Rattle.domain_run.specs.declared.switch.Switch.{Switch}
+use Rattle.domain_run.specs.Switch.{Switch}
 
 -- when a CPU next switches, or the end of the run where it does not
 abbrev pub until : ℕ → ℕ → List Switch → ℕ

@@ -72,7 +72,7 @@ fn hear_piece(
 {
     let mut from = 0;
     for switch in switches {
-        from += tell_until(told, places, &happened[from..], switch.time, heard.time);
+        from += tell_until(told, places, &happened[from..], switch.time(), heard.time);
         tell_switch(told, places, switch);
         put_switch(ran, places, switch, heard.time);
     }

@@ -77,12 +77,12 @@ fn with_switch(cpu: &Cpu, switch: &Switch, us: u64) -> Cpu
     requires count { cpu.now.switches ≤ 2 ^ 64 - 2 }
     ensures { result ≡ running.with_switch switch.now us cpu.now }
 {
-    let busy_us = cpu.busy_us + u128::from(busy_with(switch.next, us));
+    let busy_us = cpu.busy_us + u128::from(busy_with(switch.next(), us));
     Cpu {
         cpu: cpu.cpu,
         busy_us: busy_us.saturating_sub(u128::from(busy_with(cpu.task, us))),
         switches: cpu.switches + 1,
-        task: switch.next,
+        task: switch.next(),
     }
 }
 
@@ -94,11 +94,11 @@ fn put_stay(table: &mut Vec<Ran>, places: &Places, switch: &Switch, us: u64)
     ensures { table.new.items
         ≡ map (running.with_stay_of switch.now.next switch.now.cpu us) table.old.items }
 {
-    let Some(number) = switch.next else {
+    let Some(number) = switch.next() else {
         return;
     };
     if let Some(place) = places.find(number) {
-        let after = with_stay(&table[place], switch.cpu, us);
+        let after = with_stay(&table[place], switch.cpu(), us);
         table[place] = after;
     }
 }
@@ -193,9 +193,9 @@ pub(crate) fn put_switch(tables: &mut Tables, places: &Places, switch: &Switch, 
     ensures cpus { tables.new.cpus.items
         ≡ map (running.with_switch_on switch.now (end - switch.now.time)) tables.old.cpus.items }
 {
-    let cpu = switch.cpu as usize;
+    let cpu = switch.cpu() as usize;
     let before = tables.cpus[cpu];
-    let rest = end.saturating_sub(switch.time);
+    let rest = end.saturating_sub(switch.time());
     put_stay(&mut tables.tasks, places, switch, rest);
     take_rest(&mut tables.tasks, places, before.task, rest);
     tables.cpus[cpu] = with_switch(&before, switch, rest);

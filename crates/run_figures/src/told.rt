@@ -74,8 +74,8 @@ pub(crate) fn told_after(told: &Told, happened: &Happened, time: u64) -> Told
 pub(crate) fn preempted_by(switch: &Switch) -> Option<u32>
     ensures { result ≡ telling.leaver_wanting switch.now }
 {
-    match switch.state {
-        PrevState::Preempted => switch.prev,
+    match switch.state() {
+        PrevState::Preempted => switch.prev(),
         PrevState::Running | PrevState::Sleeping | PrevState::Dead => None,
     }
 }

@@ -5,7 +5,7 @@ use Rattle.std.specs.Prelude.{AllPairs, All, IsTrue, IfSome, filter, ◌&&◌, �
 use Rattle.std.specs.List.{AllByRecursion, AllZip, flat_map}
 use Rattle.std.proofs.lemmas.Bool.Decides.{nat_tests}
 use Rattle.std.proofs.lemmas.List.Elements.{recursion_from_All}
-use Rattle.domain_run.specs.declared.switch.Switch.{Switch}
+use Rattle.domain_run.specs.Switch.{Switch}
 use Rattle.domain_run.specs.declared.switch.PrevState.{PrevState}
 use Rattle.switch_text.specs.Names.{SameNames}
 use Rattle.switch_text.specs.Line.{title_of, comm_of, task_part, prev_part, next_part, line_of}

@@ -1,7 +1,7 @@
 -- Worked rows, computed by the definitions.
 use Rattle.std.specs.Prelude.{ℕ, ◌≡◌, ◌+◌, List, [], ◌∷◌, ◌++◌, codes, refl, Option, Some, None}
 use Rattle.std.specs.Fmt.{digits}
-use Rattle.domain_run.specs.declared.switch.Switch.{Switch}
+use Rattle.domain_run.specs.Switch.{Switch}
 use Rattle.domain_run.specs.declared.switch.PrevState.{PrevState}
 use Rattle.domain_run.specs.declared.switch.PrevState.TheVariants.{Running, Preempted, Sleeping, Dead}
 use Rattle.switch_text.specs.Line.{task_part, cpu_part, time_part, prev_part, next_part, line_of}

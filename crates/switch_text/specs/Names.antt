@@ -7,7 +7,7 @@ use Rattle.std.specs.Global.{Global}
 use Rattle.std.specs.declared.hash.FoldHasher.{FoldHasher}
 use Rattle.std.specs.declared.hash.BuildHasherDefault.{BuildHasherDefault}
 use Rattle.indexmap.specs.IndexMap.{IndexMap, get}
-use Rattle.domain_run.specs.declared.switch.Switch.{Switch}
+use Rattle.domain_run.specs.Switch.{Switch}
 
 -- names by the tasks' numbers
 abbrev pub Names : Type 0

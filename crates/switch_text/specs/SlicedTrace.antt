@@ -1,7 +1,7 @@
 -- The trace text of one run that is written while it is made (own).
 use Rattle.std.specs.Prelude.{ℕ, ◌≡◌, ◌+◌, ◌≤◌, List, ◌++◌, length}
 use Rattle.std.specs.List.{flat_map}
-use Rattle.domain_run.specs.declared.switch.Switch.{Switch}
+use Rattle.domain_run.specs.Switch.{Switch}
 use Rattle.switch_text.specs.Line.{line_of}
 use Rattle.switch_text.specs.Trace.{header}
 

@@ -2,7 +2,7 @@
 -- orders by time).
 use Rattle.std.specs.Prelude.{ℕ, ◌+◌, ◌==◌, ◌&&◌, ◌||◌, nat_lt, Bool, if◌then◌else◌, List, [], ◌∷◌, ◌++◌, map, codes}
 use Rattle.std.specs.List.{flat_map}
-use Rattle.domain_run.specs.declared.switch.Switch.{Switch}
+use Rattle.domain_run.specs.Switch.{Switch}
 use Rattle.switch_text.specs.Line.{line_of}
 
 -- the run of one domain: the CPU of the machine that is its CPU 0, the names of its tasks by

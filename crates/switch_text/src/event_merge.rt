@@ -64,7 +64,7 @@ impl EventMerge {
 fn goes_first(happens: &NextTold<'_, '_>, switch: &Next<'_, '_>) -> bool
     ensures { result ≡ merging.goes_first happens.now switch.now }
 {
-    !has_a_line(happens.happened.what) || happens.happened.time <= switch.switch.time
+    !has_a_line(happens.happened.what) || happens.happened.time <= switch.switch.time()
 }
 
 fn first_of<'a, 'b, 'c, 'd>(

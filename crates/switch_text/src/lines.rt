@@ -271,15 +271,18 @@ pub fn line(switch: &Switch, base: u32, names: &IndexMap<u32, String>, out: &mut
     ensures short { result ≤ 256 }
     ensures text { take result out.new ≡ line_of (named names.now) base switch.now }
 {
-    let cpu = base + u32::from(switch.cpu);
-    let prev = spell(names, cpu, switch.prev);
-    let next = spell(names, cpu, switch.next);
+    let time = switch.time();
+    let leaves = switch.prev();
+    let comes = switch.next();
+    let cpu = base + u32::from(switch.cpu());
+    let prev = spell(names, cpu, leaves);
+    let next = spell(names, cpu, comes);
     let at = put_task(out, 0, &prev.title, &prev.pid);
     let at = put_cpu(out, at, cpu);
-    let at = put_second(out, at, switch.time / 1_000_000);
-    let at = put_micros(out, at, switch.time % 1_000_000);
+    let at = put_second(out, at, time / 1_000_000);
+    let at = put_micros(out, at, time % 1_000_000);
     let at = put_event(out, at);
-    let at = put_leaving(out, at, &prev.comm, &prev.pid, switch.prev);
-    let at = put_state(out, at, switch.state);
-    put_coming(out, at, &next.comm, &next.pid, switch.next)
+    let at = put_leaving(out, at, &prev.comm, &prev.pid, leaves);
+    let at = put_state(out, at, switch.state());
+    put_coming(out, at, &next.comm, &next.pid, comes)
 }

@@ -59,8 +59,8 @@ fn head_at(run: &Run<'_>, place: usize) -> Head
     if is_left(run, place) {
         let switch = &run.switches[place];
         return Head {
-            time: switch.time,
-            cpu: run.base + u32::from(switch.cpu),
+            time: switch.time(),
+            cpu: run.base + u32::from(switch.cpu()),
         };
     }
     Head::none()

@@ -79,14 +79,15 @@ pub(crate) fn append_line(
     ensures texts { IsTexts texts.new }
 {
     let switch = next.switch;
-    let cpu = next.run.base + u32::from(switch.cpu);
-    let micros = switch.time % 1_000_000;
-    let kept = keep_lane(&mut texts.lanes, cpu, switch.time / 1_000_000);
-    let place = seat(slots, runs, next.index, cpu, switch.prev);
+    let cpu = next.run.base + u32::from(switch.cpu());
+    let time = switch.time();
+    let micros = time % 1_000_000;
+    let kept = keep_lane(&mut texts.lanes, cpu, time / 1_000_000);
+    let place = seat(slots, runs, next.index, cpu, switch.prev());
     let lane = lane_at(&texts.lanes, kept);
-    let state = middle(&texts.middles, switch.state);
+    let state = middle(&texts.middles, switch.state());
     append_leaving(&slots[place], lane, micros, state, batch);
-    let place = seat(slots, runs, next.index, cpu, switch.next);
+    let place = seat(slots, runs, next.index, cpu, switch.next());
     batch.append_end(&slots[place].coming);
 }
 
@@ -107,16 +108,16 @@ fn together(sent: usize, more: usize) -> usize
 }
 
 /// So many switches of a run are looked at ahead at a time.
-const AHEAD: usize = 32;
+const AHEAD: usize = 64;
 
-// Something of the switches of a run from a place on: of each second one, since two stand in a line
+// Something of the switches of a run from a place on: of each fourth one, since four stand in a line
 // of the cache.
 fn seen_from(switches: &[Switch], place: usize) -> u64
-    requires { place + 32 ≤ length switches.now }
+    requires { place + 64 ≤ length switches.now }
 {
     let mut seen = 0;
-    for pair in 0..AHEAD / 2 {
-        seen ^= switches[place + 2 * pair].time;
+    for line in 0..AHEAD / 4 {
+        seen ^= switches[place + 4 * line].time();
     }
     seen
 }

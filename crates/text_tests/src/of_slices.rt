@@ -93,20 +93,8 @@ fn two_slices<'a>(names: &'a IndexMap<u32, String>) -> TwoSlices<'a>
     ensures come { result.come ≡ 0 }
     ensures few { length (result.first ++ result.second) ≤ 2 }
 {
-    let comes = Switch {
-        time: 5,
-        prev: None,
-        next: Some(1),
-        cpu: 0,
-        state: PrevState::Running,
-    };
-    let sleeps = Switch {
-        time: 12,
-        prev: Some(1),
-        next: None,
-        cpu: 0,
-        state: PrevState::Sleeping,
-    };
+    let comes = Switch::new(5, None, Some(1), 0, PrevState::Running);
+    let sleeps = Switch::new(12, Some(1), None, 0, PrevState::Sleeping);
     TwoSlices {
         names,
         first: [comes],

@@ -1,6 +1,6 @@
 -- A task while its switches and its moments go by.
 use Rattle.std.specs.Prelude.{ℕ, if◌then◌else◌, ◌++◌, List, [], ◌∷◌, fold, reverse, Option, Some, None}
-use Rattle.domain_run.specs.declared.switch.Switch.{Switch}
+use Rattle.domain_run.specs.Switch.{Switch}
 use Rattle.run_figures.specs.Runs.{RunView}
 use Rattle.chart_pieces.specs.declared.standing.Moment.{Moment}
 use Rattle.chart_pieces.specs.declared.row.Bar.{Bar}

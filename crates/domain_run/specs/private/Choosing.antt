@@ -5,7 +5,7 @@ use Rattle.grub_rules.specs.Accounts.{AccountsView, AreAccounts}
 use Rattle.edf_pick.specs.declared.moves.Moved.{Moved}
 use Rattle.edf_pick.specs.Places.{Places}
 use Rattle.domain_run.specs.declared.task.Task.{Task}
-use Rattle.domain_run.specs.declared.switch.Switch.{Switch}
+use Rattle.domain_run.specs.Switch.{Switch}
 use Rattle.domain_run.specs.Sound.{occupant}
 use Rattle.domain_run.specs.Switches.{state_of}
 use Rattle.domain_run.specs.Tick.{shares}

@@ -246,6 +246,7 @@ pub(super) fn seat_moved(
     moment: Moment,
     switches: &mut Vec<Switch>,
 )
+    requires early { moment.time < 2 ^ 48 }
     requires there { spec.AreWithin (length accounts.old.all) schedule.now.moves }
     requires wide { length seats.old.seats ≡ length accounts.old.all }
     requires cpus { (0 < length accounts.old.all) × (length accounts.old.all ≤ 64) }

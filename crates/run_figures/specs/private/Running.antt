@@ -1,7 +1,7 @@
 -- What is told of a task and of a CPU by the switches so far. Who has a CPU is told as if it kept
 -- it to the end of the run.
 use Rattle.std.specs.Prelude.{ℕ, ◌+◌, ◌-◌, ◌==◌, if◌then◌else◌, List, [], ◌∷◌, fold, count_by, Option, Some, None}
-use Rattle.domain_run.specs.declared.switch.Switch.{Switch}
+use Rattle.domain_run.specs.Switch.{Switch}
 use Rattle.run_figures.specs.declared.ran.Ran.{Ran}
 use Rattle.run_figures.specs.declared.ran.Cpu.{Cpu}
 use Rattle.run_figures.specs.Stays.{cpu_us, busy_us, placements, migrations}

@@ -2,7 +2,7 @@
 -- nothing of these words.
 use Rattle.std.specs.Prelude.{ℕ, ◌+◌, ◌*◌, ◌≤◌, List, ◌++◌, length, Option}
 use Rattle.std.specs.List.{flat_map}
-use Rattle.domain_run.specs.declared.switch.Switch.{Switch}
+use Rattle.domain_run.specs.Switch.{Switch}
 use Rattle.switch_text.specs.Line.{line_of}
 use Rattle.switch_text.specs.Trace.{RunView, entries_of, in_order, lines_of}
 use Rattle.switch_text.specs.SlicedTrace.{sliced_trace}

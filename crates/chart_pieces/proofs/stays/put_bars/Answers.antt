@@ -1,7 +1,7 @@
-use Rattle.std.proofs.Common.{◌≡◌, ℕ, ◌+◌, ◌-◌, ◌<◌, List, [], length, get_or, set, drop, drop_of_length-le, map, refl, sym, ap, ◌∙◌, arith}
+use Rattle.std.proofs.Common.{◌≡◌, ℕ, ◌+◌, ◌-◌, ◌<◌, List, [], length, get_or, set, drop, drop_of_length-le, map, sym, ap, ◌∙◌, arith}
 use Rattle.std.specs.List.{range_with_len}
 use Rattle.std.proofs.lemmas.List.FromFn.{length-map-range_with_len, get_or-map-range_with_len}
-use Rattle.domain_run.specs.declared.switch.Switch.{Switch}
+use Rattle.domain_run.specs.Switch.{Switch}
 use Rattle.run_figures.specs.Stays.{until}
 use Rattle.chart_pieces.specs.private.LineView.{LineView}
 use Rattle.chart_pieces.specs.private.Lines.{with_bars}
@@ -44,19 +44,21 @@ loop-left-preserved c =
     let ss = run.switches.now in
     let left = c.loop-left.left in
     let i = left - 1 in
-    let s = get_or ss i blank_switch in
+    let d : Switch = c.index-run-left.result in
+    let s = get_or ss i d in
+    let at_cpu : c.cpu-cpu.result ≡ s.cpu = c.cpu-cpu.ensures in
     let old = c.args.table.now.items in
     let nexts = c.loop-left.nexts.items in
     let inside : i < length ss = omega (arith, c.loop-left.invariant.inside, c.loop-left-test.true) in
     let at : left ≡ i + 1 = omega (arith, c.loop-left-test.true) in
-    let cpu : s.cpu < run.cpus = c.requires.run.inside i blank_switch inside in
+    let cpu : s.cpu < run.cpus = c.requires.run.inside i d inside in
     let f : ℕ → ℕ = λ k. until run.time k (drop left ss) in
     let next : c.index.result.now ≡ until run.time s.cpu (drop left ss) =
-    c.index.ensures ∙ ap (λ (xs : List ℕ). get_or xs s.cpu c.index.result.now) c.loop-left.invariant.nexts ∙ get_or-map-range_with_len f 0 run.cpus s.cpu s.cpu c.index.result.now cpu (omega arith) in
-    let table = bars_before w run.time ss i left c.index.result.now blank_switch old c.loop-left.table.items c.put_bar.new.table.items inside at next c.loop-left.invariant.table c.in_ok-put_bar.ensures in
+    c.index.ensures ∙ ap (λ n. get_or nexts n c.index.result.now) at_cpu ∙ ap (λ (xs : List ℕ). get_or xs s.cpu c.index.result.now) c.loop-left.invariant.nexts ∙ get_or-map-range_with_len f 0 run.cpus s.cpu s.cpu c.index.result.now cpu (omega arith) in
+    let table = bars_before w run.time ss i left c.index.result.now d old c.loop-left.table.items c.put_bar.new.table.items inside at next c.loop-left.invariant.table c.in_ok-put_bar.ensures in
     record {
       inside = omega (arith, inside);
       keyed = ap (λ (ls : List LineView). map (λ l. l.number) ls) table ∙ map-map (λ (l : LineView). l.number) (with_bars w run.time (drop i ss)) old ∙ c.requires.keyed;
       table = table;
-      nexts = next_before run.time ss i left run.cpus blank_switch nexts (set nexts s.cpu s.time) inside at cpu c.loop-left.invariant.nexts refl;
+      nexts = next_before run.time ss i left run.cpus d nexts (set nexts c.cpu-cpu.result c.time.result) inside at cpu c.loop-left.invariant.nexts (λ j. set nexts (at_cpu j) (c.time.ensures j));
     }

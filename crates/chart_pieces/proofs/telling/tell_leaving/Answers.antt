@@ -8,4 +8,4 @@ use Rattle.chart_pieces.proofs.telling.tell_leaving.Goals as goal
 pub returns-in-None : goal.returns-in-None
 returns-in-None c =
     none_told c.args.window.now c.args.table.now.items
-    ∙ ap (λ (o : Option ℕ). map (line_all c.args.window.now (leaving c.args.switch.now o)) c.args.table.now.items) (sym c.in-None.is)
+    ∙ ap (λ (o : Option ℕ). map (line_all c.args.window.now (leaving c.args.switch.now o)) c.args.table.now.items) (sym (sym c.prev.ensures ∙ c.in-None.is))

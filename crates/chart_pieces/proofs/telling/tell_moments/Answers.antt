@@ -4,9 +4,10 @@ use Rattle.std.specs.List.{prefix_len}
 use Rattle.std.proofs.lemmas.List.{take_rest, length-drop}
 use Rattle.std.proofs.lemmas.List.Sums.{prefix_len-le-length}
 use Rattle.domain_run.specs.declared.happened.Happened.{Happened}
+use Rattle.domain_run.specs.Switch.{Switch}
 use Rattle.chart_pieces.specs.Moments.{moment_of, moments_by}
 use Rattle.chart_pieces.specs.private.Lines.{line_all}
-use Rattle.chart_pieces.proofs.Moments.{numbers_of_lines, next_rest, blank_switch}
+use Rattle.chart_pieces.proofs.Moments.{numbers_of_lines, next_rest}
 use Rattle.chart_pieces.proofs.telling.tell_moments.Goals as goal
 
 pub tell_switch-requires : goal.tell_switch-requires
@@ -32,15 +33,19 @@ loop-switch-preserved c =
     let table = c.loop-switch.table.items in
     let middle = c.tell_until.new.table.items in
     let last = c.tell_switch.new.table.items in
-    let s = get_or ss k blank_switch in
+    let item : Switch = c.switch-item.result in
+    let same : item ≡ get_or ss k item = c.switch-item.is in
+    let s = get_or ss k item in
     let rest : take (length hs - from) (drop from hs) ≡ drop from hs = take_rest hs from in
     let told : middle ≡ map (line_all w (map moment_of (take n (drop from hs)))) table =
     c.in_ok-from.ensures.told ∙ ap (λ (xs : List Happened). map (line_all w (map moment_of (take n xs))) table) rest in
     let count : n ≡ prefix_len (λ (h : Happened). nat_le h.time s.time) (drop from hs) =
-    c.in_ok-from.ensures.count ∙ ap (λ (xs : List Happened). prefix_len (λ h. nat_le h.time s.time) xs) rest in
+    c.in_ok-from.ensures.count ∙ (λ j. prefix_len (λ h. nat_le h.time ((c.time.ensures ∙ ap (λ (x : Switch). x.time) same) j)) (rest j)) in
+    let by : last ≡ map (line_all w (moments_by s)) middle =
+    c.in_ok-tell_switch.ensures ∙ ap (λ (x : Switch). map (line_all w (moments_by x)) middle) same in
     let first = numbers_of_lines w (map moment_of (take n (drop from hs))) table middle c.args.places.now told c.loop-switch.invariant.keyed in
     record {
       inside = omega (arith, count, prefix_len-le-length (λ (h : Happened). nat_le h.time s.time) (drop from hs), length-drop from hs, c.loop-switch.invariant.inside);
-      keyed = numbers_of_lines w (moments_by s) middle last c.args.places.now c.in_ok-tell_switch.ensures first;
-      rest = next_rest w hs ss c.args.table.now.items from k n blank_switch table middle last c.loop-switch-test.true count told c.in_ok-tell_switch.ensures c.loop-switch.invariant.rest;
+      keyed = numbers_of_lines w (moments_by s) middle last c.args.places.now by first;
+      rest = next_rest w hs ss c.args.table.now.items from k n item table middle last c.loop-switch-test.true count told by c.loop-switch.invariant.rest;
     }

@@ -3,7 +3,7 @@ use Rattle.attr_check.specs.Ratio.{cap}
 use Rattle.edf_pick.specs.declared.moves.Moved.{Moved}
 use Rattle.edf_pick.specs.Moves.{moved_from}
 use Rattle.edf_pick.specs.Places.{Places, placed}
-use Rattle.domain_run.specs.declared.switch.Switch.{Switch}
+use Rattle.domain_run.specs.Switch.{Switch}
 use Rattle.domain_run.specs.declared.task.Task.{Task}
 use Rattle.domain_run.specs.Sound.{IsApart}
 use Rattle.domain_run.specs.Switches.{switches_from}

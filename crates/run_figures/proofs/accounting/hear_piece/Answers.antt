@@ -1,12 +1,13 @@
-use Rattle.std.proofs.Common.{◌≡◌, ◌+◌, ◌-◌, List, length, get_or, take, drop, map, ap, ◌∙◌, subst, arith, All}
+use Rattle.std.proofs.Common.{◌≡◌, ◌<◌, ◌+◌, ◌-◌, List, length, get_or, take, drop, map, ap, sym, ◌∙◌, subst, arith, All}
 use Rattle.std.specs.Prelude.{nat_le}
 use Rattle.std.specs.List.{prefix_len}
 use Rattle.std.proofs.lemmas.List.{take_rest, length-drop}
 use Rattle.domain_run.specs.declared.happened.Happened.{Happened}
+use Rattle.domain_run.specs.Switch.{Switch}
 use Rattle.run_figures.specs.private.Keeping.{view_of}
-use Rattle.run_figures.specs.private.Telling.{told_all, IsWithin}
+use Rattle.run_figures.specs.private.Running.{with_stay_of, without_rest_of, with_switch_on}
+use Rattle.run_figures.specs.private.Telling.{told_all, with_preemption, IsWithin}
 use Rattle.run_figures.proofs.Behind.{blank_cpu}
-use Rattle.run_figures.proofs.Going.{blank_switch}
 use Rattle.run_figures.proofs.Hearing.{none_heard, heard_keyed, heard_room, then_keyed, then_few, heard_ran_keyed, heard_cpus_keyed, heard_inside, heard_small, heard_few, heard_cpus_small, heard_cpus_few, one_heard, all_heard}
 use Rattle.run_figures.proofs.accounting.hear_piece.Goals as goal
 
@@ -50,7 +51,8 @@ put_switch-requires-clause-cpu c =
 
 pub put_switch-requires-clause-inside : goal.put_switch-requires-clause-inside
 put_switch-requires-clause-inside c =
-    heard_inside (view_of c.args.heard.now c.args.places.now) c.args.happened.now c.args.switches.now c.loop-switch.from c.loop-switch.switch-index _ c.loop-switch.told.items c.loop-switch.ran.tasks.items c.loop-switch.ran.cpus.items c.loop-switch.invariant c.requires.next c.loop-switch-test.true
+    subst (λ (s : Switch). s.cpu < length c.loop-switch.ran.cpus.items) (sym c.switch-item.is)
+    (heard_inside (view_of c.args.heard.now c.args.places.now) c.args.happened.now c.args.switches.now c.loop-switch.from c.loop-switch.switch-index c.switch-item.result c.loop-switch.told.items c.loop-switch.ran.tasks.items c.loop-switch.ran.cpus.items c.loop-switch.invariant c.requires.next c.loop-switch-test.true)
 
 pub put_switch-requires-clause-time : goal.put_switch-requires-clause-time
 put_switch-requires-clause-time c =
@@ -74,14 +76,22 @@ loop-switch-preserved c =
     let from = c.loop-switch.from in
     let i = c.loop-switch.switch-index in
     let count = c.tell_until-from.result in
+    let end = c.args.heard.now.time in
+    let item : Switch = c.switch-item.result in
+    let same : item ≡ get_or c.args.switches.now i item = c.switch-item.is in
     let rest : take (length hs - from) (drop from hs) ≡ drop from hs = take_rest hs from in
-    one_heard (view_of c.args.heard.now c.args.places.now) hs c.args.switches.now from i count blank_switch blank_cpu c.loop-switch.told.items c.tell_until-from.new.told.items c.tell_switch.new.told.items
-    c.loop-switch.ran.tasks.items c.put_switch.new.tables.tasks.items c.loop-switch.ran.cpus.items c.put_switch.new.tables.cpus.items
+    let told = c.tell_until-from.new.told.items in
+    let ran = c.loop-switch.ran.tasks.items in
+    let cpus = c.loop-switch.ran.cpus.items in
+    one_heard (view_of c.args.heard.now c.args.places.now) hs c.args.switches.now from i count item blank_cpu c.loop-switch.told.items told c.tell_switch.new.told.items
+    ran c.put_switch.new.tables.tasks.items cpus c.put_switch.new.tables.cpus.items
     c.loop-switch.invariant c.requires.run c.requires.next c.loop-switch-test.true
-    (c.tell_until-from.ensures.count ∙ ap (λ (xs : List Happened). prefix_len (λ h. nat_le h.time (get_or c.args.switches.now i blank_switch).time) xs) rest)
-    (c.tell_until-from.ensures.told ∙ ap (λ (xs : List Happened). map (told_all c.args.heard.now.time (take count xs)) c.loop-switch.told.items) rest)
+    (c.tell_until-from.ensures.count ∙ (λ j. prefix_len (λ h. nat_le h.time ((c.time.ensures ∙ ap (λ (s : Switch). s.time) same) j)) (rest j)))
+    (c.tell_until-from.ensures.told ∙ ap (λ (xs : List Happened). map (told_all end (take count xs)) c.loop-switch.told.items) rest)
     (λ n all. c.tell_switch.ensures.within (n + count) (c.tell_until-from.ensures.within n all))
-    c.tell_switch.ensures.told (c.put_switch.ensures.tasks blank_cpu) c.put_switch.ensures.cpus
+    (c.tell_switch.ensures.told ∙ ap (λ (s : Switch). map (with_preemption s) told) same)
+    (c.put_switch.ensures.tasks blank_cpu ∙ ap (λ (s : Switch). map (without_rest_of (get_or cpus s.cpu blank_cpu).task (end - s.time)) (map (with_stay_of s.next s.cpu (end - s.time)) ran)) same)
+    (c.put_switch.ensures.cpus ∙ ap (λ (s : Switch). map (with_switch_on s (end - s.time)) cpus) same)
 
 pub tell_all-requires-clause-keyed : goal.tell_all-requires-clause-keyed
 tell_all-requires-clause-keyed c =

@@ -1,4 +1,4 @@
-use Rattle.std.proofs.Common.{length, map, ap, ◌∙◌}
+use Rattle.std.proofs.Common.{◌-◌, length, map, get_or, ap, ◌∙◌}
 use Rattle.std.specs.List.{range_with_len}
 use Rattle.std.proofs.Math.ListN.{set}
 use Rattle.run_figures.specs.declared.ran.Cpu.{Cpu}
@@ -18,6 +18,7 @@ pub returns-clause-cpus : goal.returns-clause-cpus
 returns-clause-cpus c =
     let items = c.args.tables.now.cpus.items in
     let s = c.args.switch.now in
-    ap (λ (x : Cpu). set items s.cpu x) c.with_switch.ensures
-    ∙ turned_place (λ (x : Cpu). x.cpu) s.cpu (with_switch s c.saturating_sub-rest.result) items (range_with_len 0 (length items)) s.cpu c.index.result.now c.requires.cpu (cpus_apart (length items)) (cpu_at (length items) s.cpu c.requires.inside) c.index.ensures
-    ∙ ap (λ u. map (with_switch_on s u) items) c.saturating_sub-rest.ensures
+    ap (λ n. set items n c.with_switch.result) c.cpu-cpu.ensures
+    ∙ ap (λ (x : Cpu). set items s.cpu x) c.with_switch.ensures
+    ∙ turned_place (λ (x : Cpu). x.cpu) s.cpu (with_switch s c.saturating_sub-rest.result) items (range_with_len 0 (length items)) s.cpu c.index.result.now c.requires.cpu (cpus_apart (length items)) (cpu_at (length items) s.cpu c.requires.inside) (c.index.ensures ∙ ap (λ n. get_or items n c.index.result.now) c.cpu-cpu.ensures)
+    ∙ ap (λ u. map (with_switch_on s u) items) (c.saturating_sub-rest.ensures ∙ ap (λ t. c.args.end - t) c.time.ensures)

@@ -5,7 +5,8 @@ use Rattle.std.proofs.lemmas.List.{get_or_default, append-nil, append_assoc, map
 use Rattle.attr_check.specs.Ratio.{cap}
 use Rattle.edf_pick.specs.declared.moves.Moved.{Moved}
 use Rattle.edf_pick.specs.Places.{Places}
-use Rattle.domain_run.specs.declared.switch.Switch.{Switch}
+use Rattle.domain_run.specs.Switch.{Switch, IsLeftIn}
+use Rattle.domain_run.specs.declared.switch.PrevState.{PrevState}
 use Rattle.domain_run.specs.declared.task.Task.{Task}
 use Rattle.domain_run.specs.Sound.{occupant}
 use Rattle.domain_run.specs.Switches.{state_of}
@@ -14,7 +15,7 @@ use Rattle.domain_run.specs.private.Choosing.{AreWithin, switch_of}
 use Rattle.domain_run.specs.private.Doubts.{IsTrusted, AreSettledBut}
 use Rattle.domain_run.specs.private.Waiting.{owed, owed_all, MaySitOf}
 use Rattle.domain_run.proofs.Choosing.{nobody, homed_more, homed_none}
-use Rattle.domain_run.proofs.Starting.{here_sum, here_may_some, state_started}
+use Rattle.domain_run.proofs.Starting.{here_sum, here_may_some, left_in_state, state_started}
 use Rattle.domain_run.proofs.Waiting.{alike_owed, numbered_unlike}
 use Rattle.domain_run.proofs.roster.starting.seat_moved.Goals as goal
 
@@ -48,7 +49,13 @@ pub switch_of-requires : goal.switch_of-requires
 switch_of-requires c =
     let within = subst (AreWithin (length c.args.accounts.now.all)) (sym c.moves-moves.ensures) c.requires.there in
     let less = within c.loop-i.i nobody (omega arith) in
-    omega (arith, less, c.requires.cpus.1)
+    let l = c.loop-i in
+    let m : Moved = get_or c.moves-moves.result.now l.i nobody in
+    record {
+      early = c.requires.early;
+      narrow = omega (arith, less, c.requires.cpus.1);
+      left = subst (λ (state : PrevState). IsLeftIn state m.before) (sym c.state_of-state.ensures) (left_in_state l.tasks m.before);
+    }
 
 pub seat_next-requires-clause-there : goal.seat_next-requires-clause-there
 seat_next-requires-clause-there c =

@@ -1,5 +1,5 @@
 use Rattle.std.proofs.Common.{sym, subst, ap, List}
-use Rattle.domain_run.specs.declared.switch.Switch.{Switch}
+use Rattle.domain_run.specs.Switch.{Switch}
 use Rattle.domain_run.specs.Domain.{Domain}
 use Rattle.domain_run.specs.Sound.{IsDomain}
 use Rattle.domain_run.proofs.Passing.{forgets_keeps}
