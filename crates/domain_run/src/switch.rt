@@ -57,7 +57,7 @@ fn handover_of(state: PrevState, next: Option<u32>) -> Handover
 /// see it as what its calls tell.
 #[derive(Clone, Copy, Debug, PartialEq, Eq)]
 pub struct Switch {
-    // The lower 32 bits of the time, and the 16 above them.
+    // The lower 32 bits of the time; `high` has the 16 above them.
     low: u32,
     // The numbers of who leaves and who comes, 0 for idle.
     leaves: u32,
