@@ -99,6 +99,9 @@ fn postponements(budget: u64, server: &Server) -> u64
     ensures few { result ≤ 2 ^ 13 }
 {
     let missing = (-server.left) as u64;
+    if missing < budget {
+        return 1;
+    }
     missing / budget + 1
 }
 

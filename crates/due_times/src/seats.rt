@@ -81,16 +81,6 @@ impl Basis {
     }
 }
 
-/// When a seat ends; never where nobody sits.
-fn end_of(seat: Option<Seat>) -> u64
-    ensures { result ≡ spec.end_of seat }
-{
-    match seat {
-        None => NEVER,
-        Some(seat) => seat.end,
-    }
-}
-
 /// A seat, where it is that of a task.
 fn if_of(seat: Option<Seat>, number: u32) -> Option<Seat>
     ensures { result ≡ spec.seat_by number seat }
@@ -215,7 +205,7 @@ impl Seats {
         }
     }
 
-    /// As `set`, where somebody sits down.
+    /// Somebody sits down on a CPU.
     #[inline(always)]
     pub fn sit_down(&mut self, cpu: usize, seat: Seat)
         requires there { cpu < length self.old.seats }
@@ -226,15 +216,14 @@ impl Seats {
         self.ends.set(cpu, seat.end);
     }
 
-    /// Another seat for a CPU.
+    /// Nobody sits on a CPU any more.
     #[inline(always)]
-    pub fn set(&mut self, cpu: usize, seat: Option<Seat>)
-        requires there { cpu < length self.old.seats }
-        requires ahead { IfSome seat (spec.IsAhead self.old.upto) }
-        ensures { self.new ≡ record self.old { seats = slice_set self.old.seats cpu seat } }
+    pub fn stand_up(&mut self, cpu: usize)
+        requires { cpu < length self.old.seats }
+        ensures { self.new ≡ record self.old { seats = slice_set self.old.seats cpu None } }
     {
-        self.seats[cpu] = seat;
-        self.ends.set(cpu, end_of(seat));
+        self.seats[cpu] = None;
+        self.ends.set(cpu, NEVER);
     }
 
     /// A task sits on a CPU no more.
@@ -243,7 +232,7 @@ impl Seats {
         ensures { self.new ≡ record self.old { seats = spec.left cpu number self.old.seats } }
     {
         if self.seat_of(cpu, number).is_some() {
-            self.set(cpu, None);
+            self.stand_up(cpu);
         }
     }
 

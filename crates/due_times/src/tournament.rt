@@ -328,10 +328,9 @@ fn behind(nodes: &[u64], from: usize, time: u64) -> usize
 fn passed(first: u64, second: u64, third: u64, time: u64) -> usize
     ensures { spec.ArePassed first second third time result }
 {
-    let one = first > time;
-    let two = one & (second > time);
-    let three = two & (third > time);
-    usize::from(one) + usize::from(two) + usize::from(three)
+    let past_two = if third > time { 3 } else { 2 };
+    let past_one = if second > time { past_two } else { 1 };
+    if first > time { past_one } else { 0 }
 }
 
 // Of the four below a node the first in which something has come; the last where in none of the

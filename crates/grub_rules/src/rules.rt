@@ -20,25 +20,39 @@ fn divided(number: u128, by: u64) -> u128
     number / u128::from(by)
 }
 
-/// What is left to each CPU of a sum; on one CPU nothing is divided.
+/// What is left to each CPU of a sum: a shift where their number is a power of two.
 fn on_each(sum: u64, cpus: u64) -> u64
     requires { 0 < cpus }
     ensures { result ≡ sum / cpus }
 {
-    if cpus == 1 { sum } else { sum / cpus }
+    match cpus {
+        1 => sum,
+        2 => sum / 2,
+        4 => sum / 4,
+        8 => sum / 8,
+        16 => sum / 16,
+        32 => sum / 32,
+        64 => sum / 64,
+        _ => sum / cpus,
+    }
 }
 
+/// The limit of the kernel's default, 95 hundredths of a CPU, in 1/2^20 (sched-deadline.rst,
+/// "Bandwidth management").
+const DEFAULT_LIMIT: u64 = 996_147;
+
 /// A bandwidth as a share of a limit, in 1/2^20, rounded up: where the limit is a whole CPU it is
-/// the bandwidth itself.
+/// the bandwidth itself, and a division by the default, which is known, is a multiplication.
 fn share_of(bw: u64, limit: u64) -> u64
     requires bw { bw ≤ 2 ^ 26 }
     requires limit { (0 < limit) × (limit ≤ 1048576) }
     ensures { result ≡ rates.div_up (bw * unit) limit }
 {
-    if limit == UNIT {
-        return bw;
+    match limit {
+        UNIT => bw,
+        DEFAULT_LIMIT => (bw * UNIT + DEFAULT_LIMIT - 1) / DEFAULT_LIMIT,
+        _ => (bw * UNIT + limit - 1) / limit,
     }
-    (bw * UNIT + limit - 1) / limit
 }
 
 /// What is left of a budget; nothing where it has gone below zero.

@@ -52,8 +52,11 @@ fn lasting_at_one(left: u64) -> u64
     (left + (UNIT - 1)) / UNIT
 }
 
-/// For how many ticks a budget lasts at a rate, the last of them included.
-fn lasting(left: u64, rate: u64) -> u64
+/// For how many ticks a budget lasts at a rate, the last of them included, or for some of them: at a
+/// rate of at most one it lasts as long as at one, which is a shift. That does where no more ticks
+/// are wanted, and where it lasts for long: the seat is made anew when they have passed.
+#[inline(always)]
+fn lasting(left: u64, rate: u64, wanted: u64) -> u64
     requires left { 0 < left }
     requires high { left ≤ 2 ^ 52 }
     requires turns { 0 < rate }
@@ -61,8 +64,11 @@ fn lasting(left: u64, rate: u64) -> u64
     ensures most { result ≤ left }
     ensures lasted { rate * (result - 1) < left }
 {
-    if rate == UNIT {
-        return lasting_at_one(left);
+    if rate <= UNIT {
+        let at_one = lasting_at_one(left);
+        if wanted <= at_one || rate == UNIT || left > u64::from(u32::MAX) {
+            return at_one;
+        }
     }
     left.div_ceil(rate)
 }
@@ -121,7 +127,7 @@ pub(super) fn seat_for(task: &Task, upto: u64, rating: Rating) -> Seat
     ensures ahead { IsAhead upto result }
     ensures waits { spec.Waits result task.now }
 {
-    let spent = lasting(left_in(task), rating.rate);
+    let spent = lasting(left_in(task), rating.rate, task.work);
     Seat {
         number: task.number,
         since: upto,

@@ -54,7 +54,7 @@ pub(super) fn vacate_place(
     ensures waits { waiting.AllWait seats.new.seats tasks.new }
 {
     charge_on(tasks.at_mut(place), cpu, seat, seats.upto());
-    seats.set(cpu, None);
+    seats.stand_up(cpu);
 }
 
 /// Nobody sits on a CPU any more; who did is charged.
@@ -72,7 +72,7 @@ pub(super) fn vacate_on(tasks: &mut SlotList<Task>, seats: &mut Seats, index: &I
         return;
     };
     match index.place(tasks, seat.number) {
-        None => seats.set(cpu, None),
+        None => seats.stand_up(cpu),
         Some(place) => vacate_place(tasks, seats, cpu, place, seat),
     }
 }

@@ -48,7 +48,7 @@ pub(super) fn settle(task: &mut Task, seats: &mut Seats) -> bool
         return false;
     };
     charge(task, seat, seats.upto());
-    seats.set(cpu, None);
+    seats.stand_up(cpu);
     true
 }
 

@@ -9,14 +9,14 @@ returns-in-None-clause-tasks c =
     let s = c.args.seats.now in
     let seat = c.in-Some.seat in
     let absent = c.in-None.ensures.absent in
-    ap (λ (v : SeatsView). owed_all v c.args.tasks.now) c.set.ensures ∙ lost_view s.upto c.args.cpu s.seats c.args.tasks.now seat (sym c.in-Some.ensures.seat) absent
+    ap (λ (v : SeatsView). owed_all v c.args.tasks.now) c.stand_up.ensures ∙ lost_view s.upto c.args.cpu s.seats c.args.tasks.now seat (sym c.in-Some.ensures.seat) absent
 
 pub returns-in-None-clause-waits : goal.returns-in-None-clause-waits
 returns-in-None-clause-waits c =
     let s = c.args.seats.now in
     let seat = c.in-Some.seat in
     let absent = c.in-None.ensures.absent in
-    subst (λ (v : SeatsView). AllWait v.seats c.args.tasks.now) (sym c.set.ensures) (lost_waits s.upto c.args.cpu s.seats c.args.tasks.now seat (sym c.in-Some.ensures.seat) absent c.requires.waits)
+    subst (λ (v : SeatsView). AllWait v.seats c.args.tasks.now) (sym c.stand_up.ensures) (lost_waits s.upto c.args.cpu s.seats c.args.tasks.now seat (sym c.in-Some.ensures.seat) absent c.requires.waits)
 
 pub vacate_place-requires-clause-at : goal.vacate_place-requires-clause-at
 vacate_place-requires-clause-at c =

@@ -21,7 +21,7 @@ returns-clause-tasks c =
     let read = c.at_mut.ensures.value in
     let number : x.number ≡ c.args.seat.number = ap (λ (t : Task). t.number) read ∙ c.requires.at.is x in
     let is : c.charge_on.new.task ≡ charged_on c.args.cpu s.upto c.args.seat x = c.charge_on.ensures ∙ ap (λ (n : ℕ). charged_on c.args.cpu n c.args.seat x) c.upto.ensures.upto in
-    ap (λ (v : SeatsView). owed_all v (set items c.args.place c.charge_on.new.task)) c.set.ensures
+    ap (λ (v : SeatsView). owed_all v (set items c.args.place c.charge_on.new.task)) c.stand_up.ensures
     ∙ ap (λ (t : Task). map (owed s.upto (set s.seats c.args.cpu None)) (set items c.args.place t)) is
     ∙ vacated_view s.upto c.args.cpu s.seats items c.args.seat c.requires.sits c.args.place x c.requires.at.within read number c.requires.numbered
 
@@ -33,6 +33,6 @@ returns-clause-waits c =
     let read = c.at_mut.ensures.value in
     let number : x.number ≡ c.args.seat.number = ap (λ (t : Task). t.number) read ∙ c.requires.at.is x in
     let is : c.charge_on.new.task ≡ charged_on c.args.cpu s.upto c.args.seat x = c.charge_on.ensures ∙ ap (λ (n : ℕ). charged_on c.args.cpu n c.args.seat x) c.upto.ensures.upto in
-    subst (λ (v : SeatsView). AllWait v.seats (set items c.args.place c.charge_on.new.task)) (sym c.set.ensures)
+    subst (λ (v : SeatsView). AllWait v.seats (set items c.args.place c.charge_on.new.task)) (sym c.stand_up.ensures)
     (subst (λ (t : Task). AllWait (set s.seats c.args.cpu None) (set items c.args.place t)) (sym is)
     (vacated_waits s.upto c.args.cpu s.seats items c.args.seat c.requires.sits c.args.place x c.requires.at.within read number c.requires.numbered c.requires.waits))
