@@ -1,13 +1,16 @@
 -- A text that is copied at a width of its own, and counts up to its length.
-use Rattle.std.proofs.Common.{◌≡◌, ℕ, ◌+◌, ◌≤◌, List, ◌++◌, length, take, sym, ap, ◌∙◌}
+use Rattle.std.proofs.Common.{◌≡◌, ℕ, ◌+◌, ◌≤◌, List, ◌++◌, length, take, drop, sym, ap, ◌∙◌, arith}
 use Rattle.std.proofs.Math.Seq.{take-append-add}
 use Rattle.std.proofs.lemmas.List.{length-take-le, take-append-le}
-use borrow.Rule.Slice.PartMut.{put_mid, post_of}
+use Rattle.std.proofs.lemmas.Simd.{put_chunk_is}
+use lib.Lanes.{put_chunk}
 
--- behind a write to a part, the front up to n bytes of what was written
-pub take-put_front : (a k n : ℕ) (xs ys : List ℕ) → a ≤ length xs → n ≤ length ys → take (a + n) (put_mid a k xs ys) ≡ take a xs ++ take n ys
-take-put_front a k n xs ys inside within =
-    let post = post_of a k xs in
-    let long : length (take a xs) ≡ a = length-take-le a xs inside in
-    ap (λ (m : ℕ). take (m + n) (take a xs ++ (ys ++ post))) (sym long) ∙ take-append-add (take a xs) (ys ++ post) n
-    ∙ ap (λ (zs : List ℕ). take a xs ++ zs) (take-append-le n ys post within)
+-- behind a copy of more bytes, the front up to n bytes of what was copied
+pub take-put_chunk_front : (a n : ℕ) (xs ys : List ℕ) → n ≤ length ys → a + length ys ≤ length xs → take (a + n) (put_chunk a xs ys) ≡ take a xs ++ take n ys
+take-put_chunk_front a n xs ys within room =
+    let rest = drop (length ys) (drop a xs) in
+    let long : length (take a xs) ≡ a = length-take-le a xs (omega arith) in
+    ap (take (a + n)) (put_chunk_is a xs ys room)
+    ∙ ap (λ (m : ℕ). take (m + n) (take a xs ++ (ys ++ rest))) (sym long)
+    ∙ take-append-add (take a xs) (ys ++ rest) n
+    ∙ ap (λ (zs : List ℕ). take a xs ++ zs) (take-append-le n ys rest within)

@@ -2,6 +2,8 @@
 
 ghost use Rattle.std.specs.Prelude.{◌≤◌};
 
+use std::simd::Simd;
+
 /// At most 64 bytes. They stand in front of a place for 64, so that all 64 are copied, without a
 /// look at the length.
 #[derive(Clone, Copy)]
@@ -43,7 +45,7 @@ impl Piece {
         ensures short { result ≤ at + 64 }
         ensures text { take result out.new ≡ take at out.old ++ text_of self.now }
     {
-        out[at..at + 64].copy_from_slice(&self.bytes);
+        Simd::<u8, 64>::from_slice(&self.bytes).copy_to_slice(&mut out[at..]);
         at + self.len
     }
 }
@@ -122,7 +124,7 @@ impl ShortPiece {
         ensures short { result ≤ at + 32 }
         ensures text { take result out.new ≡ take at out.old ++ short_text_of self.now }
     {
-        out[at..at + 32].copy_from_slice(&self.bytes);
+        Simd::<u8, 32>::from_slice(&self.bytes).copy_to_slice(&mut out[at..]);
         at + self.len
     }
 }

@@ -1,6 +1,6 @@
-use Rattle.std.proofs.Common.{◌≤◌, ◌+◌, ◌-◌, ◌++◌, length, take, drop, ap, ◌∙◌, arith}
-use Rattle.std.proofs.lemmas.List.{length-take, length-drop}
-use Rattle.switch_text.proofs.Overhang.{take-put_front}
+use Rattle.std.proofs.Common.{◌≡◌, ◌++◌, length, take, take-take, ap, ◌∙◌, arith}
+use Rattle.std.proofs.lemmas.List.{length-take-le}
+use Rattle.switch_text.proofs.Overhang.{take-put_chunk_front}
 use Rattle.switch_text.proofs.piece.ShortPiece.put.Goals as goal
 
 pub returns-clause-text : goal.returns-clause-text
@@ -8,5 +8,7 @@ returns-clause-text c =
     let at = c.args.at in
     let out = c.args.out.now in
     let piece = c.args.self.now in
-    let within : piece.len ≤ length c.copy_from_slice.new.self = omega (arith, piece.short, c.copy_from_slice.ensures.len, length-take (at + 32 - at) (drop at out), length-drop at out) in
-    take-put_front at (at + 32 - at) piece.len out c.copy_from_slice.new.self (omega arith) within ∙ ap (λ ys. take at out ++ take piece.len ys) c.copy_from_slice.ensures.after
+    let front = take 32 piece.bytes in
+    let long : length front ≡ 32 = length-take-le 32 piece.bytes (omega arith) in
+    take-put_chunk_front at piece.len out front (omega (arith, piece.short)) (omega arith)
+    ∙ ap (λ ys. take at out ++ ys) (take-take piece.len 32 piece.bytes piece.short)
