@@ -2,7 +2,7 @@ use Rattle.std.proofs.Common.{List, ℕ, None, set, sym, ap, ◌∙◌, arith}
 use Rattle.std.specs.Prelude.{IfSome}
 use Rattle.std.proofs.lemmas.List.{length-set, map-set}
 use Rattle.std.proofs.lemmas.List.Elements.{All-set}
-use Rattle.due_times.specs.Seats.{SeatsView, end_of, IsAhead}
+use Rattle.due_times.specs.Seats.{end_of, IsAhead}
 use Rattle.due_times.proofs.seats.Seats.stand_up.Goals as goal
 
 pub invariant_of-self : goal.invariant_of-self
