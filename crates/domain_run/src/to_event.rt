@@ -1,5 +1,5 @@
-//! From the beginning of a tick to the next event: who runs is charged only once its work or its
-//! budget ends.
+//! From the beginning of a tick to the next event, or to where a seat ends: who runs is charged only
+//! there.
 
 ghost use Rattle.std.specs.Prelude.{ℕ, ◌≡◌, ◌<◌, ◌≤◌, ◌+◌, ◌-◌, ◌^◌, All, length, map};
 ghost use Rattle.attr_check.specs.Ratio.{cap};
@@ -44,9 +44,10 @@ fn seat_all(roster: &mut Roster, limit: u64)
     }
 }
 
-/// Of at most so many ticks from the tick under way on as many as pass before a running task ends
-/// its work or its budget, and that one: every task that stands on a CPU has run in each of them,
-/// at its rate. `time` is the end of the tick under way.
+/// Of at most so many ticks from the tick under way on as many as pass up to the first end of a
+/// seat, the last of them included: every task that stands on a CPU has run in each of them, at its
+/// rate, and none ends its work or its budget before the last. `time` is the end of the tick under
+/// way.
 pub(crate) fn leap(roster: &mut Roster, limit: u64, most: u64, time: u64) -> u64
     requires wide { length roster.old.places ≡ roster.old.cpus }
     requires cpus { (0 < roster.old.cpus) × (roster.old.cpus ≤ 64) }

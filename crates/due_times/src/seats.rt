@@ -35,7 +35,7 @@ pub struct Seat {
     pub rate: u64,
     /// What the rate was worked out from; nothing where it is the same on every basis.
     pub basis: Option<Basis>,
-    /// When its work or its budget ends, if it goes on to run at this rate.
+    /// When its work or its budget ends, if it goes on to run at this rate, or a time before that.
     pub end: u64,
 }
 

@@ -13,9 +13,9 @@ use crate::{sweep, to_event};
 use no_memory::NoMemory;
 
 impl State {
-    /// Ends the tick that has begun, and as many ticks in all as pass before the next event, and at
-    /// most so many, which are at most [`State::quiet`]. The domain is then as after so many single
-    /// ticks from where it was before [`State::begin`].
+    /// Ends the tick that has begun, and as many ticks in all as pass up to the first end of a seat,
+    /// and at most so many, which are at most [`State::quiet`]. The domain is then as after so many
+    /// single ticks from where it was before [`State::begin`].
     fn run(&mut self, most: u64) -> u64
         requires begun { jump.IsUnderWay self.old }
         requires some { 0 < most }
@@ -126,12 +126,13 @@ impl State {
         Ok(self.run(most))
     }
 
-    /// Goes on to the next event or to a later one, by at most so many ticks, and answers how many
-    /// they were: the state and its switches are exactly those of so many single ticks. A running
-    /// task is charged only once its work or its budget ends, or its rate changes; what callers see
-    /// is as if it were charged in each tick. Tasks that have left may go off the list; nobody
-    /// comes, and the others keep number, bandwidth and order. Room for the switches is made first:
-    /// on `Err` nothing has changed.
+    /// Goes on by one tick at least and by at most so many, mostly to the next event or to a later
+    /// one, and answers how many they were: the state and its switches are exactly those of so many
+    /// single ticks. It may stop before an event where a large budget of a task that reclaims would
+    /// last for long. A running task is charged only there, where its work or its budget ends, and
+    /// where its rate changes; what callers see is as if it were charged in each tick. Tasks that
+    /// have left may go off the list; nobody comes, and the others keep number, bandwidth and
+    /// order. Room for the switches is made first: on `Err` nothing has changed.
     pub fn leap(&mut self, most: u64) -> Result<u64, NoMemory>
         requires some { 0 < most }
         requires early { self.old.time + most ≤ 2 ^ 42 }
