@@ -13,7 +13,7 @@ ghost use Rattle.domain_run.specs.private.Waiting.{MaySitOn};
 
 use crate::roster::{Lags, Roster};
 use due_times::first_marked;
-use edf_pick::marks::without;
+use cpu_marks::without;
 
 /// Who stands on each CPU sits there at its rate, and nobody else sits. A look at those alone that
 /// are in doubt.

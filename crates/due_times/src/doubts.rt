@@ -4,7 +4,7 @@
 ghost use Rattle.std.specs.Prelude.{ℕ, ◌≡◌, ◌≢◌, ◌⊎◌, ◌<◌, ◌≤◌, IsTrue, false};
 ghost use Rattle.std.specs.Int.{bit_at};
 
-use edf_pick::marks::{both, with, without};
+use cpu_marks::{both, with, without};
 
 /// Which CPUs are in doubt: who stands there may not sit there rightly. The others are right for a
 /// sum of bandwidth and a limit, which are noted.
@@ -31,7 +31,7 @@ pub fn first_marked(marks: u64) -> usize
     if marks == 0 {
         return 64;
     }
-    edf_pick::marks::first(marks)
+    cpu_marks::first(marks)
 }
 
 /// Of a word with marks the one at this place, if it has one there.

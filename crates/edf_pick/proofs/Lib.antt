@@ -17,4 +17,3 @@ pub mod Spans
 pub mod Standing
 pub mod Stays
 pub mod Waits
-pub mod Words

@@ -7,9 +7,9 @@ ghost use Rattle.edf_pick.specs.private.First as spec;
 ghost use Rattle.edf_pick.specs.Places.{AreSingle, AreTaken};
 
 use crate::candidate::Candidate;
-use crate::marks::{beyond, first, without};
 use crate::parts::{first_of, parts_of};
 use crate::seats::vacate;
+use cpu_marks::{beyond, first, without};
 
 /// Nobody stands on the marked CPUs any more.
 #[inline(always)]

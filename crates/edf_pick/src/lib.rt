@@ -16,7 +16,6 @@ mod at_home;
 mod candidate;
 mod choosing;
 mod leaving;
-pub mod marks;
 mod movers;
 mod moves;
 mod order;

@@ -4,7 +4,7 @@ ghost use Rattle.std.specs.Prelude.{ℕ, ◌≡◌, ◌≤◌, ◌<◌, ◌++◌
 ghost use Rattle.std.specs.Int.{bit_at};
 ghost use Rattle.edf_pick.specs.Moves as spec;
 
-use crate::marks::{first, without};
+use cpu_marks::{first, without};
 use std::alloc::{AllocError, Global};
 use std::marker::Model;
 

@@ -4,8 +4,8 @@ ghost use Rattle.std.specs.Prelude.{◌≡◌, ◌≤◌, take, length};
 ghost use Rattle.edf_pick.specs.private.First as spec;
 
 use crate::candidate::Candidate;
-use crate::marks::with;
 use crate::seats::is_at_home;
+use cpu_marks::with;
 
 pub(crate) fn first_of(queue: &[Candidate], cpus: usize) -> &[Candidate]
     ensures { result.now ≡ take cpus queue.now }

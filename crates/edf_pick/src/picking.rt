@@ -12,9 +12,9 @@ ghost use Rattle.edf_pick.specs.Places.{AreSingle, AreTaken, placed};
 
 use crate::at_home::Marks;
 use crate::candidate::Candidate;
-use crate::marks::{first, without};
 use crate::parts::first_of;
 use crate::seats::{is_task, start, vacate};
+use cpu_marks::{first, without};
 
 // All are counted, which goes faster than a look that ends at the first.
 fn times(number: u32, places: &[Option<u32>]) -> usize

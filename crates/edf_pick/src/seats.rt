@@ -6,7 +6,7 @@ ghost use Rattle.edf_pick.specs.Places as spec;
 ghost use Rattle.edf_pick.specs.private.First.{is_home};
 
 use crate::candidate::Candidate;
-use crate::marks::{first_bare, with, without};
+use cpu_marks::{first_bare, with, without};
 
 /// Whether this one is the task that stands there.
 pub(crate) fn is_task(number: u32, occupant: &Option<u32>) -> bool

@@ -10,9 +10,9 @@ ghost use Rattle.edf_pick.specs.private.Waiting as spec;
 
 use crate::at_home::clear;
 use crate::candidate::Candidate;
-use crate::marks::{beyond, both};
 use crate::seats::{occupy, seat_of};
 use crate::staying::Staying;
+use cpu_marks::{beyond, both};
 
 // A mover takes a seat, and stays there.
 #[inline(always)]

@@ -9,8 +9,8 @@ ghost use Rattle.edf_pick.specs.private.Staying as spec;
 ghost use Rattle.edf_pick.specs.private.Waiting.{held, staying_on};
 
 use crate::candidate::Candidate;
-use crate::marks::{first, has, with, without};
 use crate::order::is_before;
+use cpu_marks::{first, has, with, without};
 use std::marker::Model;
 
 /// The key where nobody stays. No task is before it.

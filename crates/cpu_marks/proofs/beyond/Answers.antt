@@ -1,6 +1,6 @@
 use Rattle.std.proofs.Common.{rules}
-use Rattle.edf_pick.proofs.Words.{beyond_here, beyond_only, beyond_bare}
-use Rattle.edf_pick.proofs.marks.beyond.Goals as goal
+use Rattle.cpu_marks.proofs.Words.{beyond_here, beyond_only, beyond_bare}
+use Rattle.cpu_marks.proofs.beyond.Goals as goal
 
 pub returns-clause-here : goal.returns-clause-here
 returns-clause-here c = λ i h. beyond_here c.args.marks c.args.others i h

@@ -1,6 +1,6 @@
 use Rattle.std.proofs.Common.{arith}
 use Rattle.std.proofs.lemmas.Nat.Bits.{bit_at_or}
-use Rattle.edf_pick.proofs.marks.both.Goals as goal
+use Rattle.cpu_marks.proofs.both.Goals as goal
 
 pub returns-clause-first : goal.returns-clause-first
 returns-clause-first c = λ i e. omega (arith, e, bit_at_or c.args.a c.args.b i)

@@ -1,6 +1,6 @@
 use Rattle.std.proofs.Common.{rules, w64}
 use Rattle.std.proofs.lemmas.Nat.Bits.{bit_at-trailing_zeros}
-use Rattle.edf_pick.proofs.marks.first.Goals as goal
+use Rattle.cpu_marks.proofs.first.Goals as goal
 
 pub returns-clause-marked : goal.returns-clause-marked
 returns-clause-marked c = (bit_at-trailing_zeros w64 c.args.marks c.requires (search rules)).1

@@ -1,7 +1,7 @@
 use Rattle.std.proofs.Common.{◌≡◌, ◌∙◌, ℕ, ap, rules, w64, arith}
 use Rattle.std.specs.Int.{bit_at, trailing_ones}
-use Rattle.edf_pick.proofs.Words.{bare_first, marked_before}
-use Rattle.edf_pick.proofs.marks.first_bare.Goals as goal
+use Rattle.cpu_marks.proofs.Words.{bare_first, marked_before}
+use Rattle.cpu_marks.proofs.first_bare.Goals as goal
 
 pub returns-clause-bare : goal.returns-clause-bare
 returns-clause-bare c =

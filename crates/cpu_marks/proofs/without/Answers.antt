@@ -1,7 +1,7 @@
 use Rattle.std.proofs.Common.{rules, w64}
 use Rattle.std.proofs.lemmas.Nat.Bits.{bit_at_clear_same}
-use Rattle.edf_pick.proofs.Words.{cleared_others, cleared_fewer}
-use Rattle.edf_pick.proofs.marks.without.Goals as goal
+use Rattle.cpu_marks.proofs.Words.{cleared_others, cleared_fewer}
+use Rattle.cpu_marks.proofs.without.Goals as goal
 
 pub returns-clause-bare : goal.returns-clause-bare
 returns-clause-bare c = bit_at_clear_same w64 c.args.marks c.args.place c.requires

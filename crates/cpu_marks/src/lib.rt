@@ -1,4 +1,7 @@
-//! A word with a mark, a set bit, for each of 64 places.
+//! A word with a mark, a set bit, for each of 64 places, as one for each CPU of a domain.
+//!
+//! To the crates above it promises what each call does to the bit of every place. Takes no memory.
+#![tactic(auto)]
 
 ghost use Rattle.std.specs.Prelude.{ℕ, ◌≡◌, ◌≢◌, ◌<◌, ◌≤◌, ◌==◌};
 ghost use Rattle.std.specs.Int.{bit_at};
@@ -24,7 +27,7 @@ pub fn without(marks: u64, place: usize) -> u64
 
 /// Whether there is a mark at this place.
 #[inline(always)]
-pub(crate) fn has(marks: u64, place: usize) -> bool
+pub fn has(marks: u64, place: usize) -> bool
     requires { place < 64 }
     ensures { result ≡ (bit_at marks place == 1) }
 {
@@ -32,7 +35,7 @@ pub(crate) fn has(marks: u64, place: usize) -> bool
 }
 
 /// Those of one word that the other one has not.
-pub(crate) fn beyond(marks: u64, others: u64) -> u64
+pub fn beyond(marks: u64, others: u64) -> u64
     ensures here { (i : ℕ) → bit_at result i ≡ 1 → bit_at marks i ≡ 1 }
     ensures only { (i : ℕ) → bit_at result i ≡ 1 → bit_at others i ≡ 0 }
     ensures bare { (i : ℕ) → bit_at result i ≡ 0 → bit_at others i ≡ 0 → bit_at marks i ≡ 0 }
@@ -60,7 +63,7 @@ pub fn first(marks: u64) -> usize
 }
 
 /// The first place without a mark, 64 where each has one.
-pub(crate) fn first_bare(marks: u64) -> usize
+pub fn first_bare(marks: u64) -> usize
     ensures within { result ≤ 64 }
     ensures bare { result < 64 → bit_at marks result ≡ 0 }
     ensures lowest { (i : ℕ) → i < result → bit_at marks i ≡ 1 }

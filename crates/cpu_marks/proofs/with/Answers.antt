@@ -1,6 +1,6 @@
 use Rattle.std.proofs.Common.{w64}
 use Rattle.std.proofs.lemmas.Nat.Bits.{bit_at_set_same, bit_at_set_other}
-use Rattle.edf_pick.proofs.marks.with.Goals as goal
+use Rattle.cpu_marks.proofs.with.Goals as goal
 
 pub returns-clause-marked : goal.returns-clause-marked
 returns-clause-marked c = bit_at_set_same w64 c.args.marks c.args.place c.requires
