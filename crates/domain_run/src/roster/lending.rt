@@ -10,7 +10,7 @@ use cbs_rules::Server;
 use due_times::Seats;
 
 /// What is left of a task's budget, in 1/2^20 us, and of its work, in microseconds.
-#[derive(Clone, Copy, Debug)]
+#[derive(Clone, Copy)]
 struct Balance {
     left: i128,
     work: u64,
