@@ -1,4 +1,5 @@
 pub mod Served
+pub mod Widened
 pub mod Marks
 pub mod Opening
 pub mod Admitting

@@ -46,8 +46,13 @@ impl Buffered {
     pub fn of(mut state: State) -> Result<Buffered, NoMemory>
         ensures { IfOk result (λ b. b ≡ state) }
     {
-        state.make_room(PIECE)?;
-        Ok(Buffered { state })
+        match state.make_room(PIECE) {
+            Ok(()) => Ok(Buffered { state }),
+            Err(error) => {
+                drop(state);
+                Err(error)
+            }
+        }
     }
 
     /// The domain, to be looked at.

@@ -15,7 +15,7 @@ use crate::{calls, parts};
 use attr_check::Params;
 
 /// What is done to one listed task.
-#[derive(Clone, Copy, Debug)]
+#[derive(Clone, Copy)]
 pub(crate) enum Change {
     /// Part 1: it is replenished where it is throttled and its deadline has come.
     Replenish,
@@ -124,7 +124,7 @@ fn act(task: &mut Task, time: u64, change: &Change) -> Option<u64>
 }
 
 /// How a task stood before a change, and the zero-lag time that this has put aside.
-#[derive(Clone, Copy, Debug)]
+#[derive(Clone, Copy)]
 pub(crate) struct Made {
     pub(crate) before: Standing,
     /// In microseconds.

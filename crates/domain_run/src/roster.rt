@@ -99,11 +99,15 @@ impl Roster {
           tasks = [];
         }) }
     {
+        let index = Index::open(alloc)?;
+        let seats = Seats::open(alloc, cpus)?;
+        let tasks = SlotList::open(alloc)?;
+        let queue = RunQueue::open(alloc, cpus)?;
         Ok(Roster {
-            tasks: SlotList::open(alloc)?,
-            seats: Seats::open(alloc, cpus)?,
-            queue: RunQueue::open(alloc, cpus)?,
-            index: Index::open(alloc)?,
+            tasks,
+            seats,
+            queue,
+            index,
             doubts: Doubts::all(),
         })
     }

@@ -113,10 +113,13 @@ impl RunQueue {
         ensures places { IfOk result (λ queue. queue.schedule.places ≡ replicate cpus None) }
         ensures moves { IfOk result (λ queue. queue.schedule.moves ≡ []) }
     {
+        let accounts = Accounts::open(alloc, cpus)?;
+        let timers = Timers::open(alloc)?;
+        let schedule = Schedule::open(alloc, cpus)?;
         Ok(RunQueue {
-            accounts: Accounts::open(alloc, cpus)?,
-            schedule: Schedule::open(alloc, cpus)?,
-            timers: Timers::open(alloc)?,
+            accounts,
+            schedule,
+            timers,
         })
     }
 

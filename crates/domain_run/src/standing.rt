@@ -11,7 +11,7 @@ use due_times::NEVER;
 use grub_rules::Share;
 
 /// A task as the sums see it, as the choice does where it is ready, and when it is due.
-#[derive(Clone, Copy, Debug, PartialEq, Eq)]
+#[derive(Clone, Copy)]
 pub(crate) struct Standing {
     pub(crate) bw: u64,
     pub(crate) active: bool,

@@ -94,14 +94,20 @@ impl State {
         ensures { IfOk result (λ s. s ≡ opened cpus limit) }
     {
         let cpus = cpus as usize;
+        // The roster comes last, so that there is none to let go of where the room for another part
+        // is refused.
+        let switches = Vec::with_capacity(alloc, cpus)?;
+        let running = Vec::with_capacity(alloc, cpus)?;
+        let used = Numbers::open(alloc)?;
+        let roster = Roster::open(alloc, cpus)?;
         Ok(State {
             cpus,
             limit,
             time: 0,
-            roster: Roster::open(alloc, cpus)?,
-            used: Numbers::open(alloc)?,
-            switches: Vec::with_capacity(alloc, cpus)?,
-            running: Vec::with_capacity(alloc, cpus)?,
+            roster,
+            used,
+            switches,
+            running,
             is_listed: true,
             wakeful: 0,
         })

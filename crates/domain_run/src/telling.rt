@@ -15,7 +15,7 @@ use crate::happened::{Happened, What};
 use crate::task::{Condition, Task};
 
 /// What is looked at of a task before a change.
-#[derive(Clone, Copy, Debug)]
+#[derive(Clone, Copy)]
 pub(crate) struct Before {
     pub(crate) condition: Condition,
     /// Its script is asked at the end of its work, and passes a timer that is late.
@@ -23,7 +23,7 @@ pub(crate) struct Before {
 }
 
 /// What a change tells, in its order.
-#[derive(Clone, Copy, Debug)]
+#[derive(Clone, Copy)]
 pub(crate) struct Told {
     pub(crate) first: Option<Happened>,
     pub(crate) second: Option<Happened>,

@@ -28,7 +28,7 @@ impl Room {
 }
 
 /// So many ticks of so many running tasks.
-#[derive(Clone, Copy, Debug, PartialEq, Eq)]
+#[derive(Clone, Copy)]
 pub(crate) struct Span {
     pub(crate) ticks: u64,
     pub(crate) count: usize,

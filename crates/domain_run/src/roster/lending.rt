@@ -4,13 +4,14 @@ ghost use Rattle.std.specs.Prelude.{◌≡◌};
 ghost use Rattle.domain_run.specs.Views.{view_of};
 ghost use Rattle.domain_run.specs.private.Waiting as spec;
 
+use super::turning::left_after_run;
 use crate::running::Running;
 use crate::task::{Task, TaskView};
 use cbs_rules::Server;
 use due_times::Seats;
 
 /// What is left of a task's budget, in 1/2^20 us, and of its work, in microseconds.
-#[derive(Clone, Copy, Debug)]
+#[derive(Clone, Copy)]
 struct Balance {
     left: i128,
     work: u64,
@@ -30,7 +31,7 @@ fn balance_of(task: &Task, seats: &Seats) -> Balance
         Some(seat) => {
             let ticks = seats.upto() - seat.since;
             Balance {
-                left: task.server.left - i128::from(seat.rate) * i128::from(ticks),
+                left: left_after_run(task.server.left, seat.rate, ticks),
                 work: task.work - ticks,
             }
         }

@@ -1,7 +1,7 @@
 //! A change of one listed task, of which the run queue is told. Before it changes it is charged
 //! what it owes, and leaves its seat.
 
-ghost use Rattle.std.specs.Prelude.{◌≡◌, ◌<◌, ◌≤◌, All, IfSome, None, Some, is_some, length, slice_index_or};
+ghost use Rattle.std.specs.Prelude.{◌≡◌, ◌<◌, ◌≤◌, ◌^◌, ◌*◌, ◌-◌, ◌<ℤ◌, ◌-ℤ◌, pos, All, IfSome, None, Some, is_some, length, slice_index_or};
 ghost use Rattle.domain_run.specs.declared.task.Task.{Task};
 ghost use Rattle.domain_run.specs.Sound.{IsSound};
 ghost use Rattle.domain_run.specs.private.Roster.{after_change, put_aside, MayMake, Fits};
@@ -17,6 +17,17 @@ use crate::task::Task;
 use due_times::{Seat, Seats};
 use slot_list::SlotList;
 
+/// What is left of a budget after so many ticks at a rate, where it did not end before the last.
+#[inline(always)]
+pub(super) fn left_after_run(left: i128, rate: u64, ticks: u64) -> i128
+    requires slow { rate ≤ 2 ^ 27 }
+    requires few { ticks ≤ 2 ^ 63 }
+    requires lasted { pos (rate * (ticks - 1)) <ℤ left }
+    ensures { result ≡ left -ℤ pos (rate * ticks) }
+{
+    left - i128::from(rate) * i128::from(ticks)
+}
+
 /// A task is charged what it owes since it was seated.
 #[inline(always)]
 pub(super) fn charge(task: &mut Task, seat: Seat, upto: u64)
@@ -25,7 +36,7 @@ pub(super) fn charge(task: &mut Task, seat: Seat, upto: u64)
     ensures { task.new ≡ waiting.owed_by upto (Some seat) task.old }
 {
     let ticks = upto - seat.since;
-    task.server.left -= i128::from(seat.rate) * i128::from(ticks);
+    task.server.left = left_after_run(task.server.left, seat.rate, ticks);
     task.work -= ticks;
 }
 
