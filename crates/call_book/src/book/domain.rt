@@ -223,17 +223,10 @@ impl Domain {
             ≡ Some (record { spine = r.0.spine; client = k + 1; entries = [] })) }
     {
         let (ledger, passes) = Ledger::open(alloc, clients, history)?;
-        // What is let go of goes by one call, not written out with all that is inside.
-        let Ok(stock) = Stock::open(alloc, gate, domain) else {
-            drop(ledger);
-            drop(passes);
-            return Err(NoMemory);
-        };
+        let stock = Stock::open(alloc, gate, domain)?;
         // The state is made last: it is large, and nothing that is large is let go of here.
         let Ok(state) = State::open(alloc, cpus, limit) else {
             stock.destroy();
-            drop(ledger);
-            drop(passes);
             return Err(NoMemory);
         };
         let book = Domain {
