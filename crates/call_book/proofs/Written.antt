@@ -1,16 +1,17 @@
 -- A text that grows piece by piece.
-use Rattle.std.proofs.Common.{◌≡◌, ℕ, ◌-◌, ◌≤◌, Bool, ◌||◌, List, [], ◌∷◌, ◌++◌, length, get_or, map, take, drop, Option, Some, None, refl, sym, ap, ◌∙◌, append_assoc, arith}
+use Rattle.std.proofs.Common.{◌≡◌, ℕ, ◌+◌, ◌-◌, ◌<◌, ◌≤◌, Bool, ◌||◌, List, [], ◌∷◌, ◌++◌, length, get_or, map, take, drop, Option, Some, None, refl, sym, ap, ◌∙◌, append_assoc, arith}
 use Rattle.std.specs.Prelude.{codes}
 use Rattle.std.specs.Fmt.{digits, signed_decimal}
 use Rattle.std.specs.List.{flat_map, join_with_byte}
 use Rattle.std.proofs.lemmas.Grind.{flat_map-append}
-use Rattle.std.proofs.lemmas.List.{append-nil, take_all}
+use Rattle.std.proofs.lemmas.List.{append-nil, take_all, take_more, flat_map_more}
 use Rattle.call_book.specs.declared.section.Entry.{Entry}
 use Rattle.call_book.specs.SectionView.{SectionView}
 use Rattle.task_script.specs.declared.script.Event.{Event}
 use Rattle.task_script.specs.script.Segments.{loops_of}
 use Rattle.call_book.specs.Spelling.{event_text, events_text, loops_text, entry_line, domain_line, section_lines, is_later, some_later, has_later, header_line, text_of, spelling}
 use Rattle.call_book.specs.Limits.{AreRead}
+use Rattle.call_book.specs.ReadSoFar.{entries_text}
 use Rattle.call_book.specs.RoundTrip.{bare, unanswered, IsReadAs}
 use Rattle.call_book.proofs.Cuts.{rest_is}
 use Rattle.call_book.proofs.Sections.{same_sections}
@@ -37,6 +38,27 @@ pub headed_more : (later : Bool) (sections : List SectionView) (s : SectionView)
 headed_more later sections s =
     ap (λ (ls : List (List ℕ)). text_of (header_line later ∷ ls)) (flat_map-append section_lines sections (s ∷ []) ∙ ap (λ (ls : List (List ℕ)). flat_map section_lines sections ++ ls) (append-nil (section_lines s)))
     ∙ flat_map-append line_break (header_line later ∷ flat_map section_lines sections) (section_lines s)
+
+-- one item more of a list, behind what a loop has put
+pub put_more : {X : Type 0} (f : X → List ℕ) (xs : List X) (i : ℕ) (x d : X) (before now more : List ℕ) → i < length xs → x ≡ get_or xs i d → now ≡ before ++ flat_map f (take i xs) → more ≡ now ++ f x → more ≡ before ++ flat_map f (take (i + 1) xs)
+put_more f xs i x d before now more within is so_far put =
+    put ∙ ap (λ (b : List ℕ). b ++ f x) so_far ∙ flat_map_more f before (take i xs) x
+    ∙ ap (λ ys. before ++ flat_map f ys) (ap (λ y. take i xs ++ y ∷ []) is ∙ sym (take_more xs i d within))
+
+entries_flat : (entries : List Entry) → entries_text entries ≡ flat_map (λ e. line_break (entry_line e)) entries
+entries_flat [] = refl
+entries_flat (e ∷ entries) = ap (λ (r : List ℕ). line_break (entry_line e) ++ r) (entries_flat entries)
+
+pub entry_more : (entries : List Entry) (i : ℕ) (e : Entry) (before now more : List ℕ) → i < length entries → e ≡ get_or entries i e → now ≡ before ++ entries_text (take i entries) → more ≡ now ++ line_break (entry_line e) → more ≡ before ++ entries_text (take (i + 1) entries)
+entry_more entries i e before now more within is so_far put =
+    put_more (λ x. line_break (entry_line x)) entries i e e before now more within is (so_far ∙ ap (λ (r : List ℕ). before ++ r) (entries_flat (take i entries))) put
+    ∙ ap (λ (r : List ℕ). before ++ r) (sym (entries_flat (take (i + 1) entries)))
+
+pub section_more : (later : Bool) (sections : List SectionView) (i : ℕ) (s : SectionView) (now more : List ℕ) → i < length sections → s ≡ get_or sections i s → now ≡ text_of (header_line later ∷ flat_map section_lines (take i sections)) → more ≡ now ++ text_of (section_lines s)
+    → more ≡ text_of (header_line later ∷ flat_map section_lines (take (i + 1) sections))
+section_more later sections i s now more within is so_far put =
+    put ∙ ap (λ (b : List ℕ). b ++ text_of (section_lines s)) so_far ∙ sym (headed_more later (take i sections) s)
+    ∙ ap (λ (ss : List SectionView). text_of (header_line later ∷ flat_map section_lines ss)) (ap (λ (y : SectionView). take i sections ++ y ∷ []) is ∙ sym (take_more sections i s within))
 
 -- the loop count, as a signed number
 pub loops_said : (rounds : Option ℕ) → signed_decimal (loops_of rounds) ≡ loops_text rounds

@@ -278,13 +278,24 @@ impl<'t> CallsReader<'t> {
         ensures fault { IfErr result (λ e. e ≡ CallsFault.Memory) }
     {
         let mut entries = Vec::new(alloc);
-        while let Some(entry) = self.next_entry(alloc)? {
-            match entries.push(entry) {
-                Ok(()) => {}
-                Err(_) => return Err(CallsFault::Memory),
+        // What is let go of goes by one call, not written out with all that is inside.
+        'entries: loop {
+            match self.next_entry(alloc) {
+                Ok(Some(entry)) => match entries.push(entry) {
+                    Ok(()) => {}
+                    Err(refused) => {
+                        drop(refused);
+                        drop(entries);
+                        return Err(CallsFault::Memory);
+                    }
+                },
+                Ok(None) => return Ok(entries),
+                Err(e) => {
+                    drop(entries);
+                    return Err(e);
+                }
             }
         }
-        Ok(entries)
     }
 
     /// Whether the sections so far are all of the text, and what its header says of them.

@@ -74,10 +74,17 @@ impl Kept {
     pub(crate) fn long(alloc: Global, call: Call) -> Result<Kept, PartFault>
         ensures { Gives call_of result (Some call) }
     {
-        let text = Kept::text_given(alloc, &call)?;
+        // What is let go of goes by one call, not written out with all that is inside.
+        let Ok(text) = Kept::text_given(alloc, &call) else {
+            drop(call);
+            return Err(PartFault::Memory);
+        };
         match Box::new(alloc, Spelled { call, text }) {
             Ok(spelled) => Ok(Kept::Long(spelled)),
-            Err(_) => Err(PartFault::Memory),
+            Err(refused) => {
+                drop(refused);
+                Err(PartFault::Memory)
+            }
         }
     }
 

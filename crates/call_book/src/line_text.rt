@@ -152,10 +152,11 @@ fn newcomer_of(alloc: Global, text: &[u8]) -> Result<(Newcomer, &[u8]), PartFaul
     let Some((name, rest)) = cut(rest, b' ') else {
         return Err(PartFault::Bad);
     };
-    let name = name_of(alloc, name)?;
     let (times, rest) = times_of(rest)?;
     let (reclaim, rest) = reclaim_first(rest)?;
     let params = params_of(times, reclaim)?;
+    // The name comes last: it takes memory, and so there is none to let go of on the ways before.
+    let name = name_of(alloc, name)?;
     let newcomer = Newcomer {
         number: number as u32,
         name,

@@ -118,13 +118,24 @@ fn phases_of(alloc: Global, text: &[u8]) -> Result<Vec<Phase>, PartFault>
     let mut phases = Vec::new(alloc);
     let mut rest = text;
     for _ in 0..MOST_ITEMS {
-        let (phase, after) = phase_first(alloc, rest)?;
-        add(&mut phases, phase, after.is_none())?;
+        // What is let go of goes by one call, not written out with all that is inside.
+        let (phase, after) = match phase_first(alloc, rest) {
+            Ok(found) => found,
+            Err(e) => {
+                drop(phases);
+                return Err(e);
+            }
+        };
+        if let Err(e) = add(&mut phases, phase, after.is_none()) {
+            drop(phases);
+            return Err(e);
+        }
         match after {
             None => return Ok(phases),
             Some(after) => rest = after,
         }
     }
+    drop(phases);
     Err(PartFault::Bad)
 }
 

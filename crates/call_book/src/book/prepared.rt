@@ -247,6 +247,9 @@ impl Prepared {
         } = refused;
         match reply {
             Reply::Busy { seen } => {
+                // Each is let go of by one call, not written out with all that is inside.
+                drop(entry_name);
+                drop(entry_script);
                 let call = Call::Admit {
                     number,
                     name,

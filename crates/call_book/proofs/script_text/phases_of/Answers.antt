@@ -1,20 +1,17 @@
-use Rattle.std.proofs.lemmas.Result.{err_from_is_err_and}
 use Rattle.call_book.specs.private.Reading.{many_at, phase_first_at}
 use Rattle.call_book.proofs.Many.{goes_on, ends, stops, is_full}
 use Rattle.call_book.proofs.script_text.phases_of.Goals as goal
 
-pub returns-in_err-phase : goal.returns-in_err-phase
-returns-in_err-phase c =
-    let p = err_from_is_err_and c.from_residual.result c.from_residual.ensures.1 in
-    rw (p.1, p.2) (stops phase_first_at c.in_err-phase.field-0.0 c.loop.phases.items 64 c.loop.counter c.loop.rest.now (many_at phase_first_at 64 c.args.text.now) c.loop-test.true c.in_err-phase.ensures c.loop.invariant)
+pub returns-in-Err : goal.returns-in-Err
+returns-in-Err c = stops phase_first_at c.in-Err.e c.loop.phases.items 64 c.loop.counter c.loop.rest.now (many_at phase_first_at 64 c.args.text.now) c.loop-test.true c.in-Err.ensures c.loop.invariant
 
 pub returns-in-None : goal.returns-in-None
 returns-in-None c =
-    rw c.in_ok-add.ensures.items (ends phase_first_at c.loop.phases.items 64 c.loop.counter c.loop.rest.now c.in_ok-phase.phase (many_at phase_first_at 64 c.args.text.now) c.loop-test.true (rw c.in-None.is at c.in_ok-phase.ensures) c.loop.invariant)
+    rw c.in_default.ensures.items (ends phase_first_at c.loop.phases.items 64 c.loop.counter c.loop.rest.now c.in-Ok.found.0 (many_at phase_first_at 64 c.args.text.now) c.loop-test.true (rw c.in-None.is at c.in-Ok.ensures) c.loop.invariant)
 
 pub loop-preserved : goal.loop-preserved
 loop-preserved c =
-    rw c.in_ok-add.ensures.items (goes_on phase_first_at c.loop.phases.items 64 c.loop.counter c.loop.rest.now c.in_ok-phase.phase c.in-Some.after.now (many_at phase_first_at 64 c.args.text.now) c.loop-test.true (rw c.in-Some.is at c.in_ok-phase.ensures) c.loop.invariant)
+    rw c.in_default.ensures.items (goes_on phase_first_at c.loop.phases.items 64 c.loop.counter c.loop.rest.now c.in-Ok.found.0 c.in-Some.after.now (many_at phase_first_at 64 c.args.text.now) c.loop-test.true (rw c.in-Some.is at c.in-Ok.ensures) c.loop.invariant)
 
 pub returns : goal.returns
 returns c = is_full phase_first_at c.loop.phases.items 64 c.loop.counter c.loop.rest.now (many_at phase_first_at 64 c.args.text.now) c.loop-test.false c.loop.invariant

@@ -150,6 +150,8 @@ impl EndingBook {
         let ticks = advance_heard(self.alloc, &mut self.state, n, &mut accounting).ticks;
         self.heard = true;
         if ticks == 0 {
+            // By one call, not written out with all that is inside.
+            drop(accounting);
             return Err(AdvanceError::Memory);
         }
         self.stock.sweep(gate, &self.state);

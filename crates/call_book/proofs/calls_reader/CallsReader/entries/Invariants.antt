@@ -3,11 +3,11 @@ use Rattle.call_book.specs.SectionView.{SectionView}
 use Rattle.call_book.specs.Reader.{IsWithin, with_entries, left}
 use Rattle.call_book.proofs.calls_reader.CallsReader.entries.Given as goal
 
-abbrev pub invariant-loop-entries : goal.invariant-loop-entries
-invariant-loop-entries l = record {
+abbrev pub invariant-entries : goal.invariant-entries
+invariant-entries l = record {
   so_far : (text : List ℕ) (before : List SectionView) (s : SectionView) → IsWithin text before s l.fn.self → IsWithin text before (with_entries s l.entries.items) l.self;
   never_more : left l.self ≤ left l.fn.self;
 }
 
-abbrev pub decreases-loop-entries : goal.decreases-loop-entries
-decreases-loop-entries l = left l.self
+abbrev pub decreases-entries : goal.decreases-entries
+decreases-entries l = left l.self
