@@ -1,4 +1,4 @@
-use Rattle.std.proofs.Common.{ℕ, ◌+◌, Some, None, refl, ap, inl, inr, rules, arith, ◌∙◌, ◌≡◌, ◌++◌, take, subst, sym}
+use Rattle.std.proofs.Common.{◌+◌, Some, None, refl, ap, inl, inr, rules, arith, ◌∙◌, ◌≡◌, ◌++◌, take, subst, sym}
 use Rattle.std.proofs.lemmas.List.{length-take-le}
 use Rattle.std.specs.Io.KnownBytes.{Consumes}
 use Rattle.std.proofs.KnownBytes.{Consumes-trans, Consumes-kept}
