@@ -1,11 +1,11 @@
 -- Names that are added change no switch that was read before.
-use Rattle.std.proofs.Common.{◌≡◌, ℕ, zero, suc, ◌<◌, List, [], ◌∷◌, ◌++◌, length, Option, Some, None, refl, sym, ap, ◌∙◌, arith, map, append_assoc}
+use Rattle.std.proofs.Common.{◌≡◌, ℕ, zero, suc, ◌<◌, List, [], ◌∷◌, ◌++◌, length, Option, Some, None, refl, sym, subst, ap, ◌∙◌, arith, map, append_assoc}
 use Rattle.std.specs.Prelude.{slice_get, IfSome}
 use Rattle.std.specs.Option.{option_and_then}
 use Rattle.std.specs.List.{AllByRecursion}
-use Rattle.std.proofs.lemmas.List.{map-append}
+use Rattle.std.proofs.lemmas.List.{map-append, length-append}
 use Rattle.std.proofs.lemmas.Grind.{fold-append}
-use Rattle.std.proofs.lemmas.List.Elements.{recursion_from_All}
+use Rattle.std.proofs.lemmas.List.Elements.{recursion_from_All, All-weaker, All-push}
 use Rattle.recorded_text.specs.Names.{Grows, with_next, names_on}
 use Rattle.recorded_text.specs.Line.{SwitchView}
 use Rattle.recorded_text.specs.Text.{told, switch_of}
@@ -37,6 +37,16 @@ view_more old new before after s line v g h e shown is =
     let tells : told line ≡ v ∷ [] = ap switch_of (sym is) in
     ap (λ steps. map (step_view new) steps) e ∙ map-append (step_view new) before (s ∷ [])
     ∙ rw (views_kept old new before g (recursion_from_All (IsNamed old) before h), shown, tells) refl
+
+-- each that was named still is, and the new one too
+in_grown : (old new : List (List ℕ)) (t : Option ℕ) → Grows old new → IfSome t (λ i. i < length old) → IfSome t (λ i. i < length new)
+in_grown old new None g h = tt
+in_grown old new (Some i) g h = omega (arith, h, ap length g.behind, length-append old g.more)
+
+pub named_more : (old new : List (List ℕ)) (before after : List Step) (s : Step) → Grows old new → AreNamed old before → after ≡ before ++ s ∷ [] → IsNamed new s → AreNamed new after
+named_more old new before after s g h e named =
+    let still = All-weaker (IsNamed old) (IsNamed new) (λ x was. (in_grown old new x.task g was.0, was.1)) before h in
+    subst (AreNamed new) (sym e) (All-push (IsNamed new) before s still named)
 
 -- names that grow and grow again have grown
 pub grows_on : (a b c : List (List ℕ)) → Grows a b → Grows b c → Grows a c

@@ -1,11 +1,19 @@
-use Rattle.std.proofs.Common.{◌≡◌, ◌+◌, ◌*◌, ◌≤◌, ◌<◌, List, ℕ, true, false, map, take, length, subst, ap, ◌∙◌, arith, rules, ◌++◌}
+use Rattle.std.proofs.Common.{◌≡◌, ◌+◌, ◌*◌, ◌≤◌, ◌<◌, ◌^◌, List, ℕ, Option, None, Some, true, false, map, take, length, sym, subst, ap, ◌∙◌, arith, rules, ◌++◌}
 use Rattle.std.proofs.lemmas.Grind.{common_steps}
-use Rattle.recorded_text.specs.Steps.{step_view}
+use Rattle.std.specs.Prelude.{IfSome}
+use Rattle.std.proofs.lemmas.List.{length-take, length-take-le}
+use Rattle.std.proofs.lemmas.List.Elements.{All-weaker}
+use Rattle.recorded_text.specs.Steps.{step_view, IsNamed}
 use Rattle.recorded_text.specs.Text.{is_bad_line, told}
 use Rattle.recorded_text.proofs.Ending.{end_good, end_bad, piece_done, piece_bad}
 use Rattle.recorded_text.proofs.Stepping.{grows_on, brings_more}
 use Rattle.counted_io.specs.Sides.{inner_of}
 use Rattle.recorded_text.proofs.reading.read_switches.Goals as goal
+
+-- such a fault says nothing of the text
+no_text : (text : Option (List ℕ)) → IfSome text (λ t. Unit {0})
+no_text None = tt
+no_text (Some t) = tt
 
 pub returns-in-Ok-clause-read : goal.returns-in-Ok-clause-read
 returns-in-Ok-clause-read g c =
@@ -33,6 +41,9 @@ returns-in-Err-clause-fault g c =
 few_more : (before after counter n : ℕ) (buf : List ℕ) → before ≤ counter * 65536 → length buf ≡ 65536 → after ≤ before + length (take n buf) → after ≤ (counter + 1) * 65536
 few_more before after counter n buf few room more = grind (arith, common_steps)
 
+few_ahead : (lines counter n : ℕ) (buf : List ℕ) → lines ≤ counter * 65536 → counter < 4294967296 → length buf ≡ 65536 → lines + length (take n buf) < 2 ^ 63
+few_ahead lines counter n buf few turn room = omega (arith, length-take n buf)
+
 pub loop-preserved : goal.loop-preserved
 loop-preserved g c =
     let e = c.in-Ok-take_piece.ensures in
@@ -53,3 +64,42 @@ returns-in-Ok-clause-called g c =
     let found = map (step_view c.loop.names) c.loop.steps.items in
     let all = map (step_view c.take_line.new.names) c.take_line.new.steps.items in
     brings_more _ c.loop.names c.take_line.new.names found (told c.as_slice.result.now) all c.loop.invariant.called c.in-Ok.ensures.called c.in-Ok.ensures.shown
+
+pub returns-in-Ok-clause-named : goal.returns-in-Ok-clause-named
+returns-in-Ok-clause-named g c = c.in-Ok.ensures.named
+
+pub returns-in-Ok-clause-small : goal.returns-in-Ok-clause-small
+returns-in-Ok-clause-small g c = All-weaker (IsNamed c.take_line.new.names) (λ s. s.time < 2 ^ 61) (λ s named. named.1) c.take_line.new.steps.items c.in-Ok.ensures.named
+
+pub returns-in-Ok-clause-faults : goal.returns-in-Ok-clause-faults
+returns-in-Ok-clause-faults g c = c.in-Some-eq0.ensures.faults ∙ c.loop.invariant.faults
+
+pub returns-in-Ok-clause-grows : goal.returns-in-Ok-clause-grows
+returns-in-Ok-clause-grows g c = grows_on _ _ _ c.loop.invariant.grows c.take_line.ensures.grows
+
+pub returns-in-Err-Bad-clause-faults : goal.returns-in-Err-Bad-clause-faults
+returns-in-Err-Bad-clause-faults g c = c.in-Some-eq0.ensures.faults ∙ c.loop.invariant.faults
+
+pub returns-in-Err-Bad-clause-grows : goal.returns-in-Err-Bad-clause-grows
+returns-in-Err-Bad-clause-grows g c = grows_on _ _ _ c.loop.invariant.grows c.take_line.ensures.grows
+
+pub returns-in-Err-clause-faults : goal.returns-in-Err-clause-faults
+returns-in-Err-clause-faults g c = rw c.in-Err.ensures.not_read (c.in-Some.ensures.faults ∙ c.loop.invariant.faults)
+
+pub returns-in-Err-clause-grows : goal.returns-in-Err-clause-grows
+returns-in-Err-clause-grows g c = grows_on _ _ _ c.loop.invariant.grows c.take_piece.ensures.grows
+
+pub returns-in-None : goal.returns-in-None
+returns-in-None g c = record { read = tt; named = tt; called = tt; small = tt; fault = no_text (g.R.Read.remaining (inner_of c.args.reader.now)); grows = c.loop.invariant.grows; faults = c.in-None.ensures.faults ∙ ap (λ n. n + 1) c.loop.invariant.faults }
+
+pub returns-in-Err-Memory : goal.returns-in-Err-Memory
+returns-in-Err-Memory g c = record { read = tt; named = tt; called = tt; small = tt; fault = no_text (g.R.Read.remaining (inner_of c.args.reader.now)); grows = grows_on _ _ _ c.loop.invariant.grows c.take_line.ensures.grows; faults = c.in-Some-eq0.ensures.faults ∙ c.loop.invariant.faults }
+
+pub returns : goal.returns
+returns g c = record { read = tt; named = tt; called = tt; small = tt; fault = no_text (g.R.Read.remaining (inner_of c.args.reader.now)); grows = c.loop.invariant.grows; faults = c.loop.invariant.faults }
+
+pub take_piece-requires-clause-few : goal.take_piece-requires-clause-few
+take_piece-requires-clause-few g c = few_ahead c.loop.lines c.loop.counter c.in-Some.n c.read.new.buf c.loop.invariant.few (omega arith) (search rules)
+
+pub slice_bounds-take_piece-end : goal.slice_bounds-take_piece-end
+slice_bounds-take_piece-end g c = sym (length-take-le c.in-Some.n c.read.new.buf c.in-Some.ensures.count)

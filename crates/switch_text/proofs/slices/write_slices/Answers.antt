@@ -1,4 +1,4 @@
-use Rattle.std.proofs.Common.{◌≡◌, ◌∙◌, [], length, refl, sym, subst, ap, arith}
+use Rattle.std.proofs.Common.{◌≡◌, ◌+◌, ◌∙◌, [], length, refl, sym, subst, ap, arith}
 use Rattle.counted_io.specs.Sides.{inner_of}
 use Rattle.switch_text.specs.Trace.{header}
 use Rattle.switch_text.specs.SlicedTrace.{sliced_trace}
@@ -109,3 +109,18 @@ returns-clause-stopped g c =
     let now = c.go_on.new.self in
     IsStopped-here _ _ (g.S.Slices.base slices) (g.S.Slices.names slices) (g.S.Slices.rest slices) (g.S.Slices.rest l.slices) (g.S.Slices.at_hand now) (g.S.Slices.rest now) l.written c.in-Err-flush.n _ l.batch l.invariant.slicing l.invariant.left c.go_on.ensures.rest l.invariant.room
     c.stopped_after-in-Err-flush.ensures
+
+pub returns-in-Err-clause-faults : goal.returns-in-Err-clause-faults
+returns-in-Err-clause-faults g c = c.in-Err.ensures.faults ∙ ap (λ n. n + 1) c.loop-slots.invariant.faults
+
+pub returns-in-Ok-flush-clause-faults : goal.returns-in-Ok-flush-clause-faults
+returns-in-Ok-flush-clause-faults g c = c.in-Ok-flush.ensures.faults ∙ c.loop-slots.invariant.faults
+
+pub returns-clause-faults : goal.returns-clause-faults
+returns-clause-faults g c = c.in-Err-flush.ensures.faults ∙ ap (λ n. n + 1) c.loop-slots.invariant.faults
+
+pub returns-in-Ok-flush-clause-left : goal.returns-in-Ok-flush-clause-left
+returns-in-Ok-flush-clause-left g c = end_of_end (g.S.Slices.rest c.args.slices.now) (g.S.Slices.rest c.loop-slots.slices) (g.S.Slices.at_hand c.go_on.new.self) (g.S.Slices.rest c.go_on.new.self) c.loop-slots.invariant.left c.go_on.ensures.rest
+
+pub returns-clause-left : goal.returns-clause-left
+returns-clause-left g c = end_of_end (g.S.Slices.rest c.args.slices.now) (g.S.Slices.rest c.loop-slots.slices) (g.S.Slices.at_hand c.go_on.new.self) (g.S.Slices.rest c.go_on.new.self) c.loop-slots.invariant.left c.go_on.ensures.rest
