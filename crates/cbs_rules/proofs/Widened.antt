@@ -19,19 +19,19 @@ natural_again z n e small = to_z-of_z w128 z (natural_fits z n e small) ∙ e
 pub near_again : (z : ℤ) → neg_ℤ (pos (2 ^ 63)) ≤ℤ z → z ≤ℤ pos (2 ^ 63) → again z ≡ z
 near_again z low high = to_z-of_z w128 z (omega (arith, ints))
 
-pub product : (x y : ℤ) (m n : ℕ) → x ≡ pos m → y ≡ pos n → m < 2 ^ 64 → n < 2 ^ 64 → again x *ℤ again y ≡ pos (m * n)
-product x y m n a b small short =
+pub product_is : (x y : ℤ) (m n : ℕ) → x ≡ pos m → y ≡ pos n → m < 2 ^ 64 → n < 2 ^ 64 → again x *ℤ again y ≡ pos (m * n)
+product_is x y m n a b small short =
     ap (λ (z : ℤ). z *ℤ again y) (natural_again x m a (omega arith)) ∙ ap (λ (z : ℤ). pos m *ℤ z) (natural_again y n b (omega arith))
 
-pub difference : (z x : ℤ) (n : ℕ) → neg_ℤ (pos (2 ^ 63)) ≤ℤ z → z ≤ℤ pos (2 ^ 63) → x ≡ pos n → n < 2 ^ 100 → again z -ℤ again x ≡ z -ℤ pos n
-difference z x n low high e small =
+pub difference_is : (z x : ℤ) (n : ℕ) → neg_ℤ (pos (2 ^ 63)) ≤ℤ z → z ≤ℤ pos (2 ^ 63) → x ≡ pos n → n < 2 ^ 100 → again z -ℤ again x ≡ z -ℤ pos n
+difference_is z x n low high e small =
     ap (λ (y : ℤ). y -ℤ again x) (near_again z low high) ∙ ap (λ (y : ℤ). z -ℤ y) (natural_again x n e (omega arith))
 
 pub difference_fits : (z x : ℤ) (n : ℕ) → neg_ℤ (pos (2 ^ 63)) ≤ℤ z → z ≤ℤ pos (2 ^ 63) → x ≡ z -ℤ pos n → n < 2 ^ 100 → FitsSigned w128 x
 difference_fits z x n low high e small = rw e (omega (arith, ints))
 
-pub sum : (z x : ℤ) (n : ℕ) → neg_ℤ (pos (2 ^ 63)) ≤ℤ z → z ≤ℤ pos (2 ^ 63) → x ≡ pos n → n < 2 ^ 100 → again z +ℤ again x ≡ z +ℤ pos n
-sum z x n low high e small =
+pub sum_is : (z x : ℤ) (n : ℕ) → neg_ℤ (pos (2 ^ 63)) ≤ℤ z → z ≤ℤ pos (2 ^ 63) → x ≡ pos n → n < 2 ^ 100 → again z +ℤ again x ≡ z +ℤ pos n
+sum_is z x n low high e small =
     ap (λ (y : ℤ). y +ℤ again x) (near_again z low high) ∙ ap (λ (y : ℤ). z +ℤ y) (natural_again x n e (omega arith))
 
 pub sum_fits : (z x : ℤ) (n : ℕ) → neg_ℤ (pos (2 ^ 63)) ≤ℤ z → z ≤ℤ pos (2 ^ 63) → x ≡ z +ℤ pos n → n < 2 ^ 100 → FitsSigned w128 x

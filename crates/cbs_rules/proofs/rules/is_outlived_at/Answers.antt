@@ -7,7 +7,7 @@ use Rattle.std.proofs.lemmas.Int.{to_z-of_z}
 use Rattle.attr_check.specs.ParamsView.{ParamsView}
 use Rattle.cbs_rules.specs.Budget.{budget}
 use Rattle.cbs_rules.specs.Serving.{overflows}
-use Rattle.cbs_rules.proofs.Widened.{again, natural_fits, product, scaled, scaled_fits}
+use Rattle.cbs_rules.proofs.Widened.{again, natural_fits, product_is, scaled, scaled_fits}
 use Rattle.cbs_rules.proofs.rules.is_outlived_at.Goals as goal
 
 short : (some until deadline : ℕ) → some ≤ 2 ^ 52 → until ≤ deadline → deadline < 2 ^ 48 → some * until < 2 ^ 127
@@ -16,7 +16,7 @@ short some until deadline most within early = let near : until ≤ 2 ^ 48 = omeg
 pub overflow_mul-share : goal.overflow_mul-share
 overflow_mul-share c =
     let until = c.args.deadline - c.args.time in
-    natural_fits _ (c.budget_of.result * until) (product c.from-budget.result c.from.result c.budget_of.result until c.from-budget.ensures c.from.ensures c.budget_of.type_inv (omega arith)) (short c.budget_of.result until c.args.deadline c.budget_of.ensures.most (omega arith) c.requires.early.1)
+    natural_fits _ (c.budget_of.result * until) (product_is c.from-budget.result c.from.result c.budget_of.result until c.from-budget.ensures c.from.ensures c.budget_of.type_inv (omega arith)) (short c.budget_of.result until c.args.deadline c.budget_of.ensures.most (omega arith) c.requires.early.1)
 
 period_of : (c : goal.After-from-2) → c.from-2.result ≡ pos c.args.params.now.period
 period_of c = c.from-2.ensures ∙ ap (λ (v : ParamsView). pos v.period) c.params.view_is
@@ -33,6 +33,6 @@ compared p time deadline left x y h e f = rw (e, f, le-ltb deadline time h)
 pub returns-clause-value : goal.returns-clause-value
 returns-clause-value c =
     let until = c.args.deadline - c.args.time in
-    let share = product c.from-budget.result c.from.result c.budget_of.result until c.from-budget.ensures c.from.ensures c.budget_of.type_inv (omega arith) in
+    let share = product_is c.from-budget.result c.from.result c.budget_of.result until c.from-budget.ensures c.from.ensures c.budget_of.type_inv (omega arith) in
     let fits = natural_fits _ (c.budget_of.result * until) share (short c.budget_of.result until c.args.deadline c.budget_of.ensures.most (omega arith) c.requires.early.1) in
     compared c.args.params.now c.args.time c.args.deadline c.args.left _ _ c.if-deadline-time.false (to_z-of_z w128 _ fits ∙ share ∙ ap (λ (b : ℕ). pos (b * until)) c.budget_of.ensures.value) (to_z-of_z w128 _ (overflow_mul-result c) ∙ right c)
