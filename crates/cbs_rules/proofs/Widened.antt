@@ -1,10 +1,14 @@
 -- Numbers widened to signed ones of 128 bits, which goals show written as bits and read back.
 use Rattle.std.proofs.Common.{◌≡◌, ℕ, ◌*◌, ◌^◌, ◌<◌, ◌≤◌, ap, ◌∙◌, arith}
-use Rattle.std.specs.Prelude.{ℤ, pos, neg_ℤ, ◌+ℤ◌, ◌-ℤ◌, ◌*ℤ◌, ◌≤ℤ◌}
+use Rattle.std.specs.Prelude.{ℤ, pos, negsuc, neg_ℤ, ◌+ℤ◌, ◌-ℤ◌, ◌*ℤ◌, ◌≤ℤ◌}
 use Rattle.std.specs.Int.RustNames.{FitsSigned}
 use Rattle.std.proofs.lemmas.Int.{ints, to_z-of_z, fits_signed_mul}
-use mir.Syntax.{w128}
-use mir.Val.{to_z, of_z}
+use Rattle.cbs_rules.specs.Budget.{below_zero}
+use lib.IntN.{nat_abs}
+use lib.Dec.{T}
+use lib.Signed.{non_neg}
+use mir.Syntax.{w64, w128}
+use mir.Val.{Fits, to_z, of_z}
 
 -- what is written as bits and read back
 abbrev pub again : ℤ → ℤ
@@ -44,3 +48,21 @@ scaled z x n low high e small =
 pub scaled_fits : (z x : ℤ) (n : ℕ) → neg_ℤ (pos (2 ^ 63)) ≤ℤ z → z ≤ℤ pos (2 ^ 63) → x ≡ z *ℤ pos n → n ≤ 2 ^ 32 → FitsSigned w128 x
 scaled_fits z x n low high e small =
     rw e (fits_signed_mul w128 z (pos n) (2 ^ 63) (2 ^ 32) (omega (arith, ints)) small (omega arith))
+
+-- how far a number is below zero
+flipped : (z : ℤ) → z ≤ℤ pos 0 → pos 0 -ℤ z ≡ pos (below_zero z)
+flipped (pos n) h = omega (arith, ints)
+flipped (negsuc n) h = omega (arith, ints)
+
+pub below_small : (z : ℤ) → neg_ℤ (pos (2 ^ 32)) ≤ℤ z → below_zero z ≤ 2 ^ 32
+below_small (pos n) h = omega arith
+below_small (negsuc n) h = omega (arith, ints)
+
+pub negated : (z : ℤ) → z ≤ℤ pos 0 → neg_ℤ (pos (2 ^ 32)) ≤ℤ z → pos 0 -ℤ again z ≡ pos (below_zero z)
+negated z high low = ap (λ (y : ℤ). pos 0 -ℤ y) (near_again z (omega (arith, ints)) (omega (arith, ints))) ∙ flipped z high
+
+pub size : (z : ℤ) → z ≤ℤ pos 0 → neg_ℤ (pos (2 ^ 32)) ≤ℤ z → nat_abs (again (pos 0 -ℤ again z)) ≡ below_zero z
+size z high low = ap nat_abs (natural_again _ (below_zero z) (negated z high low) (omega (arith, below_small z low)))
+
+pub cast_fits : (z : ℤ) (n : ℕ) → z ≡ pos n → n < 2 ^ 64 → T (non_neg z) × Fits w64 (nat_abs z)
+cast_fits z n e small = rw e (tt, record { fits = small })
