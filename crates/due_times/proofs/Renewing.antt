@@ -55,7 +55,7 @@ same_leaves old new end long inner same =
     let half = length old / 2 in
     ap (λ n. drop (n / 2) new) long
     ∙ same_number_lists (drop half new) (drop half old) (omega (arith, length-drop half new, length-drop half old, long))
-      (λ k h. get_or-drop half new k 0 ∙ same (half + k) (omega (arith, inner)) ∙ sym (get_or-drop half old k 0))
+    (λ k h. get_or-drop half new k 0 ∙ same (half + k) (omega (arith, inner)) ∙ sym (get_or-drop half old k 0))
 
 -- one node more is made anew, where the four below it are behind all of those
 pub made_more : (nodes : List ℕ) (first at end least : ℕ) → at < end → 0 < first → end ≤ 4 * first → end ≤ length nodes / 4 → least ≡ least_below nodes at

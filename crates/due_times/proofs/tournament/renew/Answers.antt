@@ -1,4 +1,4 @@
-use Rattle.std.proofs.Common.{◌≡◌, refl, ◌∙◌, ap, arith, List, ℕ}
+use Rattle.std.proofs.Common.{◌≡◌, ◌∙◌, ap, arith, List, ℕ}
 use Rattle.std.proofs.lemmas.List.{length-set, get_or-set_other}
 use Rattle.due_times.specs.private.Tournament.{least_below}
 use Rattle.due_times.proofs.Renewing.{renewed, same_leaves, made_more}

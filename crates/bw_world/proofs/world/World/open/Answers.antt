@@ -1,4 +1,4 @@
-use Rattle.std.proofs.Common.{◌≡◌, ℕ, ◌++◌, ◌∷◌, [], List, map, take, sym, ap, ◌∙◌, subst, arith}
+use Rattle.std.proofs.Common.{◌++◌, ◌∷◌, [], List, map, take, sym, ap, ◌∙◌, subst, arith}
 use Rattle.std.proofs.lemmas.List.{map_more, take_all}
 use Rattle.bw_world.specs.WorldView.{DomainView, WorldView}
 use Rattle.bw_world.specs.DomainStep.{opened}

@@ -1,4 +1,4 @@
-use Rattle.std.proofs.Common.{◌≡◌, ℕ, ◌-◌, ◌^◌, ◌<◌, List, [], ◌∷◌, length, refl, subst, sym, arith, rules}
+use Rattle.std.proofs.Common.{◌-◌, ◌^◌, ◌<◌, [], ◌∷◌, length, refl, subst, sym, arith, rules}
 use Rattle.std.specs.Prelude.{slice_index}
 use Rattle.grub_rules.specs.Sums.{Share}
 use Rattle.grub_rules.specs.Accounts.{AccountsView, Exchanges, Holds}
