@@ -1,1 +1,2 @@
 pub mod Postponing
+pub mod Widened

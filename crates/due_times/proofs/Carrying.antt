@@ -51,6 +51,18 @@ kept nodes at i time other =
     let d = get_or-set_other nodes at (4 * i + 3) time 0 (λ e. other (omega (arith, e))) in
     cc (a, b, c, d)
 
+-- a leaf is another, so the node above it may not be right
+pub leaf_changed : (nodes : List ℕ) (at time : ℕ) → IsTree nodes → length nodes / 2 ≤ at → IsTreeBut (at / 4) (set nodes at time)
+leaf_changed nodes at time is from =
+    let long = length-set nodes at time in
+    record {
+      fours = omega (arith, long, is.fours);
+      each = λ i one within other.
+          get_or-set_other nodes at i time 0 (λ e. absurd (omega (arith, e, within, long, from)))
+          ∙ is.each i one (omega (arith, within, long)) (λ z. absurd (omega (arith, z, one)))
+          ∙ sym (kept nodes at i time (λ e. other (sym e)));
+    }
+
 -- the node above is right again, and the one above that may not be
 pub carried : (nodes : List ℕ) (at least : ℕ) → IsTreeBut (at / 4) nodes → 4 ≤ at → at < length nodes → least ≡ least_below nodes (at / 4) → IsTreeBut (at / 16) (set nodes (at / 4) least)
 carried nodes at least is inner there e =

@@ -1,8 +1,8 @@
 -- From the root of a tournament down to the first leaf that has come.
-use Rattle.std.proofs.Common.{◌≡◌, ℕ, ◌+◌, ◌*◌, ◌/◌, ◌^◌, ◌-◌, ◌<◌, ◌≤◌, List, length, get_or, subst, arith, inl, inr}
+use Rattle.std.proofs.Common.{◌≡◌, ℕ, ◌+◌, ◌*◌, ◌/◌, ◌^◌, ◌-◌, ◌<◌, ◌≤◌, List, length, get_or, sym, ap, subst, ◌∙◌, arith, inl, inr}
 use Rattle.std.proofs.lemmas.Bool.{cases_lt}
-use Rattle.std.proofs.lemmas.List.{length-drop}
-use Rattle.due_times.specs.Timers.{least, IsSize}
+use Rattle.std.proofs.lemmas.List.{length-drop, get_or-drop}
+use Rattle.due_times.specs.Timers.{least, AreLater, IsSize}
 use Rattle.due_times.specs.private.Tournament.{IsLeast, IsTree, AreAhead, ArePassed, IsOnWay, leaves}
 use Rattle.due_times.proofs.Rooted.{rooted}
 use Rattle.due_times.proofs.Climbing.{Covers, covers_pow, four_times, some_wide, down_low, down_high, down_inner}
@@ -113,3 +113,15 @@ not_64 n (inl e) more other = absurd (omega (arith, e, more))
 not_64 n (inr (inl e)) more other = absurd (omega (arith, e, more))
 not_64 n (inr (inr (inl e))) more other = absurd (other e)
 not_64 n (inr (inr (inr e))) more other = e
+
+-- what the end of the way says of the leaves
+pub leaves_ahead : (nodes : List ℕ) (time at : ℕ) → IsOnWay nodes time at 1 → AreLater (leaves nodes) time 0 (at - length nodes / 2)
+leaves_ahead nodes time at way place from before within =
+    let half = length nodes / 2 in
+    subst (λ (n : ℕ). time < n) (sym (get_or-drop half nodes place 0)) (way.ahead (half + place) (omega arith) (omega (arith, before)) (omega (arith, within, length-drop half nodes)))
+
+pub leaf_come : (nodes : List ℕ) (time at : ℕ) → IsOnWay nodes time at 1 → get_or (leaves nodes) (at - length nodes / 2) 0 ≤ time
+leaf_come nodes time at way =
+    let half = length nodes / 2 in
+    let there : half + (at - half) ≡ at = omega (arith, way.low) in
+    subst (λ (n : ℕ). n ≤ time) (sym (get_or-drop half nodes (at - half) 0 ∙ ap (λ (k : ℕ). get_or nodes k 0) there)) way.come

@@ -1,9 +1,10 @@
 -- Nodes of a tournament that are made anew, level by level.
-use Rattle.std.proofs.Common.{◌≡◌, ℕ, ◌+◌, ◌-◌, ◌*◌, ◌/◌, ◌^◌, ◌<◌, ◌≤◌, ◌++◌, ◌∷◌, [], List, length, get_or, sym, ap, ◌∙◌, arith, inl, inr}
+use Rattle.std.proofs.Common.{◌≡◌, ℕ, ◌+◌, ◌-◌, ◌*◌, ◌/◌, ◌^◌, ◌<◌, ◌≤◌, ◌++◌, ◌∷◌, [], List, length, get_or, set, drop, sym, ap, ◌∙◌, arith, inl, inr}
 use Rattle.std.specs.Prelude.{◌⊎◌}
 use Rattle.std.specs.List.{remove}
 use Rattle.std.proofs.lemmas.Bool.{cases_lt}
-use Rattle.std.proofs.lemmas.List.{length-append, length-drop, get_or_append_left, get_or-drop}
+use Rattle.std.proofs.lemmas.Grind.{same_number_lists, get_or-set_at}
+use Rattle.std.proofs.lemmas.List.{get_or-set_other, length-append, length-drop, get_or_append_left, get_or-drop}
 use Rattle.std.proofs.lemmas.List.Edits.{length-remove, get_or-remove_below}
 use Rattle.due_times.specs.Timers.{AreNever, IsSize}
 use Rattle.due_times.specs.private.Tournament.{IsLeast, IsTree, IsTreeOutside, least_below, leaves}
@@ -40,6 +41,37 @@ renewed old new first end is long low high made = record {
         ]
       ];
 }
+
+pub removed_length : (old new : List ℕ) (at : ℕ) → new ≡ remove old at ++ (2 ^ 64 - 1) ∷ [] → at < length old → length new ≡ length old
+removed_length old new at made there = omega (arith, ap length made, length-append (remove old at) ((2 ^ 64 - 1) ∷ []), length-remove old at there)
+
+-- where a list of so many nodes has a place among its leaves
+pub inside : (old : List ℕ) (all count : ℕ) → all ≡ length old → length old ≡ 4 * (length old / 4) → count ≤ length (leaves old) → all / 2 + count ≤ length old
+inside old all count is fours fits = omega (arith, is, fours, fits, length-drop (length old / 2) old)
+
+-- the leaves are as they were, where no node behind the inner ones is another
+pub same_leaves : (old new : List ℕ) (end : ℕ) → length new ≡ length old → end ≤ length old / 2 → ((i : ℕ) → end ≤ i → get_or new i 0 ≡ get_or old i 0) → leaves new ≡ leaves old
+same_leaves old new end long inner same =
+    let half = length old / 2 in
+    ap (λ n. drop (n / 2) new) long
+    ∙ same_number_lists (drop half new) (drop half old) (omega (arith, length-drop half new, length-drop half old, long))
+    (λ k h. get_or-drop half new k 0 ∙ same (half + k) (omega (arith, inner)) ∙ sym (get_or-drop half old k 0))
+
+-- one node more is made anew, where the four below it are behind all of those
+pub made_more : (nodes : List ℕ) (first at end least : ℕ) → at < end → 0 < first → end ≤ 4 * first → end ≤ length nodes / 4 → least ≡ least_below nodes at
+    → ((i : ℕ) → first ≤ i → i < at → IsLeast nodes i) → (i : ℕ) → first ≤ i → i < at + 1 → IsLeast (set nodes at least) i
+made_more nodes first at end least less some apart inner e made i from within =
+    let a = get_or-set_other nodes at (4 * i) least 0 (λ z. absurd (omega (arith, z, from, less, apart))) in
+    let b = get_or-set_other nodes at (4 * i + 1) least 0 (λ z. absurd (omega (arith, z, from, less, apart))) in
+    let c = get_or-set_other nodes at (4 * i + 2) least 0 (λ z. absurd (omega (arith, z, from, less, apart))) in
+    let d = get_or-set_other nodes at (4 * i + 3) least 0 (λ z. absurd (omega (arith, z, from, less, apart))) in
+    let below : least_below (set nodes at least) i ≡ least_below nodes i = cc (a, b, c, d) in
+    elim (cases_lt i at) [
+      | inl before ↦ get_or-set_other nodes at i least 0 (λ z. absurd (omega (arith, z, before))) ∙ made i from before ∙ sym below
+      | inr past ↦
+          let here : i ≡ at = omega (arith, past, within) in
+          get_or-set_at nodes at i least 0 here (omega (arith, less, inner)) ∙ e ∙ ap (least_below nodes) (sym here) ∙ sym below
+    ]
 
 -- the first node of a level; none above the root
 abbrev pub IsLevel : ℕ → Type 0

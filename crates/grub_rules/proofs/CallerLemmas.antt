@@ -17,10 +17,10 @@ alone : (p : Bool) (s : Share) → sum_by (λ x. x.bw) (cond p (s ∷ []) []) �
 alone true s = omega arith
 alone false s = refl
 
-this_bw-one : (cpu : ℕ) (s : Share) → this_bw cpu (s ∷ []) ≡ cond (eqb s.cpu cpu) s.bw 0
+pub this_bw-one : (cpu : ℕ) (s : Share) → this_bw cpu (s ∷ []) ≡ cond (eqb s.cpu cpu) s.bw 0
 this_bw-one cpu s = alone (eqb s.cpu cpu) s
 
-running_bw-one : (cpu : ℕ) (s : Share) → running_bw cpu (s ∷ []) ≡ cond (eqb s.cpu cpu && s.active) s.bw 0
+pub running_bw-one : (cpu : ℕ) (s : Share) → running_bw cpu (s ∷ []) ≡ cond (eqb s.cpu cpu && s.active) s.bw 0
 running_bw-one cpu s = alone (eqb s.cpu cpu && s.active) s
 
 running_least : (here active : Bool) (bw : ℕ) → cond (here && active) bw 0 ≤ cond here bw 0

@@ -1,3 +1,4 @@
 pub mod Exchanging
 pub mod CallerLemmas
 pub mod Rating
+pub mod Shifting

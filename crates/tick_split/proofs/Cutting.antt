@@ -24,6 +24,14 @@ start_last pieces len some = mul-div_cancel_left len some
 front_more : {X : Type 0} (xs : List X) (a b : ℕ) → a ≤ b → take b xs ≡ take a xs ++ slice_range xs a b
 front_more xs a b h = let e : b ≡ a + (b - a) = omega arith in ap (λ n. take n xs) e ∙ take-add a (b - a) xs
 
+-- the place of a piece is as long as what comes back of it
+pub place_long : {X : Type 0} (f : X → X) (xs ys part : List X) (k pieces : ℕ) → k < pieces → length ys ≡ length xs → part ≡ map f (piece_of k pieces xs)
+    → length (take (piece_start (k + 1) pieces (length xs) - piece_start k pieces (length xs)) (drop (piece_start k pieces (length xs)) ys)) ≡ length part
+place_long f xs ys part k pieces within long new =
+    let low = start_rises k pieces (length xs) (omega (arith, within)) in
+    let high = start_within (k + 1) pieces (length xs) (omega (arith, within)) in
+    rw new (simp (length-map, length-take, length-drop) (omega (arith, low, high, long)))
+
 -- a list whose pieces up to one place are written, and the next piece
 module _ {X : Type 0} (f : X → X) (xs : List X) (pieces : ℕ) (some : 0 < pieces) where
   -- all pieces up to this one are written

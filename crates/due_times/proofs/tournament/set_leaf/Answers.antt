@@ -1,8 +1,53 @@
-use Rattle.std.proofs.Common.{◌+◌, ◌/◌, ℕ, List, length, ap, sym, subst, ◌∙◌, arith}
+use Rattle.std.proofs.Common.{◌≡◌, ◌+◌, ◌/◌, ℕ, List, length, ap, sym, subst, ◌∙◌, arith}
+use Rattle.std.proofs.lemmas.List.{length-set, get_or-set_same}
 use Rattle.due_times.specs.Timers.{IsSize}
-use Rattle.due_times.proofs.Carrying.{leaf_within, leaves_set, tree_above, tree_whole, low_16}
-use Rattle.due_times.proofs.Descending.{not_four}
+use Rattle.due_times.proofs.Carrying.{leaf_changed, leaf_within, leaves_set, tree_above, tree_whole, low_16}
+use Rattle.due_times.proofs.Descending.{most_256, not_four, some_four}
 use Rattle.due_times.proofs.tournament.set_leaf.Goals as goal
+
+half_is : (c : goal.After-half_of-half) → c.half_of-half.result ≡ length c.args.nodes.now.items / 2
+half_is c = c.half_of-half.ensures ∙ ap (λ (ns : List ℕ). length ns / 2) c.deref.ensures.value
+
+pub overflow_add-at : goal.overflow_add-at
+overflow_add-at c =
+    let within = leaf_within c.args.nodes.now.items c.args.leaf c.requires.tree c.requires.leaf in
+    omega (arith, half_is c, within, most_256 (length c.args.nodes.now.items / 2) c.requires.size)
+
+pub carry_on-requires-clause-tree : goal.carry_on-requires-clause-tree
+carry_on-requires-clause-tree c =
+    let half = c.half_of-half.ensures ∙ ap (λ (ns : List ℕ). length ns / 2) c.deref.ensures.value in
+    leaf_changed c.args.nodes.now.items (c.half_of-half.result + c.args.leaf) c.args.time c.requires.tree (omega (arith, half))
+
+pub carry_on-requires-clause-inner : goal.carry_on-requires-clause-inner
+carry_on-requires-clause-inner c =
+    let half = c.half_of-half.ensures ∙ ap (λ (ns : List ℕ). length ns / 2) c.deref.ensures.value in
+    omega (arith, half, some_four (length c.args.nodes.now.items / 2) c.requires.size)
+
+pub carry_on-requires-clause-there : goal.carry_on-requires-clause-there
+carry_on-requires-clause-there c =
+    let half = c.half_of-half.ensures ∙ ap (λ (ns : List ℕ). length ns / 2) c.deref.ensures.value in
+    let within = leaf_within c.args.nodes.now.items c.args.leaf c.requires.tree c.requires.leaf in
+    omega (arith, half, within, length-set c.args.nodes.now.items (c.half_of-half.result + c.args.leaf) c.args.time)
+
+pub carry_on-requires-clause-time : goal.carry_on-requires-clause-time
+carry_on-requires-clause-time c =
+    let half = c.half_of-half.ensures ∙ ap (λ (ns : List ℕ). length ns / 2) c.deref.ensures.value in
+    let within = leaf_within c.args.nodes.now.items c.args.leaf c.requires.tree c.requires.leaf in
+    get_or-set_same c.args.nodes.now.items (c.half_of-half.result + c.args.leaf) c.args.time 0 (omega (arith, half, within))
+
+pub returns-in_default-clause-length : goal.returns-in_default-clause-length
+returns-in_default-clause-length c = c.carry_on.ensures.length ∙ length-set c.args.nodes.now.items (c.half_of-half.result + c.args.leaf) c.args.time
+
+pub returns-then-half-eq4-clause-length : goal.returns-then-half-eq4-clause-length
+returns-then-half-eq4-clause-length c = c.carry_on.ensures.length ∙ length-set c.args.nodes.now.items (c.half_of-half.result + c.args.leaf) c.args.time
+
+pub climb_16-requires-clause-half : goal.climb_16-requires-clause-half
+climb_16-requires-clause-half c =
+    let half = c.half_of-half.ensures ∙ ap (λ (ns : List ℕ). length ns / 2) c.deref.ensures.value in
+    omega (arith, half, c.carry_on.ensures.length, length-set c.args.nodes.now.items (c.half_of-half.result + c.args.leaf) c.args.time, c.requires.tree.fours)
+
+pub returns-clause-length : goal.returns-clause-length
+returns-clause-length c = c.climb_16.ensures.length ∙ c.carry_on.ensures.length ∙ length-set c.args.nodes.now.items (c.half_of-half.result + c.args.leaf) c.args.time
 
 pub returns-then-half-eq4-clause-tree : goal.returns-then-half-eq4-clause-tree
 returns-then-half-eq4-clause-tree c =

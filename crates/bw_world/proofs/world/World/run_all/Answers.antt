@@ -1,4 +1,7 @@
-use Rattle.std.proofs.Common.{take, ap, ◌∙◌, subst, arith}
+use Rattle.std.proofs.Common.{ℕ, List, take, sym, ap, ◌∙◌, subst, arith}
+use Rattle.std.proofs.lemmas.List.{take_all}
+use Rattle.bw_world.specs.WorldStep.{after, outcomes_of}
+use Rattle.bw_world.specs.declared.step.Step.{Step}
 use Rattle.bw_world.specs.declared.step.Step.TheVariants.{Load}
 use Rattle.bw_world.specs.WorldView.{WorldView}
 use Rattle.bw_world.specs.ExactWord.{IsExact}
@@ -29,6 +32,27 @@ loop-step-preserved c =
       count = omega (arith, c.push_reserved.ensures.len, i.count);
       room = omega (arith, c.push_reserved.ensures.capacity, i.room);
     }
+
+pub returns-clause-outcomes : goal.returns-clause-outcomes
+returns-clause-outcomes c =
+    let i = c.loop-step.invariant in
+    i.outcomes ∙ ap (λ (ss : List Step). outcomes_of ss c.args.self.now.domains) (take_all c.loop-step.step-index c.args.steps.now (omega arith))
+
+pub returns-clause-world : goal.returns-clause-world
+returns-clause-world c =
+    let i = c.loop-step.invariant in
+    i.world ∙ ap (λ (n : ℕ). after (take n c.args.steps.now) c.args.self.now.domains) (sym i.applied)
+
+pub returns-in_err-outcome-clause-world : goal.returns-in_err-outcome-clause-world
+returns-in_err-outcome-clause-world c =
+    let i = c.loop-step.invariant in
+    let count = ap (λ (w : WorldView). w.applied) c.in_err-outcome.ensures.err ∙ i.applied in
+    ap (λ (w : WorldView). w.domains) c.in_err-outcome.ensures.err ∙ i.world ∙ ap (λ (n : ℕ). after (take n c.args.steps.now) c.args.self.now.domains) (sym count)
+
+pub returns-in_err-outcome-clause-beginning : goal.returns-in_err-outcome-clause-beginning
+returns-in_err-outcome-clause-beginning c =
+    let count = ap (λ (w : WorldView). w.applied) c.in_err-outcome.ensures.err ∙ c.loop-step.invariant.applied in
+    omega (arith, count)
 
 pub returns-clause-exact : goal.returns-clause-exact
 returns-clause-exact c = λ k. after_exact (take k c.args.steps.now) c.args.self.now.domains (subst (λ (w : WorldView). IsExact w.domains) c.self.view_is c.self.invariant)
