@@ -37,7 +37,12 @@ impl KeptSection {
         let mut left = calls.into_left(alloc);
         let mut run = RunWithNames::open(alloc, cpus, limit, false)?;
         'calls: while let Some((call, text)) = left.next() {
-            run.make(call, text)?;
+            // Both are let go of by one call: their parts would be written out on each way.
+            if let Err(error) = run.make(call, text) {
+                drop(run);
+                drop(left);
+                return Err(error);
+            }
         }
         Ok(run)
     }

@@ -429,8 +429,24 @@ pub(crate) fn recorded(
     ensures run { IfOk result (λ r. IsRunOf history.now r.state r.names) }
     ensures told { IfOk result (λ r. IsToldOf log.wanted history.now r.given r.log) }
 {
-    let names = names_given(alloc, &history.entries)?;
-    let given = params_if(alloc, &history.entries, log.is_wanted())?;
+    // State and log are let go of by one call each: their parts would be written out on each way.
+    let names = match names_given(alloc, &history.entries) {
+        Ok(names) => names,
+        Err(error) => {
+            drop(log);
+            drop(state);
+            return Err(error);
+        }
+    };
+    let given = match params_if(alloc, &history.entries, log.is_wanted()) {
+        Ok(given) => given,
+        Err(error) => {
+            drop(names);
+            drop(log);
+            drop(state);
+            return Err(error);
+        }
+    };
     Ok(RunWithNames {
         state,
         names,

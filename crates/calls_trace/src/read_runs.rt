@@ -42,9 +42,19 @@ pub(crate) fn run_read(
         → IfOk result (IsReadRun text before cpus wanted reader.new) }
     ensures never_more { left reader.new ≤ left reader.old }
 {
+    // The run is let go of by one call: its parts would be written out on each way.
     let mut run = RunWithNames::open(alloc, cpus, limit, wanted)?;
-    while let Some(kept) = next_of(alloc, reader)? {
-        run.make_kept(kept)?;
+    'calls: while let Some(kept) = match next_of(alloc, reader) {
+        Ok(found) => found,
+        Err(error) => {
+            drop(run);
+            return Err(error);
+        }
+    } {
+        if let Err(error) = run.make_kept(kept) {
+            drop(run);
+            return Err(error);
+        }
     }
     Ok(run)
 }

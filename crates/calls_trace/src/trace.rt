@@ -134,9 +134,17 @@ pub(crate) fn write_played<W: Write>(
         → IfErr result (IsUnwritten (side W.contents writer.old writer.new)
         (trace_of_sections (section ∷ []))) }
 {
-    let room = room_in(alloc)?;
+    let room = match room_in(alloc) {
+        Ok(room) => room,
+        Err(error) => {
+            drop(kept);
+            return Err(error.into());
+        }
+    };
     let mut playing = Playing::open(alloc, kept)?;
-    match write_slices(&mut playing, room, writer) {
+    let written = write_slices(&mut playing, room, writer);
+    drop(playing);
+    match written {
         Ok(()) => Ok(()),
         Err(fault) => Err(TraceFault::Write {
             written: fault.written,

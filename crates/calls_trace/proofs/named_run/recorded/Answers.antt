@@ -12,7 +12,7 @@ returns c =
     let same : c.deref.result.now ≡ s.entries = c.deref.ensures.value ∙ ap (λ (x : SectionView). x.entries) c.history.view_is in
     let same_here : c.deref-2.result.now ≡ s.entries = c.deref-2.ensures.value ∙ ap (λ (x : SectionView). x.entries) c.history.view_is in
     record {
-      run = run_is s c.args.state c.in_ok-names.names c.deref.result.now c.requires.section c.requires.legal c.requires.state same c.in_ok-names.ensures.names;
-      told = told_is s c.in_ok-given.given c.args.log c.deref-2.result.now c.requires.legal same_here
-          (subst (λ (w : Bool). GivesParams c.in_ok-given.given (cond w (params_given_by_all c.deref-2.result.now no_params) no_params)) c.is_wanted.ensures c.in_ok-given.ensures.given) c.requires.told;
+      run = run_is s c.args.state c.in-Ok.names c.deref.result.now c.requires.section c.requires.legal c.requires.state same c.in-Ok.ensures.names;
+      told = told_is s c.in-Ok-params_if.given c.args.log c.deref-2.result.now c.requires.legal same_here
+          (subst (λ (w : Bool). GivesParams c.in-Ok-params_if.given (cond w (params_given_by_all c.deref-2.result.now no_params) no_params)) c.is_wanted.ensures c.in-Ok-params_if.ensures.given) c.requires.told;
     }

@@ -29,8 +29,8 @@ open-requires-clause-limit c =
     let s = section_within c.requires.begun.text c.requires.begun.before (begun c.args.cpus c.args.limit) c.args.reader.now c.requires.begun.within in
     (s.least_limit, s.most_limit)
 
-pub loop-run-init : goal.loop-run-init
-loop-run-init c =
+pub calls-init : goal.calls-init
+calls-init c =
     let r = c.in_ok-run.run' in
     let made = c.in_ok-run.ensures in
     record {
@@ -50,28 +50,28 @@ loop-run-init c =
     }
 
 pub make_kept-requires-clause-call : goal.make_kept-requires-clause-call
-make_kept-requires-clause-call c = subst (λ (o : Option Kept). IfSome o (λ k. IsCall (call_of k))) c.in-Some.is c.in_ok-kept.ensures.call
+make_kept-requires-clause-call c = subst (λ (o : Option Kept). IfSome o (λ k. IsCall (call_of k))) c.in-Some.is c.in-Ok.ensures.call
 
 pub make_kept-requires-clause-early : goal.make_kept-requires-clause-early
 make_kept-requires-clause-early c =
     let b = c.requires.begun in
-    let m = c.loop-run.invariant.so_far b.text b.before b.within in
-    let few = (section_within b.text b.before m.section c.loop-run.reader m.within).most_entries in
+    let m = c.calls.invariant.so_far b.text b.before b.within in
+    let few = (section_within b.text b.before m.section c.calls.reader m.within).most_entries in
     omega (arith, m.early, few)
 
 pub make_kept-requires-clause-named : goal.make_kept-requires-clause-named
-make_kept-requires-clause-named c = (c.loop-run.invariant.so_far c.requires.begun.text c.requires.begun.before c.requires.begun.within).run.all_named
+make_kept-requires-clause-named c = (c.calls.invariant.so_far c.requires.begun.text c.requires.begun.before c.requires.begun.within).run.all_named
 
-pub loop-run-preserved : goal.loop-run-preserved
-loop-run-preserved c =
-    let i = c.loop-run.invariant in
-    let was = c.loop-run.run in
+pub calls-preserved : goal.calls-preserved
+calls-preserved c =
+    let i = c.calls.invariant in
+    let was = c.calls.run in
     let is = c.make_kept.new.self in
-    let made = c.in_ok-make_kept.ensures in
+    let made = c.in_default-make_kept.ensures in
     record {
       so_far = λ text before w.
           let m = i.so_far text before w in
-          let next : IsNextCall text before m.section c.next_of.new.reader c.in-Some.kept = subst (λ (o : Option Kept). IsNextKept text before m.section c.next_of.new.reader (Ok o)) c.in-Some.is (c.in_ok-kept.ensures.next text before m.section m.within) in
+          let next : IsNextCall text before m.section c.next_of.new.reader c.in-Some.kept = subst (λ (o : Option Kept). IsNextKept text before m.section c.next_of.new.reader (Ok o)) c.in-Some.is (c.in-Ok.ensures.next text before m.section m.within) in
           let e = next.entry in
           let call : call_of c.in-Some.kept ≡ e.call = sym next.same in
           record {
@@ -90,13 +90,13 @@ loop-run-preserved c =
 
 pub returns-clause-run : goal.returns-clause-run
 returns-clause-run c = λ text before w.
-    let m = c.loop-run.invariant.so_far text before w in
+    let m = c.calls.invariant.so_far text before w in
     let reader = c.next_of.new.reader in
     record {
       section = m.section;
       same_cpus = m.same_cpus;
-      is = section_within text before m.section c.loop-run.reader m.within;
-      behind = subst (λ (o : Option Kept). IsNextKept text before m.section reader (Ok o)) c.in_default.is (c.in_ok-kept.ensures.next text before m.section m.within);
+      is = section_within text before m.section c.calls.reader m.within;
+      behind = subst (λ (o : Option Kept). IsNextKept text before m.section reader (Ok o)) c.in_default.is (c.in-Ok.ensures.next text before m.section m.within);
       run = m.run;
       told = m.told;
     }

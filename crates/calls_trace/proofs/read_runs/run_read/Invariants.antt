@@ -4,11 +4,11 @@ use Rattle.call_book.specs.Reader.{IsWithin, begun, left}
 use Rattle.calls_trace.specs.private.ReadRuns.{IsMade}
 use Rattle.calls_trace.proofs.read_runs.run_read.Given as goal
 
-abbrev pub invariant-loop-run : goal.invariant-loop-run
-invariant-loop-run l = record {
+abbrev pub invariant-calls : goal.invariant-calls
+invariant-calls l = record {
   so_far : (text : List ℕ) (before : List SectionView) → IsWithin text before (begun l.fn.cpus l.fn.limit) l.fn.reader → IsMade text before l.fn.cpus l.fn.limit l.fn.wanted l.reader l.run;
   never_more : left l.reader ≤ left l.fn.reader;
 }
 
-abbrev pub decreases-loop-run : goal.decreases-loop-run
-decreases-loop-run l = left l.reader
+abbrev pub decreases-calls : goal.decreases-calls
+decreases-calls l = left l.reader

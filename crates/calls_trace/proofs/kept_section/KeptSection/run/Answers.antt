@@ -69,7 +69,7 @@ calls-preserved c =
     let rest = c.next.new.self in
     let was = c.calls.run in
     let is = c.make.new.self in
-    let done = c.in_ok-make.ensures in
+    let done = c.in_default-make.ensures in
     let more : all ≡ k ∷ rest = c.in-Some.ensures.next in
     let long = ap (λ (cs : List Call). length cs) more in
     record {
