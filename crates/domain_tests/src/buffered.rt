@@ -1,8 +1,20 @@
 //! A domain whose switches wait in a buffer.
 
+ghost use Rattle.std.specs.Prelude.{◌≡◌, IfOk, length};
+
 use crate::workers::{admitted, forever, single_ticks};
-use domain_run::{Buffered, Event};
+use domain_run::{Buffered, Event, NoMemory, State};
+use std::alloc::Global;
 use std::test::Fail;
+
+/// The domain with a buffer, as a list of one, for the reason for which a test has its domain so.
+fn buffered_alone(alloc: Global, state: State) -> Result<Vec<Buffered>, NoMemory>
+    ensures { IfOk result (λ buffers. length buffers.items ≡ 1) }
+{
+    let mut buffers = Vec::new(alloc);
+    buffers.push(Buffered::of(state)?)?;
+    Ok(buffers)
+}
 
 /// An advance stops where the buffer is full, and goes on once the switches that wait are
 /// forgotten. They are those of single ticks.
@@ -13,7 +25,8 @@ fn an_advance_stops_where_the_buffer_is_full(rt: HostRuntime) -> Result<(), Fail
     single_ticks(&mut ticked[0], 10000)?;
     let all = ticked[0].switches();
     let state = admitted(rt.alloc(), 1, &tasks)?.pop().unwrap();
-    let mut buffered = Buffered::of(state)?;
+    let mut buffers = buffered_alone(rt.alloc(), state)?;
+    let buffered = &mut buffers[0];
     let left = (1_u64 << 42).saturating_sub(buffered.state().now());
     let made = buffered.advance(10000_u64.min(left));
     assert!(rt; 0 < made && made < 10000);
