@@ -1,2 +1,3 @@
 pub mod Postponing
 pub mod Widened
+pub mod CallerLemmas

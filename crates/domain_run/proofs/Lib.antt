@@ -1,5 +1,4 @@
 pub mod Served
-pub mod Widened
 pub mod Marks
 pub mod Opening
 pub mod Admitting

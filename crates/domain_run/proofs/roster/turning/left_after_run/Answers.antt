@@ -3,7 +3,7 @@ use Rattle.std.specs.Prelude.{ℤ, pos, ◌-ℤ◌, ◌*ℤ◌, ◌<ℤ◌}
 use Rattle.std.proofs.Math.Nat.{mul-le-mul, mul-suc}
 use Rattle.std.proofs.lemmas.Int.{ints, to_z-of_z}
 use mir.Syntax.{w128}
-use Rattle.domain_run.proofs.Widened.{again, natural_fits, natural_again, product}
+use Rattle.cbs_rules.proofs.CallerLemmas.{again, natural_fits, natural_again, product_is}
 use Rattle.domain_run.proofs.roster.turning.left_after_run.Goals as goal
 
 small : (rate ticks : ℕ) → rate ≤ 2 ^ 27 → ticks ≤ 2 ^ 63 → rate * ticks ≤ 2 ^ 90
@@ -20,12 +20,12 @@ stays left rate ticks fits slow lasted = omega (arith, ints, fits, slow, lasted,
 
 pub overflow_mul-result : goal.overflow_mul-result
 overflow_mul-result c =
-    natural_fits _ (c.args.rate * c.args.ticks) (product c.from.result c.from-2.result c.args.rate c.args.ticks c.from.ensures c.from-2.ensures c.ranges.rate.fits c.ranges.ticks.fits) (omega (arith, small c.args.rate c.args.ticks c.requires.slow c.requires.few))
+    natural_fits _ (c.args.rate * c.args.ticks) (product_is c.from.result c.from-2.result c.args.rate c.args.ticks c.from.ensures c.from-2.ensures c.ranges.rate.fits c.ranges.ticks.fits) (omega (arith, small c.args.rate c.args.ticks c.requires.slow c.requires.few))
 
 -- what the code computes, before it is stored
 less : (c : goal.After-from-2) → again c.args.left -ℤ again (again c.from.result *ℤ again c.from-2.result) ≡ c.args.left -ℤ pos (c.args.rate * c.args.ticks)
 less c =
-    let run = product c.from.result c.from-2.result c.args.rate c.args.ticks c.from.ensures c.from-2.ensures c.ranges.rate.fits c.ranges.ticks.fits in
+    let run = product_is c.from.result c.from-2.result c.args.rate c.args.ticks c.from.ensures c.from-2.ensures c.ranges.rate.fits c.ranges.ticks.fits in
     let used = natural_again _ (c.args.rate * c.args.ticks) run (omega (arith, small c.args.rate c.args.ticks c.requires.slow c.requires.few)) in
     ap (λ (y : ℤ). y -ℤ again (again c.from.result *ℤ again c.from-2.result)) (to_z-of_z w128 c.args.left c.ranges.left) ∙ ap (λ (y : ℤ). c.args.left -ℤ y) used
 
