@@ -85,16 +85,25 @@ pub fn compare_texts<M: Read, R: Read, W: Write>(
         (side R.remaining recorded.old recorded.new) (side W.contents writer.old writer.new))) }
 {
     let mut names = Names::new(alloc);
+    // The names go by one call on each way; at the end of the scope each of their fields would.
     let of_model = match read_text(alloc, Input::Model, model, &mut names) {
         Ok(steps) => steps,
-        Err(fault) => return Err(fault),
+        Err(fault) => {
+            drop(names);
+            return Err(fault);
+        }
     };
     let many = names.len();
     let of_recorded = match read_text(alloc, Input::Recorded, recorded, &mut names) {
         Ok(steps) => steps,
-        Err(fault) => return Err(fault),
+        Err(fault) => {
+            drop(names);
+            return Err(fault);
+        }
     };
-    let text = match report_of(alloc, options, &names, many, &of_model, &of_recorded) {
+    let told = report_of(alloc, options, &names, many, &of_model, &of_recorded);
+    drop(names);
+    let text = match told {
         Ok(text) => text,
         Err(_) => return Err(CompareFault::Memory),
     };

@@ -54,7 +54,10 @@ fn put_section(alloc: Global, out: &mut Vec<u8>, section: Section) -> Result<(),
         entries,
     } = section;
     let mut state = State::open(alloc, cpus, limit)?;
-    put_all_made(out, &mut state, entries)
+    let done = put_all_made(out, &mut state, entries);
+    // Let go of by one call; at the end of the scope each of its fields would be.
+    drop(state);
+    done
 }
 
 /// Makes the calls of sections, each section's on a domain of its own, and gives each call's line

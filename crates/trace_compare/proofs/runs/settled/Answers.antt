@@ -1,3 +1,5 @@
+use Rattle.std.proofs.Common.{arith}
+use Rattle.std.proofs.lemmas.Grind.{common_steps}
 use Rattle.trace_compare.proofs.Joining.{none_runs, none_turn, short_later, all_told, all_in_turn}
 use Rattle.trace_compare.proofs.runs.settled.Goals as goal
 
@@ -18,3 +20,9 @@ pub returns-clause-turn : goal.returns-clause-turn
 returns-clause-turn c =
     all_in_turn c.args.noise c.args.raw.now c.push_kept.new.runs.items c.in-Some.parts.0.now c.in-Some.parts.1.now c.in-Some.ensures.cases.0 c.requires.small
     (all_told c.args.noise c.args.raw.now c.loop-run.runs.items c.push_kept.new.runs.items c.loop-run.current c.in-Some.parts.0.now c.in-Some.parts.1.now c.loop-run.run-index c.in-Some.ensures.cases.0 c.loop-run-test.false c.in_ok-push_kept.ensures.kept c.loop-run.invariant.told)
+
+pub loop-run-init : goal.loop-run-init
+loop-run-init c = grind (arith, common_steps)
+
+pub loop-run-preserved : goal.loop-run-preserved
+loop-run-preserved c = grind (arith, common_steps)
