@@ -113,6 +113,7 @@ fn admit(rt: &impl Abort, desk: &mut Desk, prepared: Prepared) -> Reply
     let ticket = match desk.gate.try_take(blank, 0, prepared.bw()) {
         Take::Taken(ticket) => ticket,
         Take::Refused { blank: _, seen } => {
+            drop(prepared);
             return Reply::Busy {
                 seen: used_of(seen),
             };
@@ -123,17 +124,18 @@ fn admit(rt: &impl Abort, desk: &mut Desk, prepared: Prepared) -> Reply
             seen: _,
         } => panic!(rt; "raced"),
     };
+    // What was prepared is let go of by one call: its parts would be written out on each way.
     let (ticket, reply) = match desk.domain.admit(&mut desk.pass, prepared, ticket) {
         Admit::Admitted { blank: _ } => return Reply::Admitted,
         Admit::Busy { ticket, seen } => (ticket, Reply::Busy { seen }),
-        Admit::Full {
-            ticket,
-            prepared: _,
-        } => (ticket, Reply::Full),
-        Admit::Twice {
-            ticket,
-            prepared: _,
-        } => (ticket, Reply::Twice),
+        Admit::Full { ticket, prepared } => {
+            drop(prepared);
+            (ticket, Reply::Full)
+        }
+        Admit::Twice { ticket, prepared } => {
+            drop(prepared);
+            (ticket, Reply::Twice)
+        }
     };
     desk.gate.give(ticket);
     reply

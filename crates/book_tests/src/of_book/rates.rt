@@ -200,8 +200,8 @@ fn close_all(alloc: Global, mut books: Vec<Mutex<Desk>>) {
 #[test]
 fn half_of_the_tasks_fit(rt: HostRuntime) -> Result<(), Fail> {
     let text = b"dlcalls 1\ndomain 1 1048576\nadmit 1 1 task 4000 512000 512000 - 0 -1:1{r2,s6}\n";
-    let mut entries = calls_of(&rt, rt.alloc(), text)?;
-    let Some(entry) = entries.pop() else {
+    let entries = calls_of(&rt, rt.alloc(), text)?;
+    let Some(entry) = entries.first() else {
         panic!(rt; "no call")
     };
     for all in [1, 2, 4, 8, 64] {
