@@ -1,5 +1,5 @@
-use Rattle.std.proofs.Common.{◌≡◌, arith}
-use Rattle.std.proofs.lemmas.List.{length_push}
+use Rattle.std.proofs.Common.{◌≡◌, ◌∙◌, arith}
+use Rattle.std.proofs.lemmas.List.{length_push, take_all}
 use Rattle.std.proofs.lemmas.List.Elements.{All-push}
 use Rattle.calls_trace.specs.declared.charting.DrawnRun.{DrawnRun}
 use Rattle.calls_trace.proofs.Texts.{items_more}
@@ -16,3 +16,6 @@ loop-run-preserved c =
       count = omega (arith, i.count, length_push was one);
       room = omega (arith, i.room, c.push_reserved.ensures.capacity);
     })
+
+pub returns-clause-runs : goal.returns-clause-runs
+returns-clause-runs c = c.loop-run.invariant.items ∙ take_all c.loop-run.run-index c.args.placed.now c.loop-run-test.false

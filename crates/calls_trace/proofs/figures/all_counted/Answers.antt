@@ -1,5 +1,5 @@
-use Rattle.std.proofs.Common.{arith}
-use Rattle.std.proofs.lemmas.List.{length_push}
+use Rattle.std.proofs.Common.{map, ap, ◌∙◌, arith}
+use Rattle.std.proofs.lemmas.List.{length_push, take_all}
 use Rattle.calls_trace.specs.private.Counting.{counted_as}
 use Rattle.calls_trace.specs.private.Replaying.{view_of, summary_in}
 use Rattle.calls_trace.proofs.Texts.{views_more}
@@ -15,3 +15,6 @@ loop-run-preserved c =
       count = omega (arith, i.count, length_push was one);
       room = omega (arith, i.room, c.push_reserved.ensures.capacity);
     })
+
+pub returns : goal.returns
+returns c = c.loop-run.invariant.views ∙ ap (map (λ p. summary_in (view_of p))) (take_all c.loop-run.run-index c.args.placed.now c.loop-run-test.false)

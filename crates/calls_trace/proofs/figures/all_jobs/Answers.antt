@@ -1,5 +1,5 @@
-use Rattle.std.proofs.Common.{arith}
-use Rattle.std.proofs.lemmas.List.{length_push}
+use Rattle.std.proofs.Common.{◌∙◌, arith}
+use Rattle.std.proofs.lemmas.List.{length_push, take_all}
 use Rattle.calls_trace.specs.declared.figures.CountedJobs.{CountedJobs}
 use Rattle.calls_trace.proofs.Texts.{items_more}
 use Rattle.calls_trace.proofs.figures.all_jobs.Goals as goal
@@ -14,3 +14,6 @@ loop-run-preserved c =
       count = omega (arith, i.count, length_push was one);
       room = omega (arith, i.room, c.push_reserved.ensures.capacity);
     })
+
+pub returns : goal.returns
+returns c = c.loop-run.invariant.items ∙ take_all c.loop-run.run-index c.args.placed.now c.loop-run-test.false
