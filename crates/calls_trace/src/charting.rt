@@ -4,9 +4,11 @@ ghost use Rattle.std.specs.Prelude.{◌≡◌, ◌+◌, ◌<◌, ◌≤◌, ◌^
 ghost use Rattle.counted_io.specs.Sides.{faults_of, side};
 ghost use Rattle.switch_text.specs.Names.{named};
 ghost use Rattle.chart_pieces.specs.declared.window.Window.{Window as WindowView};
+ghost use Rattle.chart_pieces.specs.Window.{IsWindow};
 ghost use Rattle.chart_pieces.specs.Laws.{AreSeen};
 ghost use Rattle.chart_pieces.specs.Rows as pieces;
 ghost use Rattle.chart.specs.Rows as charts;
+ghost use Rattle.chart.specs.Chart as whole;
 ghost use Rattle.calls_trace.specs.Written.{IsWritten, IsUnwritten};
 ghost use Rattle.calls_trace.specs.Charted.{charted};
 ghost use Rattle.calls_trace.specs.declared.run_text.RunText.TheVariants as texts;
@@ -146,6 +148,26 @@ fn all_rows<'a>(alloc: Global, drawn: &'a [DrawnRun<'_>]) -> Result<Vec<ChartRow
 
 // ---- the text
 
+/// The chart of what is drawn of runs on so many CPUs.
+fn drawn_text(
+    alloc: Global,
+    window: Window,
+    cpus: u64,
+    drawn: &[DrawnRun<'_>],
+) -> Result<Vec<u8>, NoMemory>
+    requires few { length drawn.now ≤ 8 }
+    requires cpus { cpus ≤ 512 }
+    requires sound { IsWindow window }
+    requires window { All (λ d. d.window ≡ window) drawn.now }
+    ensures { IfOk result (λ v. v.items ≡ whole.chart_text window cpus
+        (flat_map (λ d. rows_in d.window (view_of d.placed.now)) drawn.now)) }
+{
+    let rows = all_rows(alloc, drawn)?;
+    let mut text = Vec::new(alloc);
+    put_chart(&mut text, alloc, window, cpus, &rows)?;
+    Ok(text)
+}
+
 /// The chart of a part of runs.
 fn chart_text(alloc: Global, span: Span, placed: &[PlacedRun]) -> Result<Vec<u8>, NoMemory>
     requires few { length placed.now ≤ 8 }
@@ -153,10 +175,7 @@ fn chart_text(alloc: Global, span: Span, placed: &[PlacedRun]) -> Result<Vec<u8>
 {
     let window = span.window(end_of(placed));
     let drawn = all_drawn(alloc, placed, window)?;
-    let rows = all_rows(alloc, &drawn)?;
-    let mut text = Vec::new(alloc);
-    put_chart(&mut text, alloc, window, cpus_of(placed), &rows)?;
-    Ok(text)
+    drawn_text(alloc, window, cpus_of(placed), &drawn)
 }
 
 /// Writes the chart of a part of the runs of 1 to 8 domains.

@@ -130,15 +130,23 @@ fn all_as_jobs<'a>(
     Ok(written)
 }
 
+/// The text of jobs.
+fn counted_text(alloc: Global, counted: &[CountedJobs<'_>]) -> Result<Vec<u8>, NoMemory>
+    ensures { IfOk result (λ v. v.items
+        ≡ jobs.jobs_text (map (λ c. jobs_in (view_of c.placed.now)) counted.now)) }
+{
+    let domains = all_as_jobs(alloc, counted)?;
+    let mut text = Vec::new(alloc);
+    put_jobs(&mut text, &domains)?;
+    Ok(text)
+}
+
 /// The text of the jobs of runs.
 fn jobs_text(alloc: Global, placed: &[PlacedRun]) -> Result<Vec<u8>, NoMemory>
     ensures { IfOk result (λ v. v.items ≡ text_of_runs texts.Jobs placed.now) }
 {
     let counted = all_jobs(alloc, placed)?;
-    let domains = all_as_jobs(alloc, &counted)?;
-    let mut text = Vec::new(alloc);
-    put_jobs(&mut text, &domains)?;
-    Ok(text)
+    counted_text(alloc, &counted)
 }
 
 // ---- the summary

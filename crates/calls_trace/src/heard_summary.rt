@@ -6,7 +6,8 @@ ghost use Rattle.counted_io.specs.Sides.{faults_of, side};
 ghost use Rattle.call_book.specs.Book.{IsLegal};
 ghost use Rattle.call_book.specs.Histories.{AreLegal};
 ghost use Rattle.switch_text.specs.Names.{named};
-ghost use Rattle.calls_trace.specs.Told.{domain_of, names_in, summary_view, summary_of_sections};
+ghost use Rattle.run_figures.specs.Runs as counted;
+ghost use Rattle.calls_trace.specs.Told.{admitted, domain_of, names_in, params_in, summary_view, summary_of_sections};
 ghost use Rattle.calls_trace.specs.Heard.{AreHeard, AreRunsButSwitches, heard_of};
 ghost use Rattle.calls_trace.specs.Written.{IsWritten, IsUnwritten};
 ghost use Rattle.calls_trace.specs.private.Counting.{counted_as};
@@ -18,7 +19,7 @@ use crate::named_run::{names_of, params_of};
 use call_book::Section;
 use domain_run::{NoMemory, State};
 use indexmap::IndexMap;
-use run_figures::Accounting;
+use run_figures::{Accounting, Admitted};
 use std::alloc::Global;
 use std::io::Write;
 use switch_text::Counted;
@@ -35,6 +36,17 @@ fn all_names(alloc: Global, histories: &[Section]) -> Result<Vec<IndexMap<u32, S
     Ok(all)
 }
 
+/// The tasks of the run of a history, with the parameters that its replies tell.
+fn tasks_heard(alloc: Global, history: &Section, state: &State) -> Result<Vec<Admitted>, NoMemory>
+    requires { IsLegal history.now.cpus history.now.limit history.now.entries }
+    ensures tasks { IfOk result (λ v. v.items
+        ≡ map (admitted (params_in history.now)) state.now.used) }
+    ensures apart { IfOk result (λ v. counted.AreTasks v.items) }
+{
+    let given = params_of(alloc, history)?;
+    tasks_of(alloc, state, &given)
+}
+
 /// The figures of the run of a history, which was heard.
 fn count_heard<'a>(
     alloc: Global,
@@ -49,8 +61,7 @@ fn count_heard<'a>(
     requires heard { heard.now ≡ heard_of history.now }
     ensures { IfOk result (λ c. counted_as c ≡ summary_view history.now) }
 {
-    let given = params_of(alloc, history)?;
-    let tasks = tasks_of(alloc, state, &given)?;
+    let tasks = tasks_heard(alloc, history, state)?;
     let summary = heard.summary(alloc, &tasks)?;
     Ok(CountedRun::of(names, state, summary))
 }

@@ -1,6 +1,6 @@
 //! Calls that are kept until they are made.
 
-ghost use Rattle.std.specs.Prelude.{◌≡◌};
+ghost use Rattle.std.specs.Prelude.{◌≡◌, ◌+◌, ◌≤◌, OnOk, vec_len, vec_capacity};
 
 use call_book::{Kept, Spelled};
 use domain_run::{Call, NoMemory};
@@ -54,6 +54,18 @@ impl Model for KeptCalls {
     ghost invariant = { λ k. sum_by is_long k.order.items ≡ length k.long.items };
 }
 
+/// Room for one call more that is not short.
+fn make_room(order: &mut Vec<Place>, long: &mut Vec<Spelled>) -> Result<(), NoMemory>
+    ensures order { order.new.items ≡ order.old.items }
+    ensures long { long.new.items ≡ long.old.items }
+    ensures order_room { OnOk result (vec_len order.new + 1 ≤ vec_capacity order.new) }
+    ensures long_room { OnOk result (vec_len long.new + 1 ≤ vec_capacity long.new) }
+{
+    order.try_reserve(1)?;
+    long.try_reserve(1)?;
+    Ok(())
+}
+
 impl KeptCalls {
     ghost use Rattle.std.specs.Prelude.{◌≡◌, [], ◌∷◌, ◌++◌, ◌≤◌, OnOk, sum_by};
     ghost use Rattle.call_book.specs.Limits.{IsCall};
@@ -87,8 +99,11 @@ impl KeptCalls {
     fn push_long(&mut self, spelled: Spelled) -> Result<(), NoMemory>
         ensures { OnOk result (self.new ≡ self.old ++ spelled.call ∷ []) }
     {
-        self.order.try_reserve(1)?;
-        self.long.try_reserve(1)?;
+        // What finds no room is let go of by one call: its parts would be written out.
+        if let Err(error) = make_room(&mut self.order, &mut self.long) {
+            drop(spelled);
+            return Err(error);
+        }
         self.order.push_reserved(Place::Long);
         self.long.push_reserved(spelled);
         Ok(())

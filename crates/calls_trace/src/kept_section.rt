@@ -64,8 +64,18 @@ pub(crate) fn section_read(
         limit,
         calls: KeptCalls::new(alloc),
     };
-    while let Some(kept) = next_of(alloc, reader)? {
-        section.calls.push(kept)?;
+    // The section is let go of by one call: its parts would be written out on each way.
+    'calls: while let Some(kept) = match next_of(alloc, reader) {
+        Ok(found) => found,
+        Err(error) => {
+            drop(section);
+            return Err(error);
+        }
+    } {
+        if let Err(error) = section.calls.push(kept) {
+            drop(section);
+            return Err(error);
+        }
     }
     Ok(section)
 }

@@ -41,8 +41,9 @@ pub(crate) struct Playing {
 }
 
 impl NamedDomain {
-    ghost use Rattle.std.specs.Prelude.{◌<◌};
+    ghost use Rattle.std.specs.Prelude.{◌<◌, IfOk};
     ghost use Rattle.std.specs.String.{string_bytes};
+    ghost use Rattle.domain_run.specs.Domain.{IsLimit, opened};
     ghost use Rattle.domain_run.specs.declared.call.Call.TheVariants as Call;
     ghost use Rattle.domain_run.specs.Calls.{after_call};
     ghost use Rattle.domain_run.specs.Tick.{ticks};
@@ -52,6 +53,32 @@ impl NamedDomain {
     ghost use Rattle.calls_trace.specs.private.Replaying.{Gives};
     ghost use Rattle.call_book.specs.NameGiven.{name_given};
     ghost use Rattle.calls_trace.specs.private.Kept.{room_of};
+
+    /// A domain of which no call is made yet, with room for so many names.
+    fn open(alloc: Global, cpus: u32, limit: u64, room: usize) -> Result<NamedDomain, NoMemory>
+        requires cpus { (0 < cpus) × (cpus ≤ 64) }
+        requires limit { IsLimit limit }
+        ensures domain { IfOk result (λ d. d.domain ≡ opened cpus limit) }
+        ensures names { IfOk result (λ d. Gives d.names no_names) }
+        ensures room { IfOk result (λ d. room ≤ spare d.names) }
+    {
+        // The names are let go of by one call: their parts would be written out on each way.
+        let names = room_for_names(alloc, room)?;
+        let state = match State::open(alloc, cpus, limit) {
+            Ok(state) => state,
+            Err(error) => {
+                drop(names);
+                return Err(error);
+            }
+        };
+        match Buffered::of(state) {
+            Ok(domain) => Ok(NamedDomain { domain, names }),
+            Err(error) => {
+                drop(names);
+                Err(error)
+            }
+        }
+    }
 
     /// Puts down a name in the room for it.
     fn put(&mut self, number: u32, text: String)
@@ -172,10 +199,16 @@ impl Playing {
             → IfOk result (λ p. (n : ℕ) → all_names p n ≡ names_in section n) }
     {
         let KeptSection { cpus, limit, calls } = kept;
-        let names = room_for_names(alloc, calls.room())?;
-        let domain = Buffered::of(State::open(alloc, cpus, limit)?)?;
+        // The calls are let go of by one call: their parts would be written out on each way.
+        let domain = match NamedDomain::open(alloc, cpus, limit, calls.room()) {
+            Ok(domain) => domain,
+            Err(error) => {
+                drop(calls);
+                return Err(error);
+            }
+        };
         Ok(Playing {
-            run: NamedDomain { domain, names },
+            run: domain,
             left: 0,
             calls: calls.into_left(alloc),
         })

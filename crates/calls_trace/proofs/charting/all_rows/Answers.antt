@@ -1,5 +1,6 @@
 use Rattle.std.proofs.Common.{◌≡◌, map, sym, ap, subst, ◌∙◌, arith}
-use Rattle.std.specs.Prelude.{All}
+use Rattle.std.specs.Prelude.{All, flat_map}
+use Rattle.std.proofs.lemmas.List.{take_all}
 use Rattle.chart_pieces.specs.declared.window.Window.{Window}
 use Rattle.chart.specs.Rows as charts
 use Rattle.calls_trace.specs.declared.charting.DrawnRun.{DrawnRun}
@@ -21,3 +22,7 @@ loop-one-preserved c =
           subst (λ (x : Window). All (charts.IsDrawn x) is) e (c.in_ok-push_rows.ensures.drawn (subst (λ (x : Window). All (charts.IsDrawn x) was) (sym e) (i.drawn w same)));
       few = omega (arith, i.few, c.in_ok-push_rows.ensures.few);
     }
+
+pub returns-clause-rows : goal.returns-clause-rows
+returns-clause-rows c =
+    c.loop-one.invariant.rows ∙ ap (flat_map (λ (d : DrawnRun). rows_in d.window (view_of d.placed.now))) (take_all c.loop-one.one-index c.args.drawn.now c.loop-one-test.false)

@@ -1,6 +1,7 @@
-use Rattle.std.proofs.Common.{◌≡◌, map, sym, ap, subst, ◌∙◌}
+use Rattle.std.proofs.Common.{◌≡◌, map, sym, ap, subst, ◌∙◌, arith}
 use Rattle.std.proofs.lemmas.List.{take_all}
 use Rattle.run_figures.specs.Runs.{AreTasks}
+use Rattle.std.proofs.lemmas.Grind.{common_steps}
 use Rattle.calls_trace.specs.Told.{admitted}
 use Rattle.calls_trace.specs.private.Replaying.{given_in}
 use Rattle.calls_trace.proofs.Texts.{tasks_apart}
@@ -13,3 +14,9 @@ returns-clause-apart c =
     let are : c.loop-number.tasks.items ≡ map (admitted given) numbers =
     c.loop-number.invariant.tasks ∙ ap (map (admitted given)) (take_all c.loop-number.number-index c.deref-number-items.result.now c.loop-number-test.false ∙ c.deref-number-items.ensures.value) in
     subst AreTasks (sym are) (tasks_apart given numbers c.in_ok-numbers.ensures.small c.in_ok-numbers.ensures.apart)
+
+pub loop-number-preserved : goal.loop-number-preserved
+loop-number-preserved c = grind (arith, common_steps)
+
+pub returns-clause-tasks : goal.returns-clause-tasks
+returns-clause-tasks c = grind (arith, common_steps)

@@ -1,7 +1,11 @@
-use Rattle.std.proofs.Common.{◌<◌, length, arith}
-use Rattle.std.proofs.lemmas.List.{length_push}
+use Rattle.std.proofs.Common.{◌<◌, length, map, sym, ap, subst, ◌∙◌, arith}
+use Rattle.std.proofs.lemmas.List.{length_push, take_all}
+use Rattle.domain_run.specs.Passing.{without_switches}
+use Rattle.call_book.specs.SectionView.{SectionView}
+use Rattle.call_book.specs.Book.{IsLegal}
 use Rattle.switch_text.specs.Names.{named}
-use Rattle.calls_trace.specs.Told.{names_in, summary_view}
+use Rattle.calls_trace.specs.Told.{domain_of, names_in, summary_view}
+use Rattle.calls_trace.specs.Heard.{heard_of}
 use Rattle.calls_trace.specs.private.Counting.{counted_as}
 use Rattle.calls_trace.proofs.Texts.{views_more}
 use Rattle.calls_trace.proofs.Figured.{one_of_all}
@@ -23,3 +27,23 @@ loop-place-preserved c =
       count = omega (arith, i.count, length_push was one);
       room = omega (arith, i.room, c.push_reserved.ensures.capacity);
     })
+
+pub count_heard-requires-clause-legal : goal.count_heard-requires-clause-legal
+count_heard-requires-clause-legal c =
+    let h = c.index-histories-place.result in
+    subst (λ (s : SectionView). IsLegal s.cpus s.limit s.entries) (sym c.index-histories-place.is) (c.requires.legal c.loop-place.place h c.loop-place-test.true)
+
+pub count_heard-requires-clause-state : goal.count_heard-requires-clause-state
+count_heard-requires-clause-state c =
+    ap without_switches c.index-states-place.is
+    ∙ c.requires.runs c.loop-place.place c.index-histories-place.result c.index-states-place.result c.loop-place-test.true
+    ∙ ap (λ (s : SectionView). without_switches (domain_of s)) (sym c.index-histories-place.is)
+
+pub count_heard-requires-clause-heard : goal.count_heard-requires-clause-heard
+count_heard-requires-clause-heard c =
+    c.index-heard-place.is
+    ∙ c.requires.heard c.loop-place.place c.index-histories-place.result c.index-heard-place.result c.loop-place-test.true
+    ∙ ap heard_of (sym c.index-histories-place.is)
+
+pub returns : goal.returns
+returns c = c.loop-place.invariant.views ∙ ap (map summary_view) (take_all c.loop-place.place c.args.histories.now c.loop-place-test.false)

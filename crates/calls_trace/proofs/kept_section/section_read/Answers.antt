@@ -10,8 +10,8 @@ use Rattle.calls_trace.specs.Replay.{calls_of}
 use Rattle.calls_trace.proofs.ReadRuns.{calls_push}
 use Rattle.calls_trace.proofs.kept_section.section_read.Goals as goal
 
-pub loop-section-init : goal.loop-section-init
-loop-section-init c = record {
+pub calls-init : goal.calls-init
+calls-init c = record {
   so_far = λ text before w. record {
     section = begun c.args.cpus c.args.limit;
     within = w;
@@ -20,21 +20,21 @@ loop-section-init c = record {
 }
 
 pub push-requires : goal.push-requires
-push-requires c = subst (λ (o : Option Kept). IfSome o (λ k. IsCall (call_of k))) c.in-Some.is c.in_ok-kept.ensures.call
+push-requires c = subst (λ (o : Option Kept). IfSome o (λ k. IsCall (call_of k))) c.in-Some.is c.in-Ok.ensures.call
 
-pub loop-section-preserved : goal.loop-section-preserved
-loop-section-preserved c = record {
+pub calls-preserved : goal.calls-preserved
+calls-preserved c = record {
   so_far = λ text before w.
-      let m = c.loop-section.invariant.so_far text before w in
+      let m = c.calls.invariant.so_far text before w in
       let k = c.in-Some.kept in
-      let next : IsNextCall text before m.section c.next_of.new.reader k = subst (λ (o : Option Kept). IsNextKept text before m.section c.next_of.new.reader (Ok o)) c.in-Some.is (c.in_ok-kept.ensures.next text before m.section m.within) in
+      let next : IsNextCall text before m.section c.next_of.new.reader k = subst (λ (o : Option Kept). IsNextKept text before m.section c.next_of.new.reader (Ok o)) c.in-Some.is (c.in-Ok.ensures.next text before m.section m.within) in
       record {
         section = with_entries m.section (next.entry ∷ []);
         within = next.within;
         same = record {
           same_cpus = m.same.same_cpus;
           same_limit = m.same.same_limit;
-          same_calls = c.in_ok-push.ensures
+          same_calls = c.in_default-push.ensures
               ∙ ap (λ (cs : List Call). cs ++ call_of k ∷ []) m.same.same_calls
               ∙ ap (λ (one : Call). calls_of m.section ++ one ∷ []) (sym next.same)
               ∙ sym (calls_push m.section next.entry);
@@ -45,11 +45,11 @@ loop-section-preserved c = record {
 pub returns : goal.returns
 returns c = record {
   read = λ text before w.
-      let m = c.loop-section.invariant.so_far text before w in
+      let m = c.calls.invariant.so_far text before w in
       record {
         section = m.section;
-        is = section_within text before m.section c.loop-section.reader m.within;
-        behind = subst (λ (o : Option Kept). IsNextKept text before m.section c.next_of.new.reader (Ok o)) c.in_default.is (c.in_ok-kept.ensures.next text before m.section m.within);
+        is = section_within text before m.section c.calls.reader m.within;
+        behind = subst (λ (o : Option Kept). IsNextKept text before m.section c.next_of.new.reader (Ok o)) c.in_default.is (c.in-Ok.ensures.next text before m.section m.within);
         same = m.same;
       };
 }

@@ -4,10 +4,10 @@ use Rattle.call_book.specs.Reader.{IsWithin, begun, left}
 use Rattle.calls_trace.specs.private.Kept.{IsKeptSoFar}
 use Rattle.calls_trace.proofs.kept_section.section_read.Given as goal
 
-abbrev pub invariant-loop-section : goal.invariant-loop-section
-invariant-loop-section l = record {
+abbrev pub invariant-calls : goal.invariant-calls
+invariant-calls l = record {
   so_far : (text : List ℕ) (before : List SectionView) → IsWithin text before (begun l.fn.cpus l.fn.limit) l.fn.reader → IsKeptSoFar text before l.reader l.section;
 }
 
-abbrev pub decreases-loop-section : goal.decreases-loop-section
-decreases-loop-section l = left l.reader
+abbrev pub decreases-calls : goal.decreases-calls
+decreases-calls l = left l.reader

@@ -1,8 +1,8 @@
-use Rattle.std.proofs.Common.{arith}
-use Rattle.std.proofs.lemmas.List.{length_push}
+use Rattle.std.proofs.Common.{map, sym, ap, subst, ◌∙◌, arith}
+use Rattle.std.proofs.lemmas.List.{length_push, take_all}
 use Rattle.std.proofs.lemmas.List.Elements.{All-push}
 use Rattle.switch_text.specs.Telling.{told_view, IsTold}
-use Rattle.calls_trace.specs.private.Replaying.{view_of, told_in}
+use Rattle.calls_trace.specs.private.Replaying.{IsPlaced, view_of, told_in}
 use Rattle.calls_trace.proofs.Texts.{views_more}
 use Rattle.calls_trace.proofs.trace.all_as_told.Goals as goal
 
@@ -16,3 +16,12 @@ loop-run-preserved c =
       count = omega (arith, i.count, length_push c.loop-run.told.items one);
       room = omega (arith, i.room, c.push_reserved.ensures.capacity);
     })
+
+pub as_told-requires : goal.as_told-requires
+as_told-requires c = subst IsPlaced (sym c.run-item.is) (c.requires c.loop-run.run-index c.run-item.result c.loop-run-test.true)
+
+pub returns-clause-views : goal.returns-clause-views
+returns-clause-views c = c.loop-run.invariant.views ∙ ap (map (λ p. told_in (view_of p))) (take_all c.loop-run.run-index c.args.placed.now c.loop-run-test.false)
+
+pub returns-clause-told : goal.returns-clause-told
+returns-clause-told c = c.loop-run.invariant.told

@@ -1,9 +1,11 @@
-use Rattle.std.proofs.Common.{List, ℕ, sym, subst}
+use Rattle.std.proofs.Common.{List, ℕ, length, sym, ap, subst, arith}
 use Rattle.std.specs.Prelude.{All}
 use Rattle.std.specs.Io.KnownBytes.{Appends}
-use Rattle.switch_text.specs.Runs.{IsRun}
+use Rattle.std.proofs.lemmas.List.{length-map}
+use Rattle.switch_text.specs.Runs.{IsRun, view_of as view_in}
 use Rattle.counted_io.specs.Sides.{Side, side}
 use Rattle.counted_io.specs.Faults.{TakesFront}
+use Rattle.calls_trace.specs.private.Replaying.{view_of, run_in}
 use Rattle.calls_trace.proofs.Texts.{trace_is}
 use Rattle.calls_trace.proofs.trace.write_trace_of.Goals as goal
 
@@ -21,3 +23,10 @@ returns-clause-err g c =
     let w : Side = side g.W.Write.contents c.args.writer.now c.write_trace_in.new.writer in
     let same = trace_is c.in_ok-written.written.items c.deref.result.now c.args.placed.now c.deref.ensures.value c.in_ok-written.ensures.views in
     record { taken = subst (λ (t : List ℕ). TakesFront w.before.bytes w.after.bytes t c.in-Err.fault.written) same c.in-Err.ensures.err; writes = c.in-Err.ensures.faults }
+
+pub write_trace_in-requires-clause-few : goal.write_trace_in-requires-clause-few
+write_trace_in-requires-clause-few g c =
+    let long = ap length c.in_ok-written.ensures.views in
+    let many = length-map c.in_ok-written.written.items view_in in
+    let runs = length-map c.args.placed.now (λ p. run_in (view_of p)) in
+    omega (arith, long, many, runs, ap length c.deref.ensures.value, c.requires.few)

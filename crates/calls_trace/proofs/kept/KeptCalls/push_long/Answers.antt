@@ -12,7 +12,7 @@ returns c =
     let order = c.self.inside.order.items in
     let long = c.self.inside.long.items in
     let s = c.args.spelled in
-    ap (λ (ks : List Place). calls_in ks c.push_reserved-2.new.self.items) (c.push_reserved.ensures.items ∙ ap (λ (ks : List Place). ks ++ Long ∷ []) c.in_ok-try_reserve.ensures.items)
-    ∙ ap (λ (ss : List Spelled). calls_in (order ++ Long ∷ []) ss) (c.push_reserved-2.ensures.items ∙ ap (λ (ss : List Spelled). ss ++ s ∷ []) c.in_ok-try_reserve-2.ensures.items)
+    ap (λ (ks : List Place). calls_in ks c.push_reserved-2.new.self.items) (c.push_reserved.ensures.items ∙ ap (λ (ks : List Place). ks ++ Long ∷ []) c.make_room.ensures.order)
+    ∙ ap (λ (ss : List Spelled). calls_in (order ++ Long ∷ []) ss) (c.push_reserved-2.ensures.items ∙ ap (λ (ss : List Spelled). ss ++ s ∷ []) c.make_room.ensures.long)
     ∙ calls_append order (Long ∷ []) long (s ∷ []) c.self.invariant
     ∙ ap (λ (cs : List Call). cs ++ s.call ∷ []) c.self.view_is

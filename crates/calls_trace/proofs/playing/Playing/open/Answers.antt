@@ -21,22 +21,22 @@ invariant_of-result-clause-kept c =
 pub invariant_of-result-clause-room : goal.invariant_of-result-clause-room
 invariant_of-result-clause-room c =
     let same = ap (sum_by room_of) c.into_left.ensures in
-    omega (arith, same, c.room.ensures, c.in_ok-names.ensures.room)
+    omega (arith, same, c.room.ensures, c.in-Ok.ensures.room)
 
 pub invariant_of-result-clause-early : goal.invariant_of-result-clause-early
 invariant_of-result-clause-early c =
     let r = c.requires in
     let many : length c.into_left.result ≡ length r.section.entries = ap (λ (cs : List Call). length cs) (c.into_left.ensures ∙ r.same.same_calls) ∙ length-map r.section.entries (λ e. e.call) in
-    let time = ap (λ (d : Domain). d.time) (c.in_ok-domain.ensures ∙ c.in_ok-open.ensures) in
+    let time = ap (λ (d : Domain). d.time) c.in-Ok.ensures.domain in
     omega (arith, many, time, r.is.most_entries)
 
 pub returns-clause-names : goal.returns-clause-names
 returns-clause-names c = λ s same.
-    let d = c.in_ok-domain.domain in
-    let names = c.in_ok-names.names in
+    let d = c.in-Ok.domain.domain in
+    let names = c.in-Ok.domain.names in
     let calls : c.into_left.result ≡ calls_of s = c.into_left.ensures ∙ same.same_calls in
-    let state : d ≡ opened s.cpus s.limit = c.in_ok-domain.ensures ∙ c.in_ok-open.ensures ∙ ap (λ (n : ℕ). opened n c.args.kept.limit) same.same_cpus ∙ ap (λ (n : ℕ). opened s.cpus n) same.same_limit in
-    let nobody : named names ≡ no_names = λ i m. c.in_ok-names.ensures.empty m i in
+    let state : d ≡ opened s.cpus s.limit = c.in-Ok.ensures.domain ∙ ap (λ (n : ℕ). opened n c.args.kept.limit) same.same_cpus ∙ ap (λ (n : ℕ). opened s.cpus n) same.same_limit in
+    let nobody : named names ≡ no_names = λ i m. c.in-Ok.ensures.names m i in
     λ n.
     ap (λ (cs : List Call). names_of d cs (named names) n) calls
     ∙ ap (λ (e : Domain). names_of e (calls_of s) (named names) n) state

@@ -1,0 +1,20 @@
+use Rattle.std.proofs.Common.{◌≡◌, List, ◌+◌, ◌∷◌, drop, sym, ap, ◌∙◌}
+use Rattle.std.proofs.lemmas.List.{drop_more}
+use Rattle.call_book.specs.declared.section.Entry.{Entry}
+use Rattle.calls_trace.specs.private.Replaying.{given_in}
+use Rattle.calls_trace.specs.private.Recorded.{params_given_by, params_given_by_all}
+use Rattle.calls_trace.proofs.named_run.params_given.Goals as goal
+
+pub loop-entry-preserved : goal.loop-entry-preserved
+loop-entry-preserved c =
+    let i = c.loop-entry.entry-index in
+    let entry = c.entry-item.result in
+    let entries = c.args.entries.now in
+    let was = given_in c.loop-entry.given in
+    let is = given_in c.put_given_params.new.given in
+    let rest = drop (i + 1) entries in
+    let same : is ≡ params_given_by entry was = λ j n. c.in_ok-put_given_params.ensures.ok n j in
+    ap (params_given_by_all rest) same
+    ∙ ap (λ (e : Entry). params_given_by_all (e ∷ rest) was) c.entry-item.is
+    ∙ sym (ap (λ (es : List Entry). params_given_by_all es was) (drop_more entries i entry c.loop-entry-test.true))
+    ∙ c.loop-entry.invariant
