@@ -1,7 +1,7 @@
 -- Marks for numbers that stand in a list.
-use Rattle.std.proofs.Common.{ℕ, ◌≡◌, ◌<◌, ◌+◌, ◌==◌, Bool, true, false, List, [], ◌∷◌, ◌++◌, map, length, get_or, set, drop, take, refl, sym, ap, ◌∙◌, Some, None, arith, length-set}
+use Rattle.std.proofs.Common.{ℕ, ◌≡◌, ◌<◌, ◌+◌, ◌==◌, Bool, true, false, List, [], ◌∷◌, ◌++◌, map, length, get_or, set, replicate, drop, take, refl, sym, ap, ◌∙◌, Some, None, arith, length-set}
 use Rattle.std.proofs.lemmas.Bool.Decides.{nat_tests}
-use Rattle.std.proofs.lemmas.List.{take_more, map-append}
+use Rattle.std.proofs.lemmas.List.{take_more, map-append, get_or-replicate, length-replicate}
 use Rattle.std.proofs.lemmas.List.Folds.{list_any-append}
 use Rattle.std.proofs.lemmas.Grind.{common_steps, get_or-set_at}
 use Rattle.std.specs.List.{list_any}
@@ -17,6 +17,10 @@ mark_more seen ns n k h long e = rw (list_any-append (λ m. m == k) ns (n ∷ []
 
 pub marked : (seen : List Bool) (ns : List ℕ) (n : ℕ) → n < 512 → AreMarks seen ns → AreMarks (set seen n true) (ns ++ n ∷ [])
 marked seen ns n h are = record { long = length-set seen n true ∙ are.long; mark = λ k below. mark_more seen ns n k h are.long (are.mark k below) }
+
+-- no mark stands at first
+pub none_marked : AreMarks (replicate 512 false) []
+none_marked = record { long = length-replicate 512 false; mark = λ k below. get_or-replicate 512 k false false below }
 
 -- the numbers before, with one item more
 pub numbers_more : (items : List Tree) (i : ℕ) (item : Tree) (n : ℕ) → i < length items → item ≡ get_or items i item → natural_within 0 511 (json_of item) ≡ Some n

@@ -2,6 +2,7 @@ use Rattle.std.proofs.Common.{◌≡◌, ◌+◌, ◌-◌, true, length, take, d
 use Rattle.std.specs.List.{All}
 use Rattle.std.proofs.lemmas.List.{take_all, length-drop}
 use Rattle.std.proofs.lemmas.List.Elements.{All-append}
+use Rattle.std.proofs.lemmas.Grind.{common_steps}
 use Rattle.json_order.specs.Grammar.{is_plain}
 use Rattle.json_order.proofs.taking.plain_by_pieces.Goals as goal
 
@@ -25,3 +26,9 @@ returns-clause-plain c =
     let r = c.plain_by_one.result in
     let behind : All (λ b. is_plain b ≡ true) (take r (drop n bytes)) = subst (λ xs. All (λ b. is_plain b ≡ true) (take r xs)) whole c.plain_by_one.ensures.plain in
     subst (All (λ b. is_plain b ≡ true)) (sym (take-add n r bytes)) (All-append (λ b. is_plain b ≡ true) (take n bytes) (take r (drop n bytes)) c.pieces.invariant.plain behind)
+
+pub returns-clause-within : goal.returns-clause-within
+returns-clause-within c = grind (arith, common_steps)
+
+pub returns-clause-ends : goal.returns-clause-ends
+returns-clause-ends c = grind (arith, common_steps)

@@ -5,6 +5,7 @@ use Rattle.std.proofs.lemmas.List.{map-append, append_assoc}
 use Rattle.std.proofs.lemmas.List.Sums.{sum_by_push}
 use Rattle.json_order.specs.Seen.{json_of}
 use Rattle.json_order.specs.declared.tree.Tree.{Tree}
+use Rattle.std.proofs.lemmas.Grind.{common_steps}
 use Rattle.rtapp_scenario.specs.Values.{Member, member_of, members_of, members}
 use Rattle.rtapp_scenario.specs.Faults.{Fault}
 use Rattle.rtapp_scenario.specs.Threads.{instances, thread_ref}
@@ -76,3 +77,45 @@ returns-in-Err-check_beside-clause-fault c =
     sym (ap (λ (rs : List (Option (List ℕ))). beside_fault rs c.loop-thread.others own_members) seen ∙ ap (λ (n : ℕ). beside_fault (refs_in before) n own_members) inv.others ∙ ap (beside_fault (refs_in before) (tasks_in before)) c.members-members.ensures) ∙ sym c.in-Err-check_beside.ensures.flaw in
     let found : thread_fault before (member_of thread) ≡ Some fault = rw (own, beside) refl in
     subst (λ (o : Option Fault). IsTold o c.fault_of-in-Err-check_beside.result) (order_found thread_fault threads i thread fault c.loop-thread-test.true c.thread-item.is found inv.passed) c.fault_of-in-Err-check_beside.ensures
+
+pub loop-thread-init : goal.loop-thread-init
+loop-thread-init c = grind (arith, common_steps)
+
+pub returns-in_err-add_thread-clause-fault : goal.returns-in_err-add_thread-clause-fault
+returns-in_err-add_thread-clause-fault c = grind (arith, common_steps)
+
+pub returns-in_err-push-clause-fault : goal.returns-in_err-push-clause-fault
+returns-in_err-push-clause-fault c = grind (arith, common_steps)
+
+pub returns-clause-passed : goal.returns-clause-passed
+returns-clause-passed c = grind (arith, common_steps)
+
+pub returns-clause-found : goal.returns-clause-found
+returns-clause-found c = grind (arith, common_steps)
+
+pub returns-clause-limits : goal.returns-clause-limits
+returns-clause-limits c = grind (arith, common_steps)
+
+pub add_thread-requires-clause-most : goal.add_thread-requires-clause-most
+add_thread-requires-clause-most c = grind (arith, common_steps)
+
+pub add_thread-requires-clause-passed : goal.add_thread-requires-clause-passed
+add_thread-requires-clause-passed c = sym c.in_default.ensures
+
+pub overflow_add-others : goal.overflow_add-others
+overflow_add-others c = omega (arith, c.in_default-check_beside.ensures.most, c.instances-others.ensures.value)
+
+pub returns-clause-fault : goal.returns-clause-fault
+returns-clause-fault c = grind (arith, common_steps)
+
+pub returns-in-Err-clause-passed : goal.returns-in-Err-clause-passed
+returns-in-Err-clause-passed c = grind (arith, common_steps)
+
+pub returns-in-Err-check_beside-clause-passed : goal.returns-in-Err-check_beside-clause-passed
+returns-in-Err-check_beside-clause-passed c = grind (arith, common_steps)
+
+pub returns-in_err-add_thread-clause-passed : goal.returns-in_err-add_thread-clause-passed
+returns-in_err-add_thread-clause-passed c = grind (arith, common_steps)
+
+pub returns-in_err-push-clause-passed : goal.returns-in_err-push-clause-passed
+returns-in_err-push-clause-passed c = grind (arith, common_steps)

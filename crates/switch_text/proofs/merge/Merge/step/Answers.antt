@@ -1,6 +1,7 @@
-use Rattle.std.proofs.Common.{arith}
+use Rattle.std.proofs.Common.{subst, sym, arith}
 use Rattle.std.proofs.lemmas.List.{length-map}
-use Rattle.switch_text.specs.Runs.{view_of, views}
+use Rattle.std.proofs.lemmas.List.Elements.{All-get_or}
+use Rattle.switch_text.specs.Runs.{IsRun, view_of, views}
 use Rattle.switch_text.specs.private.Winning.{AreHeads}
 use Rattle.switch_text.proofs.Merged.{IsPlaced, heads_stepped}
 use Rattle.switch_text.proofs.merge.Merge.step.Goals as goal
@@ -28,3 +29,9 @@ returns-then-runs-gt1-clause-heads c =
 
 pub returns-else-runs-gt1-clause-heads : goal.returns-else-runs-gt1-clause-heads
 returns-else-runs-gt1-clause-heads c = record { several = λ more. absurd (omega (arith, length-map c.args.runs.now view_of, more)); alone = c.requires.heads.alone }
+
+pub head_at-requires : goal.head_at-requires
+head_at-requires c = (let n = c.args.next.now in subst IsRun (sym c.requires.run.is) (All-get_or IsRun c.args.runs.now n.index n.run.now c.requires.run.inside c.requires.runs))
+
+pub change-requires-clause-place : goal.change-requires-clause-place
+change-requires-clause-place c = omega (arith, c.requires.run.inside, c.requires.few)
