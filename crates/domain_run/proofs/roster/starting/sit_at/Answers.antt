@@ -3,6 +3,7 @@ use Rattle.std.proofs.lemmas.List.{get_or_default}
 use Rattle.std.proofs.Math.Nat.{mul-le-mul}
 use Rattle.attr_check.specs.Ratio.{cap}
 use Rattle.grub_rules.proofs.CallerLemmas.{uinact-le-total_bw}
+use Rattle.std.proofs.lemmas.Grind.{common_steps}
 use Rattle.domain_run.specs.declared.task.Task.{Task}
 use Rattle.domain_run.specs.Tick.{shares}
 use Rattle.domain_run.specs.private.Doubts.{IsTrusted}
@@ -66,3 +67,54 @@ returns-clause-trust c i o other was =
     let w = length c.args.accounts.now.all in
     subst (λ (v : SeatsView). IsTrusted c.clear_for.new.self w o v.seats tasks i) (sym c.sit_down.ensures)
     (seat_other c.args.doubts.now c.clear_for.new.self w c.args.cpu i o (Some c.seat_for-seat.result) s.seats tasks (q.others i other) (q.elsewhere i other) q.sum q.limit other was)
+
+pub rating_of-rating-requires-clause-there : goal.rating_of-rating-requires-clause-there
+rating_of-rating-requires-clause-there c = grind (arith, common_steps)
+
+pub rating_of-rating-requires-clause-cpus : goal.rating_of-rating-requires-clause-cpus
+rating_of-rating-requires-clause-cpus c = grind (arith, common_steps)
+
+pub rating_of-rating-requires-clause-limit : goal.rating_of-rating-requires-clause-limit
+rating_of-rating-requires-clause-limit c = grind (arith, common_steps)
+
+pub rating_of-rating-requires-clause-within : goal.rating_of-rating-requires-clause-within
+rating_of-rating-requires-clause-within c = grind (arith, common_steps)
+
+pub seat_for-seat-requires-clause-turns : goal.seat_for-seat-requires-clause-turns
+seat_for-seat-requires-clause-turns c = grind (arith, common_steps)
+
+pub seat_for-seat-requires-clause-slow : goal.seat_for-seat-requires-clause-slow
+seat_for-seat-requires-clause-slow c = grind (arith, common_steps)
+
+pub seat_for-seat-requires-clause-rated : goal.seat_for-seat-requires-clause-rated
+seat_for-seat-requires-clause-rated c = grind (arith, common_steps)
+
+pub seat_for-seat-requires-clause-early : goal.seat_for-seat-requires-clause-early
+seat_for-seat-requires-clause-early c = grind (arith, common_steps)
+
+pub sit_down-requires-clause-there : goal.sit_down-requires-clause-there
+sit_down-requires-clause-there c = grind (arith, common_steps)
+
+pub sit_down-requires-clause-ahead : goal.sit_down-requires-clause-ahead
+sit_down-requires-clause-ahead c = grind (arith, common_steps)
+
+pub returns-clause-clock : goal.returns-clause-clock
+returns-clause-clock c = grind (arith, common_steps)
+
+pub returns-clause-wide : goal.returns-clause-wide
+returns-clause-wide c = grind (arith, common_steps)
+
+pub returns-clause-others : goal.returns-clause-others
+returns-clause-others c = grind (arith, common_steps)
+
+pub returns-clause-sits : goal.returns-clause-sits
+returns-clause-sits c = grind (arith, common_steps)
+
+pub returns-clause-here : goal.returns-clause-here
+returns-clause-here c = grind (arith, common_steps)
+
+pub returns-clause-sum : goal.returns-clause-sum
+returns-clause-sum c = grind (arith, common_steps)
+
+pub returns-clause-limit : goal.returns-clause-limit
+returns-clause-limit c = grind (arith, common_steps)

@@ -1,0 +1,9 @@
+use Rattle.std.proofs.Common.{arith}
+use Rattle.std.proofs.lemmas.Grind.{common_steps}
+use Rattle.domain_run.proofs.state.State.make_room.Goals as goal
+
+pub returns-in_err-try_reserve : goal.returns-in_err-try_reserve
+returns-in_err-try_reserve c = grind (arith, common_steps)
+
+pub returns : goal.returns
+returns c = grind (arith, common_steps)
