@@ -44,3 +44,12 @@ returns-else-begin_seated-clause-err c = grind (arith, common_steps)
 
 pub returns-else-begin_seated-clause-domain : goal.returns-else-begin_seated-clause-domain
 returns-else-begin_seated-clause-domain c = grind (arith, common_steps)
+
+pub invariant_of-self : goal.invariant_of-self
+invariant_of-self c = grind (arith, common_steps)
+
+pub invariant_of-self-2 : goal.invariant_of-self-2
+invariant_of-self-2 c = grind (arith, common_steps)
+
+pub begin_seated-requires : goal.begin_seated-requires
+begin_seated-requires c = grind (arith, common_steps)

@@ -19,3 +19,18 @@ returns-in-Some-word-clause-reply c = grind (arith, common_steps)
 
 pub returns-in-Some-word-clause-busy : goal.returns-in-Some-word-clause-busy
 returns-in-Some-word-clause-busy c = grind (arith, common_steps)
+
+pub live-requires : goal.live-requires
+live-requires c = grind (arith, common_steps)
+
+pub sum-sum-requires : goal.sum-sum-requires
+sum-sum-requires c = grind (arith, common_steps)
+
+pub bandwidth-requires : goal.bandwidth-requires
+bandwidth-requires c = grind (arith, common_steps)
+
+pub overflow_add-saturating_sub : goal.overflow_add-saturating_sub
+overflow_add-saturating_sub c = grind (arith, common_steps)
+
+pub overflow_mul-self-inside : goal.overflow_mul-self-inside
+overflow_mul-self-inside c = grind (arith, common_steps)
