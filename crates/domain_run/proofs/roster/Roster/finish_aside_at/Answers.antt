@@ -249,3 +249,18 @@ returns-clause-clock c = grind (arith, common_steps)
 
 pub returns-clause-sound : goal.returns-clause-sound
 returns-clause-sound c = grind (arith, common_steps)
+
+pub get-requires : goal.get-requires
+get-requires c = grind (arith, common_steps)
+
+pub place_on-at-requires : goal.place_on-at-requires
+place_on-at-requires c = grind (arith, common_steps)
+
+pub at-requires : goal.at-requires
+at-requires c = grind (arith, common_steps)
+
+pub offset_bounds-lags-place : goal.offset_bounds-lags-place
+offset_bounds-lags-place c = grind (arith, common_steps)
+
+pub bounds-lags-place : goal.bounds-lags-place
+bounds-lags-place c = grind (arith, common_steps)
