@@ -181,3 +181,9 @@ returns-clause-clock c = grind (arith, common_steps)
 
 pub returns-clause-sound : goal.returns-clause-sound
 returns-clause-sound c = grind (arith, common_steps)
+
+pub get-requires : goal.get-requires
+get-requires c = grind (arith, common_steps)
+
+pub at-requires : goal.at-requires
+at-requires c = grind (arith, common_steps)

@@ -59,3 +59,9 @@ returns-clause-home c d =
     let within = subst (λ (r : RosterView). p < length r.tasks) (sym c.self.view_is) c.in-Some.ensures.there.within in
     let a = seen_alike s.seats s.tasks p x d within c.at.ensures in
     subst (λ (r : RosterView). (get_or r.tasks p d).cpu ≡ c.args.cpu) c.self.view_is (a.cpu ∙ c.if-at-cpu.false)
+
+pub place-requires : goal.place-requires
+place-requires c = grind (arith, common_steps)
+
+pub at-requires : goal.at-requires
+at-requires c = grind (arith, common_steps)

@@ -54,3 +54,6 @@ returns-else-is_some-clause-lag c d =
     let within = subst (λ (r : RosterView). p < length r.tasks) (sym c.self.view_is) c.requires.there in
     let a = seen_alike s.seats s.tasks p x d within c.at.ensures in
     subst (λ (r : RosterView). x.zero_lag ≡ (get_or r.tasks p d).zero_lag) c.self.view_is (sym a.zero_lag)
+
+pub at-requires : goal.at-requires
+at-requires c = grind (arith, common_steps)

@@ -66,3 +66,6 @@ returns-else-is_ahead-clause-places c = grind (arith, common_steps)
 
 pub returns-else-is_ahead-clause-sound : goal.returns-else-is_ahead-clause-sound
 returns-else-is_ahead-clause-sound c = grind (arith, common_steps)
+
+pub at-requires : goal.at-requires
+at-requires c = grind (arith, common_steps)

@@ -226,3 +226,12 @@ returns-then-left-cpu-clause-place c =
       stands = λ d. c.in-Some.is ∙ ap (λ n. Some n) (sym ((seen_alike s items p x d within c.at.ensures).number ∙ named));
       home = λ d. (seen_alike s items p x d within c.at.ensures).cpu ∙ c.if-left-cpu.true;
     }
+
+pub place-requires : goal.place-requires
+place-requires c = grind (arith, common_steps)
+
+pub at-requires : goal.at-requires
+at-requires c = grind (arith, common_steps)
+
+pub at_mut-requires : goal.at_mut-requires
+at_mut-requires c = grind (arith, common_steps)

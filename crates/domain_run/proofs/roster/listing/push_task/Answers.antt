@@ -36,3 +36,15 @@ returns-clause-tasks c = grind (arith, common_steps)
 
 pub returns-clause-schedule : goal.returns-clause-schedule
 returns-clause-schedule c = grind (arith, common_steps)
+
+pub share_of-requires : goal.share_of-requires
+share_of-requires c = grind (arith, common_steps)
+
+pub due_of-requires : goal.due_of-requires
+due_of-requires c = grind (arith, common_steps)
+
+pub push-requires : goal.push-requires
+push-requires c = grind (arith, common_steps)
+
+pub push-requires-2 : goal.push-requires-2
+push-requires-2 c = grind (arith, common_steps)

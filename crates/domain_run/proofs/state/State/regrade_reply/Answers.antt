@@ -34,3 +34,6 @@ overflow_add-saturating_sub c = grind (arith, common_steps)
 
 pub overflow_mul-self-inside : goal.overflow_mul-self-inside
 overflow_mul-self-inside c = grind (arith, common_steps)
+
+pub saturating_sub-requires : goal.saturating_sub-requires
+saturating_sub-requires c = grind (arith, common_steps)

@@ -60,3 +60,6 @@ returns-in_default-clause-short c = grind (arith, common_steps)
 
 pub returns-in_default-clause-high : goal.returns-in_default-clause-high
 returns-in_default-clause-high c = grind (arith, common_steps)
+
+pub runner-requires : goal.runner-requires
+runner-requires c = grind (arith, common_steps)

@@ -19,3 +19,6 @@ returns-else-eq-clause-domain c = grind (arith, common_steps)
 
 pub returns-else-eq-clause-busy : goal.returns-else-eq-clause-busy
 returns-else-eq-clause-busy c = grind (arith, common_steps)
+
+pub invariant_of-self : goal.invariant_of-self
+invariant_of-self c = grind (arith, common_steps)
