@@ -112,7 +112,6 @@ returns-clause-wide c = grind (arith, common_steps)
 pub returns-clause-others : goal.returns-clause-others
 returns-clause-others c = grind (arith, common_steps)
 
-
 pub returns-clause-here : goal.returns-clause-here
 returns-clause-here c = grind (arith, common_steps)
 
