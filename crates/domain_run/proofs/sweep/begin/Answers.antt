@@ -3,6 +3,7 @@ use Rattle.edf_pick.specs.declared.moves.Moved.{Moved}
 use Rattle.edf_pick.specs.Moves.{moved_from}
 use Rattle.edf_pick.specs.Places.{Places, placed}
 use Rattle.edf_pick.proofs.CallerLemmas.{moved_length}
+use Rattle.std.proofs.lemmas.Grind.{common_steps}
 use Rattle.domain_run.specs.Switch.{Switch}
 use Rattle.domain_run.specs.declared.task.Task.{Task}
 use Rattle.domain_run.specs.Domain.{Domain}
@@ -91,3 +92,48 @@ returns-clause-told c =
     subst (λ (n : ℕ). GoHome places n woken.happened after.happened) c.len-from.ensures
     (subst (λ (ps : Places). GoHome ps c.len-from.result woken.happened after.happened) c.occupants.ensures.occupants c.go_home.ensures.home) in
     tells_home places (told_of_parts time tasks) log woken after (beginning_apart d c.requires.numbered) c.wake_all.ensures.told c.go_home.ensures.wanted homes
+
+pub wake_all-requires-clause-early : goal.wake_all-requires-clause-early
+wake_all-requires-clause-early c = grind (arith, common_steps)
+
+pub wake_all-requires-clause-narrow : goal.wake_all-requires-clause-narrow
+wake_all-requires-clause-narrow c = grind (arith, common_steps)
+
+pub wake_all-requires-clause-sound : goal.wake_all-requires-clause-sound
+wake_all-requires-clause-sound c = grind (arith, common_steps)
+
+pub wake_all-requires-clause-room : goal.wake_all-requires-clause-room
+wake_all-requires-clause-room c = grind (arith, common_steps)
+
+pub add_switches-requires-clause-early : goal.add_switches-requires-clause-early
+add_switches-requires-clause-early c = grind (arith, common_steps)
+
+pub go_home-requires-clause-from : goal.go_home-requires-clause-from
+go_home-requires-clause-from c = grind (arith, common_steps)
+
+pub go_home-requires-clause-narrow : goal.go_home-requires-clause-narrow
+go_home-requires-clause-narrow c = grind (arith, common_steps)
+
+pub go_home-requires-clause-wide : goal.go_home-requires-clause-wide
+go_home-requires-clause-wide c = grind (arith, common_steps)
+
+pub go_home-requires-clause-apart : goal.go_home-requires-clause-apart
+go_home-requires-clause-apart c = grind (arith, common_steps)
+
+pub go_home-requires-clause-homed : goal.go_home-requires-clause-homed
+go_home-requires-clause-homed c = grind (arith, common_steps)
+
+pub returns-clause-cpus : goal.returns-clause-cpus
+returns-clause-cpus c = grind (arith, common_steps)
+
+pub returns-clause-tasks : goal.returns-clause-tasks
+returns-clause-tasks c = grind (arith, common_steps)
+
+pub returns-clause-prepared : goal.returns-clause-prepared
+returns-clause-prepared c = grind (arith, common_steps)
+
+pub returns-clause-room : goal.returns-clause-room
+returns-clause-room c = grind (arith, common_steps)
+
+pub returns-clause-log : goal.returns-clause-log
+returns-clause-log c = grind (arith, common_steps)

@@ -1,4 +1,5 @@
-use Rattle.std.proofs.Common.{◌≡◌, ℕ, None, List, get_or, set, ap, sym, subst, ◌∙◌}
+use Rattle.std.proofs.Common.{◌≡◌, ℕ, None, List, get_or, set, ap, sym, subst, ◌∙◌, arith}
+use Rattle.std.proofs.lemmas.Grind.{common_steps}
 use Rattle.domain_run.specs.declared.task.Task.{Task}
 use Rattle.domain_run.specs.private.Roster.{RosterView}
 use Rattle.domain_run.specs.private.Telling.{told_by_change}
@@ -39,3 +40,96 @@ returns-then-tells_nothing-clause-told c d =
     let looked : c.at-task.result.now ≡ get_or c.args.roster.now.tasks c.args.place d = c.at-task.ensures.task d ∙ ap (λ (ts : List Task). get_or ts c.args.place d) tasks in
     let none = ap (told_by_change c.args.time c.args.change.now) (sym looked) ∙ c.tells_nothing.ensures c.args.time c.if-tells_nothing.true in
     subst (λ hs. Tells c.args.log.now hs c.args.log.now) (sym none) (tells_none c.args.log.now)
+
+pub turn-requires-clause-there : goal.turn-requires-clause-there
+turn-requires-clause-there c = grind (arith, common_steps)
+
+pub turn-requires-clause-fits : goal.turn-requires-clause-fits
+turn-requires-clause-fits c = grind (arith, common_steps)
+
+pub turn-requires-clause-sound : goal.turn-requires-clause-sound
+turn-requires-clause-sound c = grind (arith, common_steps)
+
+pub turn-requires-clause-may : goal.turn-requires-clause-may
+turn-requires-clause-may c = grind (arith, common_steps)
+
+pub returns-then-not-is_wanted-clause-cpus : goal.returns-then-not-is_wanted-clause-cpus
+returns-then-not-is_wanted-clause-cpus c = grind (arith, common_steps)
+
+pub returns-then-not-is_wanted-clause-places : goal.returns-then-not-is_wanted-clause-places
+returns-then-not-is_wanted-clause-places c = grind (arith, common_steps)
+
+pub returns-then-not-is_wanted-clause-step : goal.returns-then-not-is_wanted-clause-step
+returns-then-not-is_wanted-clause-step c = grind (arith, common_steps)
+
+pub returns-then-not-is_wanted-clause-sound : goal.returns-then-not-is_wanted-clause-sound
+returns-then-not-is_wanted-clause-sound c = grind (arith, common_steps)
+
+pub returns-then-not-is_wanted-clause-room : goal.returns-then-not-is_wanted-clause-room
+returns-then-not-is_wanted-clause-room c = grind (arith, common_steps)
+
+pub at-task-requires-clause-there : goal.at-task-requires-clause-there
+at-task-requires-clause-there c = grind (arith, common_steps)
+
+pub turn_charged-requires-clause-there : goal.turn_charged-requires-clause-there
+turn_charged-requires-clause-there c = grind (arith, common_steps)
+
+pub turn_charged-requires-clause-fits : goal.turn_charged-requires-clause-fits
+turn_charged-requires-clause-fits c = grind (arith, common_steps)
+
+pub turn_charged-requires-clause-sound : goal.turn_charged-requires-clause-sound
+turn_charged-requires-clause-sound c = grind (arith, common_steps)
+
+pub turn_charged-requires-clause-may : goal.turn_charged-requires-clause-may
+turn_charged-requires-clause-may c = grind (arith, common_steps)
+
+pub returns-then-tells_nothing-clause-cpus : goal.returns-then-tells_nothing-clause-cpus
+returns-then-tells_nothing-clause-cpus c = grind (arith, common_steps)
+
+pub returns-then-tells_nothing-clause-places : goal.returns-then-tells_nothing-clause-places
+returns-then-tells_nothing-clause-places c = grind (arith, common_steps)
+
+pub returns-then-tells_nothing-clause-step : goal.returns-then-tells_nothing-clause-step
+returns-then-tells_nothing-clause-step c = grind (arith, common_steps)
+
+pub returns-then-tells_nothing-clause-sound : goal.returns-then-tells_nothing-clause-sound
+returns-then-tells_nothing-clause-sound c = grind (arith, common_steps)
+
+pub returns-then-tells_nothing-clause-room : goal.returns-then-tells_nothing-clause-room
+returns-then-tells_nothing-clause-room c = grind (arith, common_steps)
+
+pub tell_turn-requires-clause-there : goal.tell_turn-requires-clause-there
+tell_turn-requires-clause-there c = grind (arith, common_steps)
+
+pub tell_turn-requires-clause-early : goal.tell_turn-requires-clause-early
+tell_turn-requires-clause-early c = grind (arith, common_steps)
+
+pub tell_turn-requires-clause-narrow : goal.tell_turn-requires-clause-narrow
+tell_turn-requires-clause-narrow c = grind (arith, common_steps)
+
+pub tell_turn-requires-clause-fits : goal.tell_turn-requires-clause-fits
+tell_turn-requires-clause-fits c = grind (arith, common_steps)
+
+pub tell_turn-requires-clause-sound : goal.tell_turn-requires-clause-sound
+tell_turn-requires-clause-sound c = grind (arith, common_steps)
+
+pub tell_turn-requires-clause-may : goal.tell_turn-requires-clause-may
+tell_turn-requires-clause-may c = grind (arith, common_steps)
+
+pub tell_turn-requires-clause-room : goal.tell_turn-requires-clause-room
+tell_turn-requires-clause-room c = grind (arith, common_steps)
+
+pub returns-clause-cpus : goal.returns-clause-cpus
+returns-clause-cpus c = grind (arith, common_steps)
+
+pub returns-clause-places : goal.returns-clause-places
+returns-clause-places c = grind (arith, common_steps)
+
+pub returns-clause-step : goal.returns-clause-step
+returns-clause-step c = grind (arith, common_steps)
+
+pub returns-clause-sound : goal.returns-clause-sound
+returns-clause-sound c = grind (arith, common_steps)
+
+pub returns-clause-room : goal.returns-clause-room
+returns-clause-room c = grind (arith, common_steps)

@@ -1,5 +1,6 @@
 use Rattle.std.proofs.Common.{◌≡◌, ◌+◌, ◌-◌, ℕ, List, map, refl, sym, ap, subst, ◌∙◌, arith}
 use Rattle.std.specs.Prelude.{All, IfSome}
+use Rattle.std.proofs.lemmas.Grind.{common_steps}
 use Rattle.domain_run.specs.declared.task.Task.{Task}
 use Rattle.domain_run.specs.Sound.{IsSound}
 use Rattle.edf_pick.specs.Places.{Places}
@@ -74,3 +75,45 @@ returns-clause-lags c past order =
     c.pass_aside.ensures.lags past order
     ∙ ap (λ (ts : List Task). map (passed end k seats) (with_lags past c.args.lags.now ts)) (tasks_are c)
     ∙ leapt_lags past end k old.places old.cpus c.args.limit old.tasks seats c.args.lags.now c.requires.apart (homed_are c) (right_are c)
+
+pub seat_all-requires-clause-wide : goal.seat_all-requires-clause-wide
+seat_all-requires-clause-wide c = grind (arith, common_steps)
+
+pub seat_all-requires-clause-cpus : goal.seat_all-requires-clause-cpus
+seat_all-requires-clause-cpus c = grind (arith, common_steps)
+
+pub seat_all-requires-clause-limit : goal.seat_all-requires-clause-limit
+seat_all-requires-clause-limit c = grind (arith, common_steps)
+
+pub seat_all-requires-clause-within : goal.seat_all-requires-clause-within
+seat_all-requires-clause-within c = grind (arith, common_steps)
+
+pub seat_all-requires-clause-homes : goal.seat_all-requires-clause-homes
+seat_all-requires-clause-homes c = grind (arith, common_steps)
+
+pub seat_all-requires-clause-may : goal.seat_all-requires-clause-may
+seat_all-requires-clause-may c = grind (arith, common_steps)
+
+pub pass_aside-requires-clause-some : goal.pass_aside-requires-clause-some
+pass_aside-requires-clause-some c = grind (arith, common_steps)
+
+pub pass_aside-requires-clause-early : goal.pass_aside-requires-clause-early
+pass_aside-requires-clause-early c = grind (arith, common_steps)
+
+pub pass_aside-requires-clause-ends : goal.pass_aside-requires-clause-ends
+pass_aside-requires-clause-ends c = grind (arith, common_steps)
+
+pub returns-clause-cpus : goal.returns-clause-cpus
+returns-clause-cpus c = grind (arith, common_steps)
+
+pub returns-clause-places : goal.returns-clause-places
+returns-clause-places c = grind (arith, common_steps)
+
+pub returns-clause-some : goal.returns-clause-some
+returns-clause-some c = grind (arith, common_steps)
+
+pub returns-clause-most : goal.returns-clause-most
+returns-clause-most c = grind (arith, common_steps)
+
+pub returns-clause-sound : goal.returns-clause-sound
+returns-clause-sound c = grind (arith, common_steps)

@@ -2,6 +2,7 @@ use Rattle.std.proofs.Common.{◌≡◌, ℕ, Option, Some, None, List, length, 
 use Rattle.std.specs.Prelude.{All, IfSome}
 use Rattle.std.specs.Int.{bit_at}
 use Rattle.edf_pick.specs.Places.{Places}
+use Rattle.std.proofs.lemmas.Grind.{common_steps}
 use Rattle.domain_run.specs.declared.task.Task.{Task}
 use Rattle.domain_run.specs.Sound.{occupant}
 use Rattle.domain_run.specs.private.Roster.{RosterView, rate_in, IsSeated}
@@ -69,3 +70,27 @@ returns-clause-right c =
     let many = ap (λ (ps : Places). length ps) c.occupants-cpus.ensures.occupants in
     subst (λ (ts : List Task). All (IsSeated first.places first.cpus c.args.limit first.tasks l.roster.seats) ts) (sym l.invariant.tasks)
     (λ k d h. l.invariant.right k d h (l.invariant.lowest _ (let home = c.requires.homes k d h in omega (arith, home, c.requires.wide, c.loop-cpu-test.false, many))))
+
+pub seat_rightly-requires-clause-cpus : goal.seat_rightly-requires-clause-cpus
+seat_rightly-requires-clause-cpus c = grind (arith, common_steps)
+
+pub seat_rightly-requires-clause-limit : goal.seat_rightly-requires-clause-limit
+seat_rightly-requires-clause-limit c = grind (arith, common_steps)
+
+pub seat_rightly-requires-clause-within : goal.seat_rightly-requires-clause-within
+seat_rightly-requires-clause-within c = grind (arith, common_steps)
+
+pub returns-clause-cpus : goal.returns-clause-cpus
+returns-clause-cpus c = grind (arith, common_steps)
+
+pub returns-clause-places : goal.returns-clause-places
+returns-clause-places c = grind (arith, common_steps)
+
+pub returns-clause-clock : goal.returns-clause-clock
+returns-clause-clock c = grind (arith, common_steps)
+
+pub returns-clause-tasks : goal.returns-clause-tasks
+returns-clause-tasks c = grind (arith, common_steps)
+
+pub returns-clause-homed : goal.returns-clause-homed
+returns-clause-homed c = grind (arith, common_steps)

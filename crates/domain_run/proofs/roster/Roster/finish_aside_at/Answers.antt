@@ -4,6 +4,7 @@ use Rattle.std.proofs.Math.Facts.{to_z-of_z}
 use mir.Syntax.{w128}
 use mir.Val.{SFits, of_z, to_z}
 use Rattle.std.proofs.lemmas.List.{get_or_default}
+use Rattle.std.proofs.lemmas.Grind.{common_steps}
 use Rattle.domain_run.specs.declared.task.Task.{Task}
 use Rattle.domain_run.specs.private.Paying.{ran_until}
 use Rattle.domain_run.specs.private.Roster.{RosterView, MayRun, bared}
@@ -164,3 +165,102 @@ returns-clause-bare c =
     let z = x.server.left -ℤ pos (c.in-Some.seat.rate * k) in
     let fixed : x.params.reclaim ≡ false = ap (λ (t : Task). t.params.reclaim) f.read ∙ (c.requires.bare p x c.in-Some-at.ensures.there.within).fixed in
     subst (λ ts. All IsBare ts) (sym f.tasks) (All-set IsBare c.args.self.now.tasks p (bared (ran_until c.args.time k z x)) (record { lag = refl; fixed = ap (λ q. q.reclaim) (same_ran_until c.args.time k z x).params ∙ fixed }) c.requires.bare)
+
+pub returns-in_default-clause-cpus : goal.returns-in_default-clause-cpus
+returns-in_default-clause-cpus c = grind (arith, common_steps)
+
+pub returns-in_default-clause-places : goal.returns-in_default-clause-places
+returns-in_default-clause-places c = grind (arith, common_steps)
+
+pub returns-in_default-clause-clock : goal.returns-in_default-clause-clock
+returns-in_default-clause-clock c = grind (arith, common_steps)
+
+pub returns-in_default-clause-seats : goal.returns-in_default-clause-seats
+returns-in_default-clause-seats c = grind (arith, common_steps)
+
+pub returns-in_default-clause-tasks : goal.returns-in_default-clause-tasks
+returns-in_default-clause-tasks c = grind (arith, common_steps)
+
+pub returns-in_default-clause-lags : goal.returns-in_default-clause-lags
+returns-in_default-clause-lags c = grind (arith, common_steps)
+
+pub returns-in_default-clause-sound : goal.returns-in_default-clause-sound
+returns-in_default-clause-sound c = grind (arith, common_steps)
+
+pub returns-in_default-clause-bare : goal.returns-in_default-clause-bare
+returns-in_default-clause-bare c = grind (arith, common_steps)
+
+pub returns-in_default-at-clause-cpus : goal.returns-in_default-at-clause-cpus
+returns-in_default-at-clause-cpus c = grind (arith, common_steps)
+
+pub returns-in_default-at-clause-places : goal.returns-in_default-at-clause-places
+returns-in_default-at-clause-places c = grind (arith, common_steps)
+
+pub returns-in_default-at-clause-clock : goal.returns-in_default-at-clause-clock
+returns-in_default-at-clause-clock c = grind (arith, common_steps)
+
+pub returns-in_default-at-clause-seats : goal.returns-in_default-at-clause-seats
+returns-in_default-at-clause-seats c = grind (arith, common_steps)
+
+pub returns-in_default-at-clause-sound : goal.returns-in_default-at-clause-sound
+returns-in_default-at-clause-sound c = grind (arith, common_steps)
+
+pub returns-in_default-at-clause-bare : goal.returns-in_default-at-clause-bare
+returns-in_default-at-clause-bare c = grind (arith, common_steps)
+
+pub vacate_at-requires-clause-there : goal.vacate_at-requires-clause-there
+vacate_at-requires-clause-there c = grind (arith, common_steps)
+
+pub vacate_at-requires-clause-sits : goal.vacate_at-requires-clause-sits
+vacate_at-requires-clause-sits c = grind (arith, common_steps)
+
+pub vacate_at-requires-clause-at : goal.vacate_at-requires-clause-at
+vacate_at-requires-clause-at c = grind (arith, common_steps)
+
+pub vacate_at-requires-clause-ahead : goal.vacate_at-requires-clause-ahead
+vacate_at-requires-clause-ahead c = grind (arith, common_steps)
+
+pub used_in-requires-clause-some : goal.used_in-requires-clause-some
+used_in-requires-clause-some c = grind (arith, common_steps)
+
+pub used_in-requires-clause-slow : goal.used_in-requires-clause-slow
+used_in-requires-clause-slow c = grind (arith, common_steps)
+
+pub left_after-left-requires-clause-small : goal.left_after-left-requires-clause-small
+left_after-left-requires-clause-small c = grind (arith, common_steps)
+
+pub turn_charged-requires-clause-there : goal.turn_charged-requires-clause-there
+turn_charged-requires-clause-there c = grind (arith, common_steps)
+
+pub turn_charged-requires-clause-fits : goal.turn_charged-requires-clause-fits
+turn_charged-requires-clause-fits c = grind (arith, common_steps)
+
+pub turn_charged-requires-clause-sound : goal.turn_charged-requires-clause-sound
+turn_charged-requires-clause-sound c = grind (arith, common_steps)
+
+pub returns-clause-cpus : goal.returns-clause-cpus
+returns-clause-cpus c = grind (arith, common_steps)
+
+pub returns-clause-places : goal.returns-clause-places
+returns-clause-places c = grind (arith, common_steps)
+
+pub returns-clause-clock : goal.returns-clause-clock
+returns-clause-clock c = grind (arith, common_steps)
+
+pub returns-clause-sound : goal.returns-clause-sound
+returns-clause-sound c = grind (arith, common_steps)
+
+pub get-requires : goal.get-requires
+get-requires c = grind (arith, common_steps)
+
+pub place_on-at-requires : goal.place_on-at-requires
+place_on-at-requires c = grind (arith, common_steps)
+
+pub at-requires : goal.at-requires
+at-requires c = grind (arith, common_steps)
+
+pub offset_bounds-lags-place : goal.offset_bounds-lags-place
+offset_bounds-lags-place c = grind (arith, common_steps)
+
+pub bounds-lags-place : goal.bounds-lags-place
+bounds-lags-place c = grind (arith, common_steps)

@@ -1,9 +1,10 @@
-use Rattle.std.proofs.Common.{rules, ℕ, ◌≡◌, ◌≢◌, ◌-◌, ◌*◌, ◌^◌, Some, None, map, get_or, set, sym, ap, subst, ◌∙◌}
+use Rattle.std.proofs.Common.{rules, ℕ, ◌≡◌, ◌≢◌, ◌-◌, ◌*◌, ◌^◌, Some, None, map, get_or, set, sym, ap, subst, ◌∙◌, arith}
 use Rattle.std.specs.Prelude.{ℤ, pos, ◌-ℤ◌, ◌<ℤ◌, ◌≤ℤ◌, AllPairs}
 use Rattle.std.proofs.Math.Facts.{to_z-of_z}
 use mir.Syntax.{w128}
 use mir.Val.{SFits, of_z, to_z}
 use Rattle.std.proofs.lemmas.List.{get_or_default}
+use Rattle.std.proofs.lemmas.Grind.{common_steps}
 use Rattle.domain_run.specs.declared.task.Task.{Task}
 use Rattle.domain_run.specs.private.Paying.{ran_until}
 use Rattle.domain_run.specs.private.Roster.{RosterView, MayRun}
@@ -105,3 +106,84 @@ returns-clause-tasks c =
     ∙ finished_passes c.args.time k c.args.cpu old.seats old.tasks c.in-Some.seat f.sits p x y c.in-Some-at.ensures.there.within f.read f.number f.home (same_ran_until c.args.time k z x).cpu
     (subst (λ (r : RosterView). AllPairs (λ a b. a.number ≢ b.number) r.tasks) c.self.view_is c.self.invariant.counted.roster.numbered)
     (ap (λ (w : ℤ). ran_until c.args.time k w x) left_is)
+
+pub returns-in_default-clause-cpus : goal.returns-in_default-clause-cpus
+returns-in_default-clause-cpus c = grind (arith, common_steps)
+
+pub returns-in_default-clause-places : goal.returns-in_default-clause-places
+returns-in_default-clause-places c = grind (arith, common_steps)
+
+pub returns-in_default-clause-clock : goal.returns-in_default-clause-clock
+returns-in_default-clause-clock c = grind (arith, common_steps)
+
+pub returns-in_default-clause-seats : goal.returns-in_default-clause-seats
+returns-in_default-clause-seats c = grind (arith, common_steps)
+
+pub returns-in_default-clause-tasks : goal.returns-in_default-clause-tasks
+returns-in_default-clause-tasks c = grind (arith, common_steps)
+
+pub returns-in_default-clause-sound : goal.returns-in_default-clause-sound
+returns-in_default-clause-sound c = grind (arith, common_steps)
+
+pub returns-in_default-at-clause-cpus : goal.returns-in_default-at-clause-cpus
+returns-in_default-at-clause-cpus c = grind (arith, common_steps)
+
+pub returns-in_default-at-clause-places : goal.returns-in_default-at-clause-places
+returns-in_default-at-clause-places c = grind (arith, common_steps)
+
+pub returns-in_default-at-clause-clock : goal.returns-in_default-at-clause-clock
+returns-in_default-at-clause-clock c = grind (arith, common_steps)
+
+pub returns-in_default-at-clause-seats : goal.returns-in_default-at-clause-seats
+returns-in_default-at-clause-seats c = grind (arith, common_steps)
+
+pub returns-in_default-at-clause-sound : goal.returns-in_default-at-clause-sound
+returns-in_default-at-clause-sound c = grind (arith, common_steps)
+
+pub vacate_at-requires-clause-there : goal.vacate_at-requires-clause-there
+vacate_at-requires-clause-there c = grind (arith, common_steps)
+
+pub vacate_at-requires-clause-sits : goal.vacate_at-requires-clause-sits
+vacate_at-requires-clause-sits c = grind (arith, common_steps)
+
+pub vacate_at-requires-clause-at : goal.vacate_at-requires-clause-at
+vacate_at-requires-clause-at c = grind (arith, common_steps)
+
+pub vacate_at-requires-clause-ahead : goal.vacate_at-requires-clause-ahead
+vacate_at-requires-clause-ahead c = grind (arith, common_steps)
+
+pub used_in-requires-clause-some : goal.used_in-requires-clause-some
+used_in-requires-clause-some c = grind (arith, common_steps)
+
+pub used_in-requires-clause-slow : goal.used_in-requires-clause-slow
+used_in-requires-clause-slow c = grind (arith, common_steps)
+
+pub left_after-left-requires-clause-small : goal.left_after-left-requires-clause-small
+left_after-left-requires-clause-small c = grind (arith, common_steps)
+
+pub turn_charged-requires-clause-there : goal.turn_charged-requires-clause-there
+turn_charged-requires-clause-there c = grind (arith, common_steps)
+
+pub turn_charged-requires-clause-fits : goal.turn_charged-requires-clause-fits
+turn_charged-requires-clause-fits c = grind (arith, common_steps)
+
+pub turn_charged-requires-clause-sound : goal.turn_charged-requires-clause-sound
+turn_charged-requires-clause-sound c = grind (arith, common_steps)
+
+pub returns-clause-cpus : goal.returns-clause-cpus
+returns-clause-cpus c = grind (arith, common_steps)
+
+pub returns-clause-places : goal.returns-clause-places
+returns-clause-places c = grind (arith, common_steps)
+
+pub returns-clause-clock : goal.returns-clause-clock
+returns-clause-clock c = grind (arith, common_steps)
+
+pub returns-clause-sound : goal.returns-clause-sound
+returns-clause-sound c = grind (arith, common_steps)
+
+pub get-requires : goal.get-requires
+get-requires c = grind (arith, common_steps)
+
+pub at-requires : goal.at-requires
+at-requires c = grind (arith, common_steps)

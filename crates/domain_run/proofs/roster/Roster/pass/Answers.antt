@@ -1,6 +1,7 @@
 use Rattle.std.proofs.Common.{◌≡◌, ◌<◌, ◌≤◌, ◌+◌, ◌^◌, ℕ, Option, None, List, length, map, get_or, set, sym, ap, subst, ◌∙◌, arith}
 use Rattle.std.specs.Prelude.{All, IfSome}
 use Rattle.std.proofs.lemmas.List.{length-set}
+use Rattle.std.proofs.lemmas.Grind.{common_steps}
 use Rattle.domain_run.specs.declared.task.Task.{Task}
 use Rattle.due_times.specs.declared.seats.Seat.{Seat}
 use Rattle.domain_run.specs.Sound.{IsSound}
@@ -79,3 +80,33 @@ returns-clause-sound c =
     let s = c.self-2.inside in
     let sound = subst (λ (r : RosterView). All (IsSound c.args.time) r.tasks) (sym c.self-2.view_is) c.loop-cpu.invariant.sound in
     subst (λ (v : SeatsView). All (IsSound c.args.time) (owed_all v s.tasks)) (sym c.pass.ensures.passed) (pass_sound s.seats.upto c.args.time c.args.ticks s.seats.seats s.tasks (strict c) c.self-2.invariant.waits sound)
+
+pub loop-cpu-init : goal.loop-cpu-init
+loop-cpu-init c = grind (arith, common_steps)
+
+pub finish_at-requires-clause-there : goal.finish_at-requires-clause-there
+finish_at-requires-clause-there c = grind (arith, common_steps)
+
+pub finish_at-requires-clause-some : goal.finish_at-requires-clause-some
+finish_at-requires-clause-some c = grind (arith, common_steps)
+
+pub finish_at-requires-clause-early : goal.finish_at-requires-clause-early
+finish_at-requires-clause-early c = grind (arith, common_steps)
+
+pub finish_at-requires-clause-ends : goal.finish_at-requires-clause-ends
+finish_at-requires-clause-ends c = grind (arith, common_steps)
+
+pub finish_at-requires-clause-sound : goal.finish_at-requires-clause-sound
+finish_at-requires-clause-sound c = grind (arith, common_steps)
+
+pub pass-requires-clause-early : goal.pass-requires-clause-early
+pass-requires-clause-early c = grind (arith, common_steps)
+
+pub pass-requires-clause-ahead : goal.pass-requires-clause-ahead
+pass-requires-clause-ahead c = grind (arith, common_steps)
+
+pub returns-clause-cpus : goal.returns-clause-cpus
+returns-clause-cpus c = grind (arith, common_steps)
+
+pub returns-clause-places : goal.returns-clause-places
+returns-clause-places c = grind (arith, common_steps)

@@ -1,10 +1,12 @@
-use Rattle.std.proofs.Common.{◌≡◌, ◌∙◌, ◌<◌, ℕ, length, map, get_or, sym, ap, arith}
+use Rattle.std.proofs.Common.{◌≡◌, ◌∙◌, ◌<◌, ℕ, length, map, get_or, sym, ap, arith, subst}
 use Rattle.std.proofs.lemmas.List.{length-map, get_or-map}
+use Rattle.std.proofs.lemmas.Grind.{common_steps}
 use Rattle.domain_run.specs.declared.task.Task.{Task}
 use Rattle.domain_run.specs.private.Roster.{RosterView}
 use Rattle.domain_run.specs.private.Waiting.{owed}
 use Rattle.domain_run.proofs.Seatings.{only_at}
 use Rattle.domain_run.proofs.Waiting.{alike_owed}
+use Rattle.domain_run.proofs.Dozing.{seen_alike}
 use Rattle.domain_run.proofs.roster.Roster.place_on.Goals as goal
 
 -- the task at the one place of the number belongs to another CPU
@@ -27,3 +29,39 @@ returns-then-at-cpu-clause-absent c k d h n e =
     ∙ (alike_owed s.seats.upto s.seats.seats (get_or items p x)).cpu
     ∙ sym (ap (λ (t : Task). t.cpu) c.at.ensures) in
     c.if-at-cpu.true (sym seen ∙ ap (λ (i : ℕ). (get_or r.tasks i d).cpu) (sym k_is) ∙ e)
+
+pub returns-in_default-clause-there : goal.returns-in_default-clause-there
+returns-in_default-clause-there c = grind (arith, common_steps)
+
+pub returns-in_default-clause-home : goal.returns-in_default-clause-home
+returns-in_default-clause-home c = grind (arith, common_steps)
+
+pub returns-in_default-clause-absent : goal.returns-in_default-clause-absent
+returns-in_default-clause-absent c = grind (arith, common_steps)
+
+pub returns-then-at-cpu-clause-there : goal.returns-then-at-cpu-clause-there
+returns-then-at-cpu-clause-there c = grind (arith, common_steps)
+
+pub returns-then-at-cpu-clause-home : goal.returns-then-at-cpu-clause-home
+returns-then-at-cpu-clause-home c = grind (arith, common_steps)
+
+pub returns-clause-there : goal.returns-clause-there
+returns-clause-there c = grind (arith, common_steps)
+
+pub returns-clause-absent : goal.returns-clause-absent
+returns-clause-absent c = grind (arith, common_steps)
+
+pub returns-clause-home : goal.returns-clause-home
+returns-clause-home c d =
+    let s = c.self.inside in
+    let p = c.in-Some.place in
+    let x = c.at.result.now in
+    let within = subst (λ (r : RosterView). p < length r.tasks) (sym c.self.view_is) c.in-Some.ensures.there.within in
+    let a = seen_alike s.seats s.tasks p x d within c.at.ensures in
+    subst (λ (r : RosterView). (get_or r.tasks p d).cpu ≡ c.args.cpu) c.self.view_is (a.cpu ∙ c.if-at-cpu.false)
+
+pub place-requires : goal.place-requires
+place-requires c = grind (arith, common_steps)
+
+pub at-requires : goal.at-requires
+at-requires c = grind (arith, common_steps)

@@ -2,6 +2,7 @@ use Rattle.std.proofs.Common.{◌≡◌, ◌<◌, ℕ, List, eqb, Some, length, 
 use Rattle.std.specs.Prelude.{find, option_map}
 use Rattle.std.proofs.lemmas.List.{length-map}
 use Rattle.grub_rules.specs.Sums.{uinact}
+use Rattle.std.proofs.lemmas.Grind.{common_steps}
 use Rattle.domain_run.specs.Tick.{shares}
 use Rattle.domain_run.specs.declared.task.Task.{Task}
 use Rattle.domain_run.specs.declared.running.Running.{Running}
@@ -35,3 +36,12 @@ returns-in-Some c =
     ap (λ (v : Running). Some v) (c.runner_at.ensures ∙ ap (λ (u : ℕ). runner_of u y) (c.uinact-uinact.ensures ∙ ap (λ n. uinact n (shares c.args.self.now.tasks)) (sym (alike_owed s.seats.upto s.seats.seats x).cpu)))
     ∙ sym (ap (option_map (runner_in c.args.self.now.tasks)) found)
     ∙ ap (λ (ts : List Task). option_map (runner_in c.args.self.now.tasks) (find (λ t. eqb t.number c.args.number) ts)) view
+
+pub place-requires : goal.place-requires
+place-requires c = grind (arith, common_steps)
+
+pub at-task-requires : goal.at-task-requires
+at-task-requires c = grind (arith, common_steps)
+
+pub runner_at-requires : goal.runner_at-requires
+runner_at-requires c = grind (arith, common_steps)

@@ -1,5 +1,6 @@
-use Rattle.std.proofs.Common.{◌≡◌, ◌<◌, ◌∙◌, ◌||◌, true, length, get_or, sym, ap, subst}
+use Rattle.std.proofs.Common.{◌≡◌, ◌<◌, ◌∙◌, ◌||◌, true, length, get_or, sym, ap, subst, arith}
 use Rattle.std.specs.Prelude.{nat_le}
+use Rattle.std.proofs.lemmas.Grind.{common_steps}
 use Rattle.domain_run.specs.Conditions.{is_contending}
 use Rattle.domain_run.specs.private.Dozing.{with_lag}
 use Rattle.domain_run.specs.private.Roster.{RosterView}
@@ -23,3 +24,48 @@ returns-else-is_ahead-clause-step c =
     ap (λ o. with_lag past o (get_or seen p d)) c.in-Some.is
     ∙ lag_gone past z (get_or seen p d) (ap (λ k. is_contending k || nat_le z past) (seen_alike s.seats s.tasks p raw d there c.at.ensures).condition ∙ gone)) in
     subst (λ (r : RosterView). IsStep (with_lag past c.args.lag) p r.tasks r.tasks) c.self.view_is still
+
+pub returns-in_default-clause-cpus : goal.returns-in_default-clause-cpus
+returns-in_default-clause-cpus c = grind (arith, common_steps)
+
+pub returns-in_default-clause-places : goal.returns-in_default-clause-places
+returns-in_default-clause-places c = grind (arith, common_steps)
+
+pub returns-in_default-clause-step : goal.returns-in_default-clause-step
+returns-in_default-clause-step c = grind (arith, common_steps)
+
+pub returns-in_default-clause-sound : goal.returns-in_default-clause-sound
+returns-in_default-clause-sound c = grind (arith, common_steps)
+
+pub turn-requires-clause-there : goal.turn-requires-clause-there
+turn-requires-clause-there c = grind (arith, common_steps)
+
+pub turn-requires-clause-fits : goal.turn-requires-clause-fits
+turn-requires-clause-fits c = grind (arith, common_steps)
+
+pub turn-requires-clause-sound : goal.turn-requires-clause-sound
+turn-requires-clause-sound c = grind (arith, common_steps)
+
+pub turn-requires-clause-may : goal.turn-requires-clause-may
+turn-requires-clause-may c = grind (arith, common_steps)
+
+pub returns-then-is_ahead-clause-cpus : goal.returns-then-is_ahead-clause-cpus
+returns-then-is_ahead-clause-cpus c = grind (arith, common_steps)
+
+pub returns-then-is_ahead-clause-places : goal.returns-then-is_ahead-clause-places
+returns-then-is_ahead-clause-places c = grind (arith, common_steps)
+
+pub returns-then-is_ahead-clause-sound : goal.returns-then-is_ahead-clause-sound
+returns-then-is_ahead-clause-sound c = grind (arith, common_steps)
+
+pub returns-else-is_ahead-clause-cpus : goal.returns-else-is_ahead-clause-cpus
+returns-else-is_ahead-clause-cpus c = grind (arith, common_steps)
+
+pub returns-else-is_ahead-clause-places : goal.returns-else-is_ahead-clause-places
+returns-else-is_ahead-clause-places c = grind (arith, common_steps)
+
+pub returns-else-is_ahead-clause-sound : goal.returns-else-is_ahead-clause-sound
+returns-else-is_ahead-clause-sound c = grind (arith, common_steps)
+
+pub at-requires : goal.at-requires
+at-requires c = grind (arith, common_steps)

@@ -1,6 +1,7 @@
 use Rattle.std.proofs.Common.{◌≡◌, ℕ, ◌<◌, None, length, get_or, refl, sym, ap, subst, ◌∙◌, arith}
 use Rattle.std.specs.Prelude.{is_some}
 use Rattle.std.proofs.lemmas.List.{length-map, get_or-map, get_or_default}
+use Rattle.std.proofs.lemmas.Grind.{common_steps}
 use Rattle.domain_run.specs.declared.task.Task.{Task}
 use Rattle.edf_pick.specs.Places.{Places}
 use Rattle.domain_run.specs.private.Doubts.{AreSettled}
@@ -49,3 +50,60 @@ invariant_of-self c =
           (turn_settled s.doubts d w s.queue.schedule.places s.seats.seats seats.seats tasks (owed_all seats items) p raw.cpu raw.number (after_change c.args.time c.args.change.now) x inside read home named stays keeps
           e.step e.seats left_it marks.bare marks.rated marks.sum marks.limit c.self.invariant.settled));
     }
+
+pub returns-then-does_nothing-clause-cpus : goal.returns-then-does_nothing-clause-cpus
+returns-then-does_nothing-clause-cpus c = grind (arith, common_steps)
+
+pub returns-then-does_nothing-clause-step : goal.returns-then-does_nothing-clause-step
+returns-then-does_nothing-clause-step c = grind (arith, common_steps)
+
+pub returns-then-does_nothing-clause-sound : goal.returns-then-does_nothing-clause-sound
+returns-then-does_nothing-clause-sound c = grind (arith, common_steps)
+
+pub returns-then-does_nothing-clause-clock : goal.returns-then-does_nothing-clause-clock
+returns-then-does_nothing-clause-clock c = grind (arith, common_steps)
+
+pub returns-then-does_nothing-clause-places : goal.returns-then-does_nothing-clause-places
+returns-then-does_nothing-clause-places c = grind (arith, common_steps)
+
+pub returns-then-does_nothing-clause-left : goal.returns-then-does_nothing-clause-left
+returns-then-does_nothing-clause-left c = grind (arith, common_steps)
+
+pub turn_task-sat-requires-clause-narrow : goal.turn_task-sat-requires-clause-narrow
+turn_task-sat-requires-clause-narrow c = grind (arith, common_steps)
+
+pub turn_task-sat-requires-clause-there : goal.turn_task-sat-requires-clause-there
+turn_task-sat-requires-clause-there c = grind (arith, common_steps)
+
+pub turn_task-sat-requires-clause-fits : goal.turn_task-sat-requires-clause-fits
+turn_task-sat-requires-clause-fits c = grind (arith, common_steps)
+
+pub turn_task-sat-requires-clause-waits : goal.turn_task-sat-requires-clause-waits
+turn_task-sat-requires-clause-waits c = grind (arith, common_steps)
+
+pub turn_task-sat-requires-clause-sound : goal.turn_task-sat-requires-clause-sound
+turn_task-sat-requires-clause-sound c = grind (arith, common_steps)
+
+pub turn_task-sat-requires-clause-may : goal.turn_task-sat-requires-clause-may
+turn_task-sat-requires-clause-may c = grind (arith, common_steps)
+
+pub turn_task-sat-requires-clause-counted : goal.turn_task-sat-requires-clause-counted
+turn_task-sat-requires-clause-counted c = grind (arith, common_steps)
+
+pub returns-clause-cpus : goal.returns-clause-cpus
+returns-clause-cpus c = grind (arith, common_steps)
+
+pub returns-clause-step : goal.returns-clause-step
+returns-clause-step c = grind (arith, common_steps)
+
+pub returns-clause-sound : goal.returns-clause-sound
+returns-clause-sound c = grind (arith, common_steps)
+
+pub returns-clause-clock : goal.returns-clause-clock
+returns-clause-clock c = grind (arith, common_steps)
+
+pub returns-clause-places : goal.returns-clause-places
+returns-clause-places c = grind (arith, common_steps)
+
+pub returns-clause-left : goal.returns-clause-left
+returns-clause-left c = grind (arith, common_steps)

@@ -1,5 +1,6 @@
-use Rattle.std.proofs.Common.{◌≡◌, ℕ, ◌<◌, None, List, length, get_or, set, sym, ap, subst, ◌∙◌}
+use Rattle.std.proofs.Common.{◌≡◌, ℕ, ◌<◌, None, List, length, get_or, set, sym, ap, subst, ◌∙◌, arith}
 use Rattle.std.specs.Prelude.{All}
+use Rattle.std.proofs.lemmas.Grind.{common_steps}
 use Rattle.domain_run.specs.declared.task.Task.{Task}
 use Rattle.domain_run.specs.declared.run_queue.RunQueue.{RunQueue}
 use Rattle.edf_pick.specs.Places.{Places}
@@ -111,3 +112,18 @@ returns-clause-sound c =
     let y = c.turn_settled.new.task in
     let made = c.turn_settled.ensures.task in
     sound_all_bare (length s.queue.accounts.all) c.args.time c.args.change.now s.queue s.seats s.tasks p x h read fits c.self.invariant.counted none c.turn_settled.new.queue y made c.turn_settled.ensures.sound (subst (λ (r : RosterView). All (IsSound c.args.time) r.tasks) (sym c.self.view_is) c.requires.sound)
+
+pub turn_settled-requires-clause-narrow : goal.turn_settled-requires-clause-narrow
+turn_settled-requires-clause-narrow c = grind (arith, common_steps)
+
+pub returns-clause-cpus : goal.returns-clause-cpus
+returns-clause-cpus c = grind (arith, common_steps)
+
+pub returns-clause-clock : goal.returns-clause-clock
+returns-clause-clock c = grind (arith, common_steps)
+
+pub returns-clause-places : goal.returns-clause-places
+returns-clause-places c = grind (arith, common_steps)
+
+pub returns-clause-seats : goal.returns-clause-seats
+returns-clause-seats c = grind (arith, common_steps)

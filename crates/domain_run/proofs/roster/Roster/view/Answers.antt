@@ -1,5 +1,6 @@
-use Rattle.std.proofs.Common.{eqb, Some, sym, ap, subst, ◌∙◌}
+use Rattle.std.proofs.Common.{eqb, Some, sym, ap, subst, ◌∙◌, arith}
 use Rattle.std.specs.Prelude.{find, option_map}
+use Rattle.std.proofs.lemmas.Grind.{common_steps}
 use Rattle.domain_run.specs.Views.{view_of}
 use Rattle.domain_run.specs.private.Index.{IsAt}
 use Rattle.domain_run.specs.private.Roster.{RosterView}
@@ -20,3 +21,9 @@ returns-in-Some c =
     ap (λ (v : TaskView). Some v) c.view_at.ensures
     ∙ sym (ap (option_map view_of) found)
     ∙ ap (λ (r : RosterView). option_map view_of (find (λ t. eqb t.number c.args.number) r.tasks)) c.self.view_is
+
+pub place-requires : goal.place-requires
+place-requires c = grind (arith, common_steps)
+
+pub at-requires : goal.at-requires
+at-requires c = grind (arith, common_steps)

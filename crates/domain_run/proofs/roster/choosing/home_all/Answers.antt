@@ -1,4 +1,5 @@
 use Rattle.std.proofs.Common.{ℕ, length, sym, subst, refl, ◌∙◌, arith}
+use Rattle.std.proofs.lemmas.Grind.{common_steps}
 use Rattle.domain_run.specs.private.Choosing.{AreWithin}
 use Rattle.domain_run.specs.private.Doubts.{IsMarked}
 use Rattle.domain_run.specs.private.Waiting.{owed_all}
@@ -46,3 +47,33 @@ loop-i-preserved c =
       sum = e.sum ∙ l.invariant.sum;
       limit = e.limit ∙ l.invariant.limit;
     }
+
+pub returns-clause-wide : goal.returns-clause-wide
+returns-clause-wide c = grind (arith, common_steps)
+
+pub returns-clause-counts : goal.returns-clause-counts
+returns-clause-counts c = grind (arith, common_steps)
+
+pub returns-clause-tasks : goal.returns-clause-tasks
+returns-clause-tasks c = grind (arith, common_steps)
+
+pub returns-clause-clock : goal.returns-clause-clock
+returns-clause-clock c = grind (arith, common_steps)
+
+pub returns-clause-seats : goal.returns-clause-seats
+returns-clause-seats c = grind (arith, common_steps)
+
+pub returns-clause-marked : goal.returns-clause-marked
+returns-clause-marked c = grind (arith, common_steps)
+
+pub returns-clause-moved : goal.returns-clause-moved
+returns-clause-moved c = grind (arith, common_steps)
+
+pub returns-clause-rated : goal.returns-clause-rated
+returns-clause-rated c = grind (arith, common_steps)
+
+pub returns-clause-sum : goal.returns-clause-sum
+returns-clause-sum c = grind (arith, common_steps)
+
+pub returns-clause-limit : goal.returns-clause-limit
+returns-clause-limit c = grind (arith, common_steps)

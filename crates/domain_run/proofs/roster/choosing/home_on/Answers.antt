@@ -1,6 +1,7 @@
-use Rattle.std.proofs.Common.{◌≡◌, ℕ, None, Some, map, set, sym, ap, subst, refl, ◌∙◌}
+use Rattle.std.proofs.Common.{◌≡◌, ℕ, None, Some, map, set, sym, ap, subst, refl, ◌∙◌, arith, ◌<◌, length}
 use Rattle.std.specs.Int.{bit_at}
-use Rattle.std.proofs.lemmas.List.{get_or_default}
+use Rattle.std.proofs.lemmas.List.{get_or_default, length-map}
+use Rattle.std.proofs.lemmas.Grind.{common_steps}
 use Rattle.domain_run.specs.declared.task.Task.{Task}
 use Rattle.domain_run.specs.Parts.{with_cpu}
 use Rattle.domain_run.specs.private.Choosing.{IsHome}
@@ -11,6 +12,7 @@ use Rattle.domain_run.proofs.Doubting.{start_marked, kept_mark, left_unseated, I
 use Rattle.domain_run.proofs.Finding.{map_others}
 use Rattle.domain_run.proofs.Staying.{map_itself}
 use Rattle.domain_run.proofs.Waiting.{alike_owed, at_like, absent_like}
+use Rattle.domain_run.proofs.Dozing.{seen_alike}
 use Rattle.domain_run.proofs.roster.choosing.home_on.Goals as goal
 
 pub returns-in_default-clause-tasks : goal.returns-in_default-clause-tasks
@@ -103,3 +105,133 @@ returns-clause-marked c =
     (started_view c.args.accounts.now s items p x at.within c.at_mut.ensures.value c.requires.counts c.args.cpu c.start.new.accounts c.start.new.seats c.start.new.task c.requires.there c.start.ensures.task c.start.ensures.seats)
     (subst (λ (m : ℕ). IsLeft c.args.doubts.now.rated b x.cpu m s.seats) number (subst (λ (t : Task). IsLeft c.args.doubts.now.rated b t.cpu n s.seats) same left))
     (kept_mark c.mark.new.self.cpus b c.args.cpu two.bare one.marked) (λ i e. one.bare i (two.bare i e))
+
+pub returns-in_default-clause-place : goal.returns-in_default-clause-place
+returns-in_default-clause-place c = grind (arith, common_steps)
+
+pub returns-in_default-clause-wide : goal.returns-in_default-clause-wide
+returns-in_default-clause-wide c = grind (arith, common_steps)
+
+pub returns-in_default-clause-counts : goal.returns-in_default-clause-counts
+returns-in_default-clause-counts c = grind (arith, common_steps)
+
+pub returns-in_default-clause-clock : goal.returns-in_default-clause-clock
+returns-in_default-clause-clock c = grind (arith, common_steps)
+
+pub returns-in_default-clause-seats : goal.returns-in_default-clause-seats
+returns-in_default-clause-seats c = grind (arith, common_steps)
+
+pub returns-in_default-clause-marked : goal.returns-in_default-clause-marked
+returns-in_default-clause-marked c = grind (arith, common_steps)
+
+pub returns-in_default-clause-here : goal.returns-in_default-clause-here
+returns-in_default-clause-here c = grind (arith, common_steps)
+
+pub returns-in_default-clause-rated : goal.returns-in_default-clause-rated
+returns-in_default-clause-rated c = grind (arith, common_steps)
+
+pub returns-in_default-clause-sum : goal.returns-in_default-clause-sum
+returns-in_default-clause-sum c = grind (arith, common_steps)
+
+pub returns-in_default-clause-limit : goal.returns-in_default-clause-limit
+returns-in_default-clause-limit c = grind (arith, common_steps)
+
+pub returns-in_default-place-clause-place : goal.returns-in_default-place-clause-place
+returns-in_default-place-clause-place c = grind (arith, common_steps)
+
+pub returns-in_default-place-clause-wide : goal.returns-in_default-place-clause-wide
+returns-in_default-place-clause-wide c = grind (arith, common_steps)
+
+pub returns-in_default-place-clause-counts : goal.returns-in_default-place-clause-counts
+returns-in_default-place-clause-counts c = grind (arith, common_steps)
+
+pub returns-in_default-place-clause-clock : goal.returns-in_default-place-clause-clock
+returns-in_default-place-clause-clock c = grind (arith, common_steps)
+
+pub returns-in_default-place-clause-seats : goal.returns-in_default-place-clause-seats
+returns-in_default-place-clause-seats c = grind (arith, common_steps)
+
+pub returns-in_default-place-clause-marked : goal.returns-in_default-place-clause-marked
+returns-in_default-place-clause-marked c = grind (arith, common_steps)
+
+pub returns-in_default-place-clause-here : goal.returns-in_default-place-clause-here
+returns-in_default-place-clause-here c = grind (arith, common_steps)
+
+pub returns-in_default-place-clause-rated : goal.returns-in_default-place-clause-rated
+returns-in_default-place-clause-rated c = grind (arith, common_steps)
+
+pub returns-in_default-place-clause-sum : goal.returns-in_default-place-clause-sum
+returns-in_default-place-clause-sum c = grind (arith, common_steps)
+
+pub returns-in_default-place-clause-limit : goal.returns-in_default-place-clause-limit
+returns-in_default-place-clause-limit c = grind (arith, common_steps)
+
+pub returns-then-left-cpu-clause-wide : goal.returns-then-left-cpu-clause-wide
+returns-then-left-cpu-clause-wide c = grind (arith, common_steps)
+
+pub returns-then-left-cpu-clause-counts : goal.returns-then-left-cpu-clause-counts
+returns-then-left-cpu-clause-counts c = grind (arith, common_steps)
+
+pub returns-then-left-cpu-clause-clock : goal.returns-then-left-cpu-clause-clock
+returns-then-left-cpu-clause-clock c = grind (arith, common_steps)
+
+pub returns-then-left-cpu-clause-seats : goal.returns-then-left-cpu-clause-seats
+returns-then-left-cpu-clause-seats c = grind (arith, common_steps)
+
+pub returns-then-left-cpu-clause-marked : goal.returns-then-left-cpu-clause-marked
+returns-then-left-cpu-clause-marked c = grind (arith, common_steps)
+
+pub returns-then-left-cpu-clause-here : goal.returns-then-left-cpu-clause-here
+returns-then-left-cpu-clause-here c = grind (arith, common_steps)
+
+pub returns-then-left-cpu-clause-rated : goal.returns-then-left-cpu-clause-rated
+returns-then-left-cpu-clause-rated c = grind (arith, common_steps)
+
+pub returns-then-left-cpu-clause-sum : goal.returns-then-left-cpu-clause-sum
+returns-then-left-cpu-clause-sum c = grind (arith, common_steps)
+
+pub returns-then-left-cpu-clause-limit : goal.returns-then-left-cpu-clause-limit
+returns-then-left-cpu-clause-limit c = grind (arith, common_steps)
+
+pub start-requires-clause-there : goal.start-requires-clause-there
+start-requires-clause-there c = grind (arith, common_steps)
+
+pub returns-clause-wide : goal.returns-clause-wide
+returns-clause-wide c = grind (arith, common_steps)
+
+pub returns-clause-here : goal.returns-clause-here
+returns-clause-here c = grind (arith, common_steps)
+
+pub returns-clause-rated : goal.returns-clause-rated
+returns-clause-rated c = grind (arith, common_steps)
+
+pub returns-clause-sum : goal.returns-clause-sum
+returns-clause-sum c = grind (arith, common_steps)
+
+pub returns-clause-limit : goal.returns-clause-limit
+returns-clause-limit c = grind (arith, common_steps)
+
+pub returns-then-left-cpu-clause-place : goal.returns-then-left-cpu-clause-place
+returns-then-left-cpu-clause-place c =
+    let s = c.args.seats.now in
+    let items = c.args.tasks.now in
+    let p = c.in-Some-place.place in
+    let x = c.at.result.now in
+    let there = c.in-Some-place.ensures.there in
+    let many : length (owed_all s items) ≡ length items = simp length-map in
+    let within : p < length (owed_all s items) = omega (arith, there.within, many) in
+    let named : x.number ≡ c.in-Some.number = ap (λ (t : Task). t.number) c.at.ensures ∙ there.is x in
+    record {
+      within = within;
+      stands = λ d. c.in-Some.is ∙ ap (λ n. Some n) (sym ((seen_alike s items p x d within c.at.ensures).number ∙ named));
+      home = λ d. (seen_alike s items p x d within c.at.ensures).cpu ∙ c.if-left-cpu.true;
+    }
+
+pub place-requires : goal.place-requires
+place-requires c = grind (arith, common_steps)
+
+pub at-requires : goal.at-requires
+at-requires c = grind (arith, common_steps)
+
+pub at_mut-requires : goal.at_mut-requires
+at_mut-requires c = grind (arith, common_steps)

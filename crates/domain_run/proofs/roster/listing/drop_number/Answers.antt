@@ -1,8 +1,9 @@
-use Rattle.std.proofs.Common.{◌≡◌, ◌≤◌, ◌∷◌, ◌++◌, ◌+◌, [], take, drop, refl, sym, ap, ◌∙◌, length, map, subst, List, get_or}
+use Rattle.std.proofs.Common.{◌≡◌, ◌≤◌, ◌∷◌, ◌++◌, ◌+◌, [], take, drop, refl, sym, ap, ◌∙◌, length, map, subst, List, get_or, arith}
 use Rattle.std.specs.Prelude.{filter}
 use Rattle.std.specs.List.{remove}
 use Rattle.grub_rules.specs.Accounts.{AreAccounts, Exchanges}
 use Rattle.grub_rules.proofs.CallerLemmas.{held_at, parted_at}
+use Rattle.std.proofs.lemmas.Grind.{common_steps}
 use Rattle.domain_run.specs.declared.task.Task.{Task}
 use Rattle.domain_run.specs.declared.run_queue.RunQueue.{RunQueue}
 use Rattle.domain_run.specs.Calls.{is_other}
@@ -64,3 +65,15 @@ remove_timer-requires-clause-known c =
     let tasks = c.args.tasks.now in
     ap (λ due. remove due c.in-Some.place) c.requires.counted.counts.due ∙ remove_map due_of tasks c.in-Some.place
     ∙ ap (map due_of) (sym c.remove.ensures)
+
+pub returns-in_default-clause-counted : goal.returns-in_default-clause-counted
+returns-in_default-clause-counted c = grind (arith, common_steps)
+
+pub returns-in_default-clause-schedule : goal.returns-in_default-clause-schedule
+returns-in_default-clause-schedule c = grind (arith, common_steps)
+
+pub remove_timer-requires-clause-one : goal.remove_timer-requires-clause-one
+remove_timer-requires-clause-one c = grind (arith, common_steps)
+
+pub returns-clause-schedule : goal.returns-clause-schedule
+returns-clause-schedule c = grind (arith, common_steps)

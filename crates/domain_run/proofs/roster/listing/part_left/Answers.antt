@@ -3,6 +3,7 @@ use Rattle.std.specs.Prelude.{filter}
 use Rattle.std.specs.List.{remove}
 use Rattle.grub_rules.specs.Accounts.{AreAccounts, Exchanges}
 use Rattle.grub_rules.proofs.CallerLemmas.{held_at, parted_at}
+use Rattle.std.proofs.lemmas.Grind.{common_steps}
 use Rattle.domain_run.specs.declared.task.Task.{Task}
 use Rattle.domain_run.specs.Parts.{is_listed}
 use Rattle.domain_run.specs.Tick.{share_of, shares}
@@ -47,3 +48,18 @@ loop-place-preserved-then-not-is_listed c =
       sums = subst (λ (ts : List Task). AreAccounts new (shares ts)) (sym (c.remove.ensures ∙ removed_parts l.tasks p)) (parted_at share_of l.accounts new l.tasks p t now change l.invariant.sums);
       wide = c.part.ensures.cpus ∙ l.invariant.wide;
     }
+
+pub loop-place-init : goal.loop-place-init
+loop-place-init c = grind (arith, common_steps)
+
+pub loop-place-preserved : goal.loop-place-preserved
+loop-place-preserved c = grind (arith, common_steps)
+
+pub returns-clause-tasks : goal.returns-clause-tasks
+returns-clause-tasks c = grind (arith, common_steps)
+
+pub returns-clause-sums : goal.returns-clause-sums
+returns-clause-sums c = grind (arith, common_steps)
+
+pub returns-clause-wide : goal.returns-clause-wide
+returns-clause-wide c = grind (arith, common_steps)

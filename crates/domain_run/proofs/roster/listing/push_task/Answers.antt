@@ -2,6 +2,7 @@ use Rattle.std.proofs.Common.{◌≡◌, ℕ, ◌++◌, ◌∷◌, [], refl, sym
 use Rattle.std.proofs.lemmas.List.Elements.{All-push}
 use Rattle.grub_rules.specs.declared.share.Share.{Share}
 use Rattle.grub_rules.specs.Accounts.{Exchanges}
+use Rattle.std.proofs.lemmas.Grind.{common_steps}
 use Rattle.domain_run.specs.declared.task.Task.{Task}
 use Rattle.domain_run.specs.declared.run_queue.RunQueue.{RunQueue}
 use Rattle.domain_run.specs.Parts.{with_last_cpu}
@@ -26,3 +27,24 @@ returns-clause-counted c =
       roster = roster_push tasks t c.requires.few c.requires.short c.requires.absent c.requires.counted.roster;
       homed = All-push (λ (u : Task). with_last_cpu queue.schedule.places u ≡ u) tasks t c.requires.counted.homed c.requires.homed;
     })
+
+pub join-requires-clause-home : goal.join-requires-clause-home
+join-requires-clause-home c = grind (arith, common_steps)
+
+pub returns-clause-tasks : goal.returns-clause-tasks
+returns-clause-tasks c = grind (arith, common_steps)
+
+pub returns-clause-schedule : goal.returns-clause-schedule
+returns-clause-schedule c = grind (arith, common_steps)
+
+pub share_of-requires : goal.share_of-requires
+share_of-requires c = grind (arith, common_steps)
+
+pub due_of-requires : goal.due_of-requires
+due_of-requires c = grind (arith, common_steps)
+
+pub push-requires : goal.push-requires
+push-requires c = grind (arith, common_steps)
+
+pub push-requires-2 : goal.push-requires-2
+push-requires-2 c = grind (arith, common_steps)

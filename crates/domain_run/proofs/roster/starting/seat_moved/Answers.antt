@@ -5,6 +5,7 @@ use Rattle.std.proofs.lemmas.List.{get_or_default, append-nil, append_assoc, map
 use Rattle.attr_check.specs.Ratio.{cap}
 use Rattle.edf_pick.specs.declared.moves.Moved.{Moved}
 use Rattle.edf_pick.specs.Places.{Places}
+use Rattle.std.proofs.lemmas.Grind.{common_steps}
 use Rattle.domain_run.specs.Switch.{Switch, IsLeftIn}
 use Rattle.domain_run.specs.declared.switch.PrevState.{PrevState}
 use Rattle.domain_run.specs.declared.task.Task.{Task}
@@ -136,3 +137,27 @@ returns-clause-settled c =
     let l = c.loop-i in
     λ cpu. subst (λ (ps : Places). IsTrusted l.doubts (length c.args.accounts.now.all) (occupant ps cpu) l.seats.seats (owed_all l.seats l.tasks) cpu) c.occupants-places.ensures.occupants
     (l.invariant.trusted cpu (λ j d low h. absurd (omega (arith, low, h))))
+
+pub seat_next-requires-clause-limit : goal.seat_next-requires-clause-limit
+seat_next-requires-clause-limit c = grind (arith, common_steps)
+
+pub returns-clause-wide : goal.returns-clause-wide
+returns-clause-wide c = grind (arith, common_steps)
+
+pub returns-clause-counts : goal.returns-clause-counts
+returns-clause-counts c = grind (arith, common_steps)
+
+pub returns-clause-tasks : goal.returns-clause-tasks
+returns-clause-tasks c = grind (arith, common_steps)
+
+pub returns-clause-clock : goal.returns-clause-clock
+returns-clause-clock c = grind (arith, common_steps)
+
+pub returns-clause-seats : goal.returns-clause-seats
+returns-clause-seats c = grind (arith, common_steps)
+
+pub returns-clause-switches : goal.returns-clause-switches
+returns-clause-switches c = grind (arith, common_steps)
+
+pub returns-clause-spare : goal.returns-clause-spare
+returns-clause-spare c = grind (arith, common_steps)

@@ -1,6 +1,7 @@
-use Rattle.std.proofs.Common.{◌≡◌, ◌≤◌, ℕ, None, Some, Option, List, length, map, get_or, set, refl, sym, ap, subst, ◌∙◌}
+use Rattle.std.proofs.Common.{◌≡◌, ◌≤◌, ℕ, None, Some, Option, List, length, map, get_or, set, refl, sym, ap, subst, ◌∙◌, arith}
 use Rattle.std.specs.Prelude.{IfSome}
 use Rattle.attr_check.specs.Ratio.{cap}
+use Rattle.std.proofs.lemmas.Grind.{common_steps}
 use Rattle.domain_run.specs.declared.task.Task.{Task}
 use Rattle.domain_run.specs.Tick.{sum_of}
 use Rattle.domain_run.specs.private.Choosing.{IsHome}
@@ -96,3 +97,90 @@ returns-in-Some-clause-trust c i o other was =
     let now = c.sit_at.ensures.trust i o other (subst (λ (n : ℕ). IsTrusted c.home_on-place.new.doubts n o c.leave_free_on.new.seats.seats then i) (sym c.home_on-place.ensures.wide) mid) in
     subst (λ (ts : List Task). IsTrusted c.sit_at.new.doubts w o c.sit_at.new.seats.seats ts i) (seen a)
     (subst (λ (n : ℕ). IsTrusted c.sit_at.new.doubts n o c.sit_at.new.seats.seats then i) c.home_on-place.ensures.wide now)
+
+pub home_on-place-requires-clause-there : goal.home_on-place-requires-clause-there
+home_on-place-requires-clause-there c = grind (arith, common_steps)
+
+pub home_on-place-requires-clause-counts : goal.home_on-place-requires-clause-counts
+home_on-place-requires-clause-counts c = grind (arith, common_steps)
+
+pub leave_free_on-requires-clause-there : goal.leave_free_on-requires-clause-there
+leave_free_on-requires-clause-there c = grind (arith, common_steps)
+
+pub leave_free_on-requires-clause-waits : goal.leave_free_on-requires-clause-waits
+leave_free_on-requires-clause-waits c = grind (arith, common_steps)
+
+pub returns-then-is_none-clause-wide : goal.returns-then-is_none-clause-wide
+returns-then-is_none-clause-wide c = grind (arith, common_steps)
+
+pub returns-then-is_none-clause-counts : goal.returns-then-is_none-clause-counts
+returns-then-is_none-clause-counts c = grind (arith, common_steps)
+
+pub returns-then-is_none-clause-tasks : goal.returns-then-is_none-clause-tasks
+returns-then-is_none-clause-tasks c = grind (arith, common_steps)
+
+pub returns-then-is_none-clause-clock : goal.returns-then-is_none-clause-clock
+returns-then-is_none-clause-clock c = grind (arith, common_steps)
+
+pub returns-then-is_none-clause-seats : goal.returns-then-is_none-clause-seats
+returns-then-is_none-clause-seats c = grind (arith, common_steps)
+
+pub returns-then-is_none-clause-here : goal.returns-then-is_none-clause-here
+returns-then-is_none-clause-here c = grind (arith, common_steps)
+
+pub sit_at-requires-clause-there : goal.sit_at-requires-clause-there
+sit_at-requires-clause-there c = grind (arith, common_steps)
+
+pub sit_at-requires-clause-wide : goal.sit_at-requires-clause-wide
+sit_at-requires-clause-wide c = grind (arith, common_steps)
+
+pub sit_at-requires-clause-cpus : goal.sit_at-requires-clause-cpus
+sit_at-requires-clause-cpus c = grind (arith, common_steps)
+
+pub sit_at-requires-clause-limit : goal.sit_at-requires-clause-limit
+sit_at-requires-clause-limit c = grind (arith, common_steps)
+
+pub sit_at-requires-clause-counts : goal.sit_at-requires-clause-counts
+sit_at-requires-clause-counts c = grind (arith, common_steps)
+
+pub sit_at-requires-clause-free : goal.sit_at-requires-clause-free
+sit_at-requires-clause-free c = grind (arith, common_steps)
+
+pub sit_at-requires-clause-at : goal.sit_at-requires-clause-at
+sit_at-requires-clause-at c = grind (arith, common_steps)
+
+pub sit_at-requires-clause-home : goal.sit_at-requires-clause-home
+sit_at-requires-clause-home c = grind (arith, common_steps)
+
+pub returns-in-Some-clause-wide : goal.returns-in-Some-clause-wide
+returns-in-Some-clause-wide c = grind (arith, common_steps)
+
+pub returns-in-Some-clause-counts : goal.returns-in-Some-clause-counts
+returns-in-Some-clause-counts c = grind (arith, common_steps)
+
+pub returns-in-Some-clause-tasks : goal.returns-in-Some-clause-tasks
+returns-in-Some-clause-tasks c = grind (arith, common_steps)
+
+pub returns-in-Some-clause-clock : goal.returns-in-Some-clause-clock
+returns-in-Some-clause-clock c = grind (arith, common_steps)
+
+pub returns-in-Some-clause-seats : goal.returns-in-Some-clause-seats
+returns-in-Some-clause-seats c = grind (arith, common_steps)
+
+pub returns-in_default-clause-wide : goal.returns-in_default-clause-wide
+returns-in_default-clause-wide c = grind (arith, common_steps)
+
+pub returns-in_default-clause-counts : goal.returns-in_default-clause-counts
+returns-in_default-clause-counts c = grind (arith, common_steps)
+
+pub returns-in_default-clause-tasks : goal.returns-in_default-clause-tasks
+returns-in_default-clause-tasks c = grind (arith, common_steps)
+
+pub returns-in_default-clause-clock : goal.returns-in_default-clause-clock
+returns-in_default-clause-clock c = grind (arith, common_steps)
+
+pub returns-in_default-clause-seats : goal.returns-in_default-clause-seats
+returns-in_default-clause-seats c = grind (arith, common_steps)
+
+pub returns-in_default-clause-here : goal.returns-in_default-clause-here
+returns-in_default-clause-here c = grind (arith, common_steps)

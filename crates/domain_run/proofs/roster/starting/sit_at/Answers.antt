@@ -1,12 +1,17 @@
-use Rattle.std.proofs.Common.{◌≡◌, ◌<◌, ◌≤◌, ◌*◌, Some, length, get_or, sym, ap, subst, ◌∙◌, arith}
-use Rattle.std.proofs.lemmas.List.{get_or_default}
+use Rattle.std.proofs.Common.{◌≡◌, ◌<◌, ◌≤◌, ◌*◌, Some, length, get_or, sym, ap, subst, ◌∙◌, arith, None, Option}
+use Rattle.std.specs.Prelude.{IfSome}
+use Rattle.std.proofs.lemmas.List.{get_or_default, get_or-set_same, length-map}
 use Rattle.std.proofs.Math.Nat.{mul-le-mul}
 use Rattle.attr_check.specs.Ratio.{cap}
 use Rattle.grub_rules.proofs.CallerLemmas.{uinact-le-total_bw}
+use Rattle.std.proofs.lemmas.Grind.{common_steps}
 use Rattle.domain_run.specs.declared.task.Task.{Task}
 use Rattle.domain_run.specs.Tick.{shares}
-use Rattle.domain_run.specs.private.Doubts.{IsTrusted}
+use Rattle.domain_run.specs.private.Doubts.{IsTrusted, IsSettled}
+use Rattle.domain_run.specs.private.Roster.{basis_in}
 use Rattle.due_times.specs.Seats.{SeatsView}
+use Rattle.due_times.specs.declared.seats.Basis.{Basis}
+use Rattle.due_times.specs.declared.seats.Seat.{Seat}
 use Rattle.domain_run.specs.private.Waiting.{owed, owed_all, AllWait, Waits, MaySit}
 use Rattle.domain_run.proofs.Bare.{bare_on}
 use Rattle.domain_run.proofs.Counting.{inactive_is}
@@ -14,6 +19,7 @@ use Rattle.domain_run.proofs.Doubting.{seat_other}
 use Rattle.domain_run.proofs.Placing.{one_index}
 use Rattle.domain_run.proofs.Seatings.{taken_view, taken_waits}
 use Rattle.domain_run.proofs.Waiting.{alike_owed, numbered_unlike}
+use Rattle.domain_run.proofs.Dozing.{seen_alike}
 use Rattle.domain_run.proofs.roster.starting.sit_at.Goals as goal
 
 pub rating_of-rating-requires-clause-uinact : goal.rating_of-rating-requires-clause-uinact
@@ -66,3 +72,71 @@ returns-clause-trust c i o other was =
     let w = length c.args.accounts.now.all in
     subst (λ (v : SeatsView). IsTrusted c.clear_for.new.self w o v.seats tasks i) (sym c.sit_down.ensures)
     (seat_other c.args.doubts.now c.clear_for.new.self w c.args.cpu i o (Some c.seat_for-seat.result) s.seats tasks (q.others i other) (q.elsewhere i other) q.sum q.limit other was)
+
+pub rating_of-rating-requires-clause-there : goal.rating_of-rating-requires-clause-there
+rating_of-rating-requires-clause-there c = grind (arith, common_steps)
+
+pub rating_of-rating-requires-clause-cpus : goal.rating_of-rating-requires-clause-cpus
+rating_of-rating-requires-clause-cpus c = grind (arith, common_steps)
+
+pub rating_of-rating-requires-clause-limit : goal.rating_of-rating-requires-clause-limit
+rating_of-rating-requires-clause-limit c = grind (arith, common_steps)
+
+pub rating_of-rating-requires-clause-within : goal.rating_of-rating-requires-clause-within
+rating_of-rating-requires-clause-within c = grind (arith, common_steps)
+
+pub seat_for-seat-requires-clause-turns : goal.seat_for-seat-requires-clause-turns
+seat_for-seat-requires-clause-turns c = grind (arith, common_steps)
+
+pub seat_for-seat-requires-clause-slow : goal.seat_for-seat-requires-clause-slow
+seat_for-seat-requires-clause-slow c = grind (arith, common_steps)
+
+pub seat_for-seat-requires-clause-rated : goal.seat_for-seat-requires-clause-rated
+seat_for-seat-requires-clause-rated c = grind (arith, common_steps)
+
+pub seat_for-seat-requires-clause-early : goal.seat_for-seat-requires-clause-early
+seat_for-seat-requires-clause-early c = grind (arith, common_steps)
+
+pub sit_down-requires-clause-there : goal.sit_down-requires-clause-there
+sit_down-requires-clause-there c = grind (arith, common_steps)
+
+pub sit_down-requires-clause-ahead : goal.sit_down-requires-clause-ahead
+sit_down-requires-clause-ahead c = grind (arith, common_steps)
+
+pub returns-clause-clock : goal.returns-clause-clock
+returns-clause-clock c = grind (arith, common_steps)
+
+pub returns-clause-wide : goal.returns-clause-wide
+returns-clause-wide c = grind (arith, common_steps)
+
+pub returns-clause-others : goal.returns-clause-others
+returns-clause-others c = grind (arith, common_steps)
+
+pub returns-clause-here : goal.returns-clause-here
+returns-clause-here c = grind (arith, common_steps)
+
+pub returns-clause-sum : goal.returns-clause-sum
+returns-clause-sum c = grind (arith, common_steps)
+
+pub returns-clause-limit : goal.returns-clause-limit
+returns-clause-limit c = grind (arith, common_steps)
+
+pub returns-clause-sits : goal.returns-clause-sits
+returns-clause-sits c d =
+    let s = c.args.seats.now in
+    let p = c.args.place in
+    let cpu = c.args.cpu in
+    let seat = c.seat_for-seat.result in
+    let rating = c.rating_of-rating in
+    let tasks = owed_all s c.args.tasks.now in
+    let many : length tasks ≡ length c.args.tasks.now = simp length-map in
+    let within : p < length tasks = omega (arith, c.requires.at, many) in
+    let there : cpu < length s.seats = omega (arith, c.requires.there, c.requires.wide) in
+    let sat : get_or c.sit_down.new.self.seats cpu None ≡ Some seat = ap (λ (v : SeatsView). get_or v.seats cpu None) c.sit_down.ensures ∙ get_or-set_same s.seats cpu (Some seat) None there in
+    let named : seat.number ≡ (get_or tasks p d).number = c.seat_for-seat.ensures.number ∙ sym (seen_alike s c.args.tasks.now p c.at-task.result.now d within c.at-task.ensures).number in
+    let sums = c.requires.counts.sums in
+    let inactive = inactive_is c.args.accounts.now (shares tasks) cpu sums in
+    let w = length c.args.accounts.now.all in
+    let noted = subst (λ (m : Basis). IfSome rating.result.basis (λ b. b ≡ m)) (λ i. record { uinact = inactive i; sum = sums.total i; cpus = w; limit = c.args.limit }) rating.ensures.basis in
+    subst (λ (o : Option Seat). IsSettled (Some (get_or tasks p d).number) (basis_in w c.args.limit tasks cpu) o) (sym sat)
+    (named, subst (λ o. IfSome o (λ b. b ≡ basis_in w c.args.limit tasks cpu)) (sym c.seat_for-seat.ensures.basis) noted)

@@ -1,5 +1,6 @@
-use Rattle.std.proofs.Common.{◌≤◌, ◌+◌, ◌<◌, ◌^◌, sym, ap, ◌∙◌, subst}
+use Rattle.std.proofs.Common.{◌≤◌, ◌+◌, ◌<◌, ◌^◌, sym, ap, ◌∙◌, subst, arith}
 use Rattle.attr_check.specs.Ratio.{cap}
+use Rattle.std.proofs.lemmas.Grind.{common_steps}
 use Rattle.domain_run.specs.Domain.{Domain}
 use Rattle.domain_run.specs.Jump.{under_way, running_numbers}
 use Rattle.domain_run.specs.Sound.{IsDomain, IsPlacement}
@@ -56,3 +57,42 @@ returns-clause-begun c made =
     let placed : IsPlacement (under_way d) = (under_way_is d c.self.invariant.domain early c.begin_seated-changed.ensures.prepared).1 in
     let same = returns-clause-ok c made in
     record { before = c.args.self.now; begun = same; placed = subst IsPlacement (sym (same ∙ ap under_way (sym c.self.view_is))) placed }
+
+pub returns-then-capacity-len-clause-some : goal.returns-then-capacity-len-clause-some
+returns-then-capacity-len-clause-some c = grind (arith, common_steps)
+
+pub returns-then-capacity-len-clause-ok : goal.returns-then-capacity-len-clause-ok
+returns-then-capacity-len-clause-ok c = grind (arith, common_steps)
+
+pub returns-then-capacity-len-clause-begun : goal.returns-then-capacity-len-clause-begun
+returns-then-capacity-len-clause-begun c = grind (arith, common_steps)
+
+pub returns-then-capacity-len-clause-full : goal.returns-then-capacity-len-clause-full
+returns-then-capacity-len-clause-full c = grind (arith, common_steps)
+
+pub returns-then-capacity-len-clause-domain : goal.returns-then-capacity-len-clause-domain
+returns-then-capacity-len-clause-domain c = grind (arith, common_steps)
+
+pub begin_seated-changed-requires-clause-limit : goal.begin_seated-changed-requires-clause-limit
+begin_seated-changed-requires-clause-limit c = grind (arith, common_steps)
+
+pub begin_seated-changed-requires-clause-early : goal.begin_seated-changed-requires-clause-early
+begin_seated-changed-requires-clause-early c = grind (arith, common_steps)
+
+pub begin_seated-changed-requires-clause-sound : goal.begin_seated-changed-requires-clause-sound
+begin_seated-changed-requires-clause-sound c = grind (arith, common_steps)
+
+pub begin_seated-changed-requires-clause-apart : goal.begin_seated-changed-requires-clause-apart
+begin_seated-changed-requires-clause-apart c = grind (arith, common_steps)
+
+pub begin_seated-changed-requires-clause-room : goal.begin_seated-changed-requires-clause-room
+begin_seated-changed-requires-clause-room c = grind (arith, common_steps)
+
+pub returns-clause-some : goal.returns-clause-some
+returns-clause-some c = grind (arith, common_steps)
+
+pub returns-clause-full : goal.returns-clause-full
+returns-clause-full c = grind (arith, common_steps)
+
+pub returns-clause-domain : goal.returns-clause-domain
+returns-clause-domain c = grind (arith, common_steps)

@@ -1,5 +1,6 @@
-use Rattle.std.proofs.Common.{◌<◌, ◌≤◌, ◌^◌, length, sym, ap, subst, ◌∙◌}
+use Rattle.std.proofs.Common.{◌<◌, ◌≤◌, ◌^◌, length, sym, ap, subst, ◌∙◌, arith}
 use Rattle.std.specs.Prelude.{pos, ◌<ℤ◌, ◌≤ℤ◌, IfSome, is_some}
+use Rattle.std.proofs.lemmas.Grind.{common_steps}
 use Rattle.domain_run.specs.declared.running.Running.{Running}
 use Rattle.domain_run.specs.Domain.{Domain}
 use Rattle.domain_run.specs.Jump.{running_numbers, running}
@@ -44,3 +45,21 @@ returns-clause-short c =
 
 pub standing_at-requires : goal.standing_at-requires
 standing_at-requires c listed = c.deref.ensures.value ∙ c.self.invariant.running_is listed ∙ ap running_numbers (sym c.occupants-places.ensures.occupants)
+
+pub returns-in_default-clause-running : goal.returns-in_default-clause-running
+returns-in_default-clause-running c = grind (arith, common_steps)
+
+pub returns-in_default-clause-some : goal.returns-in_default-clause-some
+returns-in_default-clause-some c = grind (arith, common_steps)
+
+pub returns-in_default-clause-lifted : goal.returns-in_default-clause-lifted
+returns-in_default-clause-lifted c = grind (arith, common_steps)
+
+pub returns-in_default-clause-short : goal.returns-in_default-clause-short
+returns-in_default-clause-short c = grind (arith, common_steps)
+
+pub returns-in_default-clause-high : goal.returns-in_default-clause-high
+returns-in_default-clause-high c = grind (arith, common_steps)
+
+pub runner-requires : goal.runner-requires
+runner-requires c = grind (arith, common_steps)

@@ -1,0 +1,18 @@
+use Rattle.std.proofs.Common.{arith}
+use Rattle.std.proofs.lemmas.Grind.{common_steps}
+use Rattle.domain_run.proofs.roster.choosing.start.Goals as goal
+
+pub shift-requires-clause-held : goal.shift-requires-clause-held
+shift-requires-clause-held c = grind (arith, common_steps)
+
+pub shift-requires-clause-home : goal.shift-requires-clause-home
+shift-requires-clause-home c = grind (arith, common_steps)
+
+pub returns-clause-task : goal.returns-clause-task
+returns-clause-task c = grind (arith, common_steps)
+
+pub returns-clause-sums : goal.returns-clause-sums
+returns-clause-sums c = grind (arith, common_steps)
+
+pub returns-clause-seats : goal.returns-clause-seats
+returns-clause-seats c = grind (arith, common_steps)
