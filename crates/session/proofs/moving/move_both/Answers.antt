@@ -1,4 +1,5 @@
 use Rattle.std.proofs.Common.{◌<◌, length, take, drop, sym, ap, ◌∙◌, arith}
+use Rattle.std.proofs.lemmas.Grind.{common_steps}
 use Rattle.session.proofs.Moved.{passes_up, passes_down}
 use Rattle.session.proofs.moving.move_both.Goals as goal
 
@@ -22,3 +23,9 @@ returns-else-this-clause-moved g c =
     less (omega (arith, c.requires.from, c.requires.passes.count)) (sym c.deref_mut-else-this.ensures.len ∙ ap length items)
     (cut.ensures.front ∙ ap (take g.row.D) items) (cut.ensures.back ∙ ap (drop g.row.D) items)
     c.move_to-else-this.ensures.answered
+
+pub returns-then-this-clause-own : goal.returns-then-this-clause-own
+returns-then-this-clause-own g c = grind (arith, common_steps)
+
+pub returns-else-this-clause-own : goal.returns-else-this-clause-own
+returns-else-this-clause-own g c = grind (arith, common_steps)

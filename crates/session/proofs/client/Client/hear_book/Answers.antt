@@ -1,4 +1,5 @@
 use Rattle.std.proofs.Common.{◌≡◌, ◌<◌, ◌∙◌, get_or, length, refl, sym, ap, arith}
+use Rattle.std.proofs.lemmas.Grind.{common_steps}
 use Rattle.session.specs.Asks.{ClientView}
 use Rattle.session.specs.private.Ending.{IsHeardOf}
 use Rattle.session.proofs.Advanced.{heard_as, hears_end, made_all, makes_all}
@@ -29,3 +30,18 @@ returns-clause-heard g c =
       | in-Err-Full w ↦ rw w.result-is tt
       | in-Err-Memory w ↦ rw w.result-is tt
     ]
+
+pub returns-clause-named : goal.returns-clause-named
+returns-clause-named g c = grind (arith, common_steps)
+
+pub returns-clause-domains : goal.returns-clause-domains
+returns-clause-domains g c = grind (arith, common_steps)
+
+pub returns-clause-ends : goal.returns-clause-ends
+returns-clause-ends g c = grind (arith, common_steps)
+
+pub returns-clause-forgotten : goal.returns-clause-forgotten
+returns-clause-forgotten g c = grind (arith, common_steps)
+
+pub returns-clause-err : goal.returns-clause-err
+returns-clause-err g c = grind (arith, common_steps)

@@ -1,5 +1,6 @@
-use Rattle.std.proofs.Common.{◌≡◌, ℕ, List, length, sym, ap, subst, ◌∙◌}
+use Rattle.std.proofs.Common.{◌≡◌, ℕ, List, length, sym, ap, subst, ◌∙◌, arith}
 use Rattle.std.proofs.lemmas.List.{length-map}
+use Rattle.std.proofs.lemmas.Grind.{common_steps}
 use Rattle.session.specs.private.Closing.{IsRoom}
 use Rattle.session.proofs.session.Session.unlock.Goals as goal
 
@@ -26,3 +27,15 @@ new-requires-clause-room g c =
     let sets = c.shared.inside.cpu_sets in
     let count : c.len.result ≡ length g.N.Names.id.cpu_sets = c.len.ensures ∙ sets.ok.0 ∙ sym (length-map sets.items (λ v. v.items)) ∙ ap (λ (l : List (List ℕ)). length l) c.shared.invariant.1 in
     subst (λ (n : ℕ). IsRoom n c.in-Ok.rooms.room) count c.in-Ok.ensures.room
+
+pub new-requires-clause-blanks : goal.new-requires-clause-blanks
+new-requires-clause-blanks g c = grind (arith, common_steps)
+
+pub new-requires-clause-ending : goal.new-requires-clause-ending
+new-requires-clause-ending g c = grind (arith, common_steps)
+
+pub new-requires-clause-for_all : goal.new-requires-clause-for_all
+new-requires-clause-for_all g c = grind (arith, common_steps)
+
+pub new-requires-clause-limit : goal.new-requires-clause-limit
+new-requires-clause-limit g c = grind (arith, common_steps)
