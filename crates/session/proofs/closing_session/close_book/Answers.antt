@@ -1,6 +1,5 @@
 use Rattle.std.proofs.Common.{ap, ◌∙◌, arith}
 use Rattle.call_book.specs.Ending.{EndingView}
-use Rattle.std.proofs.lemmas.Grind.{common_steps}
 use Rattle.session.proofs.Closed.{apart}
 use Rattle.session.proofs.closing_session.close_book.Goals as goal
 
@@ -9,18 +8,3 @@ returns-clause-elsewhere g c = λ d other.
     let book = c.agree_all.new.book in
     let here = ap (λ (e : EndingView). e.book.domain) c.agree_all.ensures.book ∙ c.requires.named.domain in
     omega (arith, c.pour_tickets.ensures.sums d, apart book.book.gate book.book.domain d c.close-state.result.tickets.items c.close-state.ensures.homes (λ same. other (same ∙ here)))
-
-pub returns-clause-clients : goal.returns-clause-clients
-returns-clause-clients g c = c.agree_all.ensures.clients
-
-pub returns-clause-room : goal.returns-clause-room
-returns-clause-room g c = c.pour_tickets.ensures.room
-
-pub returns-clause-ended : goal.returns-clause-ended
-returns-clause-ended g c = grind (arith, common_steps)
-
-pub returns-clause-count : goal.returns-clause-count
-returns-clause-count g c = grind (arith, common_steps)
-
-pub agree_all-requires : goal.agree_all-requires
-agree_all-requires g c = record { named = c.requires.named }

@@ -10,9 +10,3 @@ returns-clause-logs g c =
     let count : c.len.result ≡ length books = omega (arith, c.len.ensures, c.args.unlocked.now.books.ok.0, c.advance_all.ensures.count) in
     end_logs c.args.wanted c.args.duration books logs c.advance_all.new.logs.items (subst (λ (n : ℕ). AreOpenLogs n c.args.wanted logs) count c.in_ok-logs.ensures)
     c.advance_all.ensures.logs c.in_ok-advance_all.ensures.told
-
-pub returns-clause-made : goal.returns-clause-made
-returns-clause-made g c = c.in_ok-advance_all.ensures.made
-
-pub returns-clause-ends : goal.returns-clause-ends
-returns-clause-ends g c = c.in_ok-advance_all.ensures.ends

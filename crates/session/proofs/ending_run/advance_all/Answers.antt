@@ -2,7 +2,6 @@ use Rattle.std.proofs.Common.{◌≡◌, ◌≤◌, ◌<◌, ◌+◌, ◌∙◌,
 use Rattle.std.proofs.lemmas.List.{length-set}
 use Rattle.std.proofs.lemmas.Result.{err_from_is_err_and}
 use Rattle.call_book.specs.Book.{IsFull}
-use Rattle.std.proofs.lemmas.Grind.{common_steps}
 use Rattle.session.specs.private.Ending.{IsFullAmong}
 use Rattle.session.proofs.Advanced.{makes_everywhere, makes_more, named_set, ends_by, ends_more, tell_more, rest_stay, stopped_so, full_among}
 use Rattle.session.proofs.ending_run.advance_all.Goals as goal
@@ -59,9 +58,3 @@ returns-in_err-advance_book-clause-err g c =
     rw (p.1, p.2) (stopped_so (IsFull b × (now ≡ c.loop-place.client)) (IsFullAmong c.args.duration (set books n b) a now) c.in_err-advance_book.field-0.0
     (λ met. full_among n c.args.duration books b a c.loop-place.client now inside there c.requires.some inv.made met.0 met.1)
     c.in_err-advance_book.ensures.err)
-
-pub returns-clause-named : goal.returns-clause-named
-returns-clause-named g c = c.loop-place.invariant.named
-
-pub returns-in_err-advance_book-clause-named : goal.returns-in_err-advance_book-clause-named
-returns-in_err-advance_book-clause-named g c = grind (arith, common_steps)

@@ -4,7 +4,6 @@ use Rattle.std.proofs.lemmas.Result.{err_from_is_err_and}
 use Rattle.run_figures.specs.Accounting.{AccountingView}
 use Rattle.call_book.specs.Book.{BookView, IsFull}
 use Rattle.call_book.specs.Ending.{EndingView}
-use Rattle.std.proofs.lemmas.Grind.{common_steps}
 use Rattle.session.specs.private.Ending.{IsFullAmong, books_of}
 use Rattle.session.specs.private.Entering.{IsSessionBook}
 use Rattle.session.specs.private.Parts.{AreSessionBooks}
@@ -95,15 +94,3 @@ returns-clause-made g c =
     let all : length g.N.Names.id.cpu_sets ≤ c.loop-place.place = omega (arith, c.requires.count, c.loop-place-test.false, c.len-place-end.ensures, c.args.books.now.ok.0) in
     let count = inv.domains (omega (arith, all, c.requires.domains)) in
     makes_everywhere c.args.duration c.loop-place.place c.args.client.now c.loop-place.client c.requires.some (omega (arith, count, all)) inv.made
-
-pub returns-clause-named : goal.returns-clause-named
-returns-clause-named g c = c.loop-place.invariant.named
-
-pub returns-clause-ends : goal.returns-clause-ends
-returns-clause-ends g c = grind (arith, common_steps)
-
-pub returns-clause-forgotten : goal.returns-clause-forgotten
-returns-clause-forgotten g c = grind (arith, common_steps)
-
-pub returns-clause-heard : goal.returns-clause-heard
-returns-clause-heard g c = grind (arith, common_steps)
