@@ -12,8 +12,8 @@ ghost use Rattle.domain_run.specs.private.RunQueue.{AreHomed};
 ghost use Rattle.domain_run.specs.private.Waiting.{MaySitOn};
 
 use crate::roster::{Lags, Roster};
-use due_times::first_marked;
 use cpu_marks::without;
+use due_times::first_marked;
 
 /// Who stands on each CPU sits there at its rate, and nobody else sits. A look at those alone that
 /// are in doubt.
