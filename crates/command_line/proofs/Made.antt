@@ -6,11 +6,7 @@ use Rattle.clap.specs.declared.builder.arg.Arg.{Arg}
 use Rattle.clap.specs.declared.builder.command.Command.{Command}
 use Rattle.clap.specs.declared.builder.command.Command.TheOpen.{Command-F}
 use Rattle.clap.specs.declared.builder.command.Command.TheViews.{out-Command}
-
--- this is what clap reads of the command
-pub record IsMade (c : Command) (app : App) : Type 0 where
-  pub is : app_of c ≡ app
-  pub local : (out-Command c).has_globals ≡ false
+use Rattle.command_line.specs.private.Made.{IsMade}
 
 -- a setting that clap reads as `now`
 pub changed : (old new : Command) (fields : Command-F Command) (app now : App) → out-Command new ≡ fields → app_of_fields fields ≡ now

@@ -2,8 +2,9 @@
 
 ghost use Rattle.std.specs.Prelude.{◌≡◌, ◌^◌, neg_ℤ, pos, IfOk, Some, codes, false};
 ghost use Rattle.clap.specs.declared.builder.value_parser.ValueParser.TheVariants.{Signed, Unsigned};
-ghost use Rattle.clap.specs.Words.{rule_of};
+ghost use Rattle.clap.specs.Words.{App, Rule, rule_of, with_rule, with_subcommand};
 ghost use Rattle.command_line.specs.Commands.{AreTexts, HeldNames, IsCompare, IsProgram, IsReplay, IsRun, counted, file, flag, moment, option, print_option, replay_texts, run_texts, tested};
+ghost use Rattle.command_line.specs.private.Made.{IsMade, of_all};
 
 use crate::texts::{
     ABOUT, ABOUT_END, CLIENTS_HELP, COMPARE_ABOUT, COMPARE_END, CPUS_HELP, DOMAINS_HELP, FROM_HELP,
@@ -156,50 +157,99 @@ fn shift<'a>(alloc: Global) -> Arg<'a>
     tested(alloc, "shift", test, SHIFT_HELP)
 }
 
-/// The command that runs a scenario. An option is made where it is added, so that none has to be
-/// let go where memory runs out.
+/// The command with an option more, where it is there and memory is.
+fn with<'a>(
+    command: Result<Command<'a>, AllocError>,
+    arg: Arg<'a>,
+) -> Result<Command<'a>, AllocError>
+    requires local { arg.global ≡ false }
+    ensures { (app : App) (rule : Rule) → IfOk command.entry (λ c. IsMade c app)
+        → rule_of arg.entry ≡ rule → IfOk result (λ c. IsMade c (with_rule app rule)) }
+{
+    match command {
+        Ok(command) => command.arg(arg),
+        Err(error) => {
+            drop(arg);
+            Err(error)
+        }
+    }
+}
+
+/// The command with a command more, where it is there and memory is.
+fn with_command<'a>(
+    command: Result<Command<'a>, AllocError>,
+    sub: Command<'a>,
+) -> Result<Command<'a>, AllocError>
+    ensures { (app of_sub : App) → IfOk command.entry (λ c. IsMade c app) → IsMade sub.entry of_sub
+        → IfOk result (λ c. IsMade c (with_subcommand app of_sub.top)) }
+{
+    match command {
+        Ok(command) => command.subcommand(sub),
+        Err(error) => {
+            drop(sub);
+            Err(error)
+        }
+    }
+}
+
+/// The command that runs a scenario.
 fn run_command<'a>(alloc: Global) -> Result<Command<'a>, AllocError>
     ensures { IfOk result IsRun }
 {
-    Command::new(alloc, "run")
-        .about(RUN_ABOUT)
-        .after_help(RUN_END)
-        .arg(option(alloc, "domains", "LIST", "1", DOMAINS_HELP))?
-        .arg(counted(alloc, "rt-runtime", MOST_TIME, "950000", RUNTIME_HELP))?
-        .arg(counted(alloc, "rt-period", MOST_TIME, "1000000", PERIOD_HELP))?
-        .arg(counted(alloc, "clients", MOST_CLIENTS, "1", CLIENTS_HELP))?
-        .arg(counted(alloc, "workers", MOST_WORKERS, "1", WORKERS_HELP))?
-        .arg(flag(alloc, "reclaim", RECLAIM_HELP))?
-        .arg(print_run(alloc))?
-        .arg(moment(alloc, "from", FROM_HELP))?
-        .arg(moment(alloc, "to", TO_HELP))
+    let command = Ok(Command::new(alloc, "run").about(RUN_ABOUT).after_help(RUN_END));
+    let command = with(command, option(alloc, "domains", "LIST", "1", DOMAINS_HELP));
+    let runtime = counted(alloc, "rt-runtime", MOST_TIME, "950000", RUNTIME_HELP);
+    let command = with(command, runtime);
+    let period = counted(alloc, "rt-period", MOST_TIME, "1000000", PERIOD_HELP);
+    let command = with(command, period);
+    let clients = counted(alloc, "clients", MOST_CLIENTS, "1", CLIENTS_HELP);
+    let command = with(command, clients);
+    let workers = counted(alloc, "workers", MOST_WORKERS, "1", WORKERS_HELP);
+    let command = with(command, workers);
+    let command = with(command, flag(alloc, "reclaim", RECLAIM_HELP));
+    let command = with(command, print_run(alloc));
+    let command = with(command, moment(alloc, "from", FROM_HELP));
+    with(command, moment(alloc, "to", TO_HELP))
 }
 
 /// The command that replays recorded calls.
 fn replay_command<'a>(alloc: Global) -> Result<Command<'a>, AllocError>
     ensures { IfOk result IsReplay }
 {
-    Command::new(alloc, "replay")
-        .about(REPLAY_ABOUT)
-        .after_help(REPLAY_END)
-        .arg(print_replay(alloc))?
-        .arg(moment(alloc, "from", FROM_HELP))?
-        .arg(moment(alloc, "to", TO_HELP))
+    let command = Command::new(alloc, "replay").about(REPLAY_ABOUT);
+    let command = with(Ok(command.after_help(REPLAY_END)), print_replay(alloc));
+    let command = with(command, moment(alloc, "from", FROM_HELP));
+    with(command, moment(alloc, "to", TO_HELP))
 }
 
 /// The command that compares two traces.
 fn compare_command<'a>(alloc: Global) -> Result<Command<'a>, AllocError>
     ensures { IfOk result IsCompare }
 {
-    Command::new(alloc, "compare")
-        .about(COMPARE_ABOUT)
-        .after_help(COMPARE_END)
-        .arg(file(alloc, "MODEL", MODEL_HELP))?
-        .arg(file(alloc, "RECORDED", RECORDED_HELP))?
-        .arg(within(alloc))?
-        .arg(noise(alloc))?
-        .arg(shift(alloc))?
-        .arg(flag(alloc, "cpus", CPUS_HELP))
+    let command = Command::new(alloc, "compare").about(COMPARE_ABOUT);
+    let command = with(Ok(command.after_help(COMPARE_END)), file(alloc, "MODEL", MODEL_HELP));
+    let command = with(command, file(alloc, "RECORDED", RECORDED_HELP));
+    let command = with(command, within(alloc));
+    let command = with(command, noise(alloc));
+    let command = with(command, shift(alloc));
+    with(command, flag(alloc, "cpus", CPUS_HELP))
+}
+
+/// The command of the three, which has no name yet.
+fn whole<'a>(
+    alloc: Global,
+    run: Command<'a>,
+    replay: Command<'a>,
+    compare: Command<'a>,
+) -> Result<Command<'a>, AllocError>
+    ensures { (of_run of_replay of_compare : App) → IsMade run.entry of_run
+        → IsMade replay.entry of_replay → IsMade compare.entry of_compare
+        → IfOk result (λ c. IsMade c (of_all of_run of_replay of_compare)) }
+{
+    let command = Command::new(alloc, "dlsim").about(ABOUT).after_help(ABOUT_END);
+    let command = with_command(Ok(command.subcommand_required(true)), run);
+    let command = with_command(command, replay);
+    with_command(command, compare)
 }
 
 /// The whole command. It is finished before anything is asked of it, as clap wants it.
@@ -207,14 +257,20 @@ pub(crate) fn program<'a>(alloc: Global) -> Result<Command<'a>, AllocError>
     ensures { IfOk result IsProgram }
 {
     let run = run_command(alloc)?;
-    let replay = replay_command(alloc)?;
-    let compare = compare_command(alloc)?;
-    Command::new(alloc, "dlsim")
-        .about(ABOUT)
-        .after_help(ABOUT_END)
-        .subcommand_required(true)
-        .subcommand(run)?
-        .subcommand(replay)?
-        .subcommand(compare)?
-        .bin_name("dlsim")
+    let replay = match replay_command(alloc) {
+        Ok(replay) => replay,
+        Err(error) => {
+            drop(run);
+            return Err(error);
+        }
+    };
+    let compare = match compare_command(alloc) {
+        Ok(compare) => compare,
+        Err(error) => {
+            drop(replay);
+            drop(run);
+            return Err(error);
+        }
+    };
+    whole(alloc, run, replay, compare)?.bin_name("dlsim")
 }
