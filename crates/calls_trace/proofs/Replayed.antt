@@ -12,7 +12,7 @@ use Rattle.counted_io.specs.declared.counted.Counted.{Counted}
 use Rattle.counted_io.specs.Sides.{Side, side}
 use Rattle.calls_trace.specs.declared.fault.TraceFault.{TraceFault}
 use Rattle.calls_trace.specs.declared.fault.TraceFault.TheVariants as traces
-use Rattle.calls_trace.specs.declared.replaying.ReplayPrint.TheVariants as prints
+use Rattle.run_options.specs.declared.replay_print.ReplayPrint.TheVariants as prints
 use Rattle.calls_trace.specs.declared.placed_run.PlacedRun.{PlacedRun}
 use Rattle.calls_trace.specs.declared.run_text.RunText.{RunText}
 use Rattle.calls_trace.specs.declared.run_text.RunText.TheVariants.{Trace}

@@ -25,14 +25,15 @@ use Rattle.figure_text.specs.Jobs.{JobsView, jobs_text}
 use Rattle.figure_text.specs.Summary.{SummaryView, summary_text}
 use Rattle.reply_text.specs.Replies.{replies_of}
 use Rattle.calls_trace.specs.declared.placed_run.PlacedRun.{PlacedRun}
-use Rattle.calls_trace.specs.declared.replaying.ReplayPrint.{ReplayPrint}
-use Rattle.calls_trace.specs.declared.replaying.ReplayPrint.TheVariants as prints
+use Rattle.run_options.specs.declared.replay_print.ReplayPrint.{ReplayPrint}
+use Rattle.run_options.specs.declared.replay_print.ReplayPrint.TheVariants as prints
 use Rattle.calls_trace.specs.declared.run_text.RunText.{RunText}
 use Rattle.calls_trace.specs.declared.run_text.RunText.TheVariants.{Trace, Events, Jobs, Summary, Chart}
 use Rattle.calls_trace.specs.Replay.{run_view, runs_from, trace_of_sections}
 use Rattle.calls_trace.specs.Told.{admitted, told_from, jobs_view, summary_view, events_of_sections, jobs_of_sections, summary_of_sections}
 use Rattle.calls_trace.specs.Charted.{chart_of_sections}
-use Rattle.calls_trace.specs.Answer.{replayed, print_tells}
+use Rattle.calls_trace.specs.Answer.{replayed}
+use Rattle.run_options.specs.Options.{print_tells}
 use Rattle.calls_trace.specs.private.Replaying.{view_of, view_at, views_from, run_in, told_in, jobs_in, summary_in, text_in, text_of_runs}
 use Rattle.calls_trace.specs.private.RunTexts.{run_text, tells, text_of_all}
 use Rattle.calls_trace.proofs.Charts.{chart_same}

@@ -9,8 +9,8 @@ use Rattle.counted_io.specs.Sides.{Side, HasNoFault, HasOneFault}
 use Rattle.counted_io.specs.Faults.{TakesFront}
 use Rattle.calls_trace.specs.declared.fault.ReplayFault.{ReplayFault}
 use Rattle.calls_trace.specs.declared.fault.ReplayFault.TheVariants.{Calls, Read, Write, Memory}
-use Rattle.calls_trace.specs.declared.replaying.ReplayPrint.{ReplayPrint}
-use Rattle.calls_trace.specs.declared.replaying.ReplayPrint.TheVariants.{Trace, Replies, Events, Jobs, Summary, Chart}
+use Rattle.run_options.specs.declared.replay_print.ReplayPrint.{ReplayPrint}
+use Rattle.run_options.specs.declared.replay_print.ReplayPrint.TheVariants.{Trace, Replies, Events, Jobs, Summary, Chart}
 use Rattle.reply_text.specs.Replies.{replies_of}
 use Rattle.calls_trace.specs.Replay.{trace_of_sections}
 use Rattle.calls_trace.specs.Told.{events_of_sections, jobs_of_sections, summary_of_sections}
@@ -100,12 +100,3 @@ replayed Events = events_of_sections
 replayed Jobs = jobs_of_sections
 replayed Summary = summary_of_sections
 replayed (Chart span) = chart_of_sections span
-
--- whether what happens has to be known for it
-abbrev pub print_tells : ReplayPrint → Bool
-print_tells Trace = false
-print_tells Replies = false
-print_tells Events = true
-print_tells Jobs = true
-print_tells Summary = true
-print_tells (Chart span) = true

@@ -39,5 +39,6 @@ mod writing;
 pub use chart_pieces::Span;
 pub use fault::{ReplayFault, TraceFault};
 pub use heard_summary::write_heard_summary;
-pub use replaying::{ReplayPrint, replay, replay_as};
+pub use replaying::{replay, replay_as};
+pub use run_options::ReplayPrint;
 pub use writing::write_run_as;

@@ -2,49 +2,16 @@
 
 ghost use Rattle.std.specs.Prelude.{◌≡◌, ◌<◌, ◌^◌, OnOk, IfErr};
 ghost use Rattle.counted_io.specs.Sides.{faults_of, side};
-ghost use Rattle.calls_trace.specs.Answer.{streams, IsAnswered, IsAnsweredBy, IsFaultBy, IsFaultOf, replayed, print_tells};
+ghost use Rattle.calls_trace.specs.Answer.{streams, IsAnswered, IsAnsweredBy, IsFaultBy, IsFaultOf, replayed};
 ghost use Rattle.calls_trace.specs.private.Replayed.{IsReplayed, IsUnreplayed};
 
 use crate::fault::ReplayFault;
 use crate::run_text::RunText;
 use crate::writing::{write_answered_text, write_run_text};
-use chart_pieces::Span;
+use run_options::ReplayPrint;
 use std::alloc::Global;
 use std::io::{Read, Write};
 use switch_text::{Counted, ReadFault};
-
-/// What is written of a replay.
-#[derive(Clone, Copy, Debug, PartialEq, Eq)]
-pub enum ReplayPrint {
-    /// The trace: a sched_switch line for each switch.
-    Trace,
-    /// The calls, each with its reply.
-    Replies,
-    /// The trace, and between its lines those of what happens to the tasks.
-    Events,
-    /// Each job of each task.
-    Jobs,
-    /// The figures of each task, of each CPU and of each domain.
-    Summary,
-    /// A part of the run as a chart, an SVG file: which task ran where, when it wanted a CPU or was
-    /// throttled, and when its jobs were released and due. [`Span::window`] says what is shown.
-    Chart(Span),
-}
-
-impl ReplayPrint {
-    /// Whether what happens has to be known for it.
-    pub fn tells(self) -> bool
-        ensures { result ≡ print_tells self }
-    {
-        match self {
-            ReplayPrint::Trace | ReplayPrint::Replies => false,
-            ReplayPrint::Events
-            | ReplayPrint::Jobs
-            | ReplayPrint::Summary
-            | ReplayPrint::Chart(_) => true,
-        }
-    }
-}
 
 /// Makes the calls of a text, and writes what is asked for of them.
 fn write_replayed<W: Write>(

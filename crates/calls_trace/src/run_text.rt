@@ -3,8 +3,8 @@
 ghost use Rattle.std.specs.Prelude.{◌≡◌};
 ghost use Rattle.calls_trace.specs.private.RunTexts as texts;
 
-use crate::replaying::ReplayPrint;
 use chart_pieces::Span;
+use run_options::ReplayPrint;
 
 /// A text that is made of the runs of a machine's domains.
 #[derive(Clone, Copy)]

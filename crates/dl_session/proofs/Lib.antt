@@ -1,5 +1,4 @@
 pub mod Told
-pub mod CpuLists
 pub mod ScenarioLaw
 pub mod Shown
 pub mod OrderAdmissions

@@ -5,12 +5,13 @@ use Rattle.call_book.specs.Spelling.{spelling}
 use Rattle.domain_run.specs.Domain.{Domain}
 use Rattle.domain_run.specs.Log.{LogView}
 use Rattle.run_figures.specs.Accounting.{AccountingView}
-use Rattle.calls_trace.specs.declared.replaying.ReplayPrint.{ReplayPrint}
-use Rattle.calls_trace.specs.declared.replaying.ReplayPrint.TheVariants as replays
+use Rattle.run_options.specs.declared.replay_print.ReplayPrint.{ReplayPrint}
+use Rattle.run_options.specs.declared.replay_print.ReplayPrint.TheVariants as replays
 use Rattle.calls_trace.specs.Told.{summary_of_sections}
-use Rattle.calls_trace.specs.Answer.{replayed, print_tells}
-use Rattle.session.specs.declared.options.Print.{Print}
-use Rattle.session.specs.declared.options.Print.TheVariants as prints
+use Rattle.calls_trace.specs.Answer.{replayed}
+use Rattle.run_options.specs.Options.{print_tells}
+use Rattle.run_options.specs.declared.options.Print.{Print}
+use Rattle.run_options.specs.declared.options.Print.TheVariants as prints
 use Rattle.dl_session.specs.RunAnswer.{printed}
 use Rattle.dl_session.specs.declared.printing.Source.TheVariants.{Histories, Heard, Logs}
 use Rattle.dl_session.specs.private.Printing.{source_of, wanted_for}

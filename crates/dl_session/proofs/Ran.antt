@@ -17,7 +17,7 @@ use Rattle.counted_io.specs.Sides.{HasNoFault}
 use Rattle.counted_io.specs.Faults.{TakesFront}
 use Rattle.dl_session.specs.declared.fault.SessionFault.{SessionFault}
 use Rattle.dl_session.specs.declared.fault.SessionFault.TheVariants as faults
-use Rattle.session.specs.declared.options.Options.{Options}
+use Rattle.run_options.specs.declared.options.Options.{Options}
 use Rattle.session.specs.declared.refusal.Refusal.{Refusal}
 use Rattle.session.specs.declared.report.Report.{Report}
 use Rattle.session.specs.declared.report.Finished.{Finished}
@@ -26,7 +26,8 @@ use Rattle.session.specs.SessionId.{SessionId, IsDomainIndex}
 use Rattle.session.specs.Asks.{ClientView, pass_in}
 use Rattle.session.specs.Admissions.{AreNew, AllAsked}
 use Rattle.session.specs.Report.{IsHistoryOf}
-use Rattle.session.specs.Options.{AreOptions, IsSessionOf}
+use Rattle.run_options.specs.Options.{AreOptions}
+use Rattle.session.specs.Options.{IsSessionOf}
 use Rattle.dl_session.specs.ScenarioAnswers.{AnswersScenario}
 use Rattle.dl_session.specs.FullBook.{IsFullDomain}
 use Rattle.calls_trace.specs.Answer.{Streams, IsInput, NothingWritten}

@@ -3,7 +3,7 @@ use Rattle.std.specs.Prelude.{◌≡◌, ℕ, List, [], ◌∷◌, ◌++◌, Res
 use Rattle.std.specs.List.{flat_map}
 use Rattle.dl_session.specs.Lines.{fault_text, refused_line}
 use Rattle.dl_session.specs.Status.{exit_status}
-use Rattle.dl_session.specs.Words.{words_status, words_text}
+use Rattle.run_options.specs.Words.{words_status, words_text}
 use Rattle.dl_session.specs.declared.ending.Ending.{Ending}
 use Rattle.dl_session.specs.declared.ending.Ending.TheVariants as ends
 use Rattle.dl_session.specs.declared.fault.SessionFault.{SessionFault}

@@ -2,7 +2,6 @@ pub mod Upward
 pub mod Answer
 pub mod Status
 pub mod Lines
-pub mod Words
 pub mod Ending
 pub mod Comparing
 pub mod ScenarioAnswers

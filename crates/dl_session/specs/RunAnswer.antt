@@ -19,9 +19,9 @@ use Rattle.counted_io.specs.Sides.{HasNoFault, HasOneFault}
 use Rattle.counted_io.specs.Faults.{TakesFront}
 use Rattle.dl_session.specs.declared.fault.SessionFault.{SessionFault}
 use Rattle.dl_session.specs.declared.fault.SessionFault.TheVariants as faults
-use Rattle.session.specs.declared.options.Options.{Options}
-use Rattle.session.specs.declared.options.Print.{Print}
-use Rattle.session.specs.declared.options.Print.TheVariants as prints
+use Rattle.run_options.specs.declared.options.Options.{Options}
+use Rattle.run_options.specs.declared.options.Print.{Print}
+use Rattle.run_options.specs.declared.options.Print.TheVariants as prints
 use Rattle.session.specs.declared.refusal.Refusal.{Refusal}
 use Rattle.session.specs.declared.report.Report.{Report}
 use Rattle.session.specs.SessionId.{SessionId, IsDomainIndex}

@@ -4,7 +4,7 @@ ghost use Rattle.std.specs.List.{flat_map};
 ghost use Rattle.dl_session.specs.Ending.{task_line, IsEndOfRun, IsEndOfReplay, ending_status};
 
 use crate::fault::{RefusedLine, SessionFault};
-use crate::words::WordsFault;
+use run_options::WordsFault;
 use session::{Refusal, Report};
 use std::fmt;
 

@@ -1,11 +1,11 @@
 //! What the program does between the bytes that it reads and the bytes that it writes.
 //!
 //! [`run`] is for scenarios. It meets the definitions "Answers of a scenario"
-//! (`specs/ScenarioAnswers.antt`) and "Run of a scenario" (`specs/RunAnswer.antt`),
-//! [`read_options`] the definition "Options of a run" (`specs/Words.antt`). To the crate above it
-//! promises the theorem on `run`: `Ok` means that the histories in the report are legal and answer
-//! the scenario together with the refusals, and that what was written is the text of their run, and
-//! nothing else.
+//! (`specs/ScenarioAnswers.antt`) and "Run of a scenario" (`specs/RunAnswer.antt`). To the crate
+//! above it promises the theorem on `run`: `Ok` means that the histories in the report are legal
+//! and answer the scenario together with the refusals, and that what was written is the text of
+//! their run, and nothing else. Its options, and what the words of a command line mean, are the
+//! crate `run_options`'s.
 //!
 //! [`replay_as`] is for recorded calls, and [`replay`] for their trace. They are the crate
 //! `calls_trace`'s, with the faults of a session (`specs/Answer.antt`), and meet its definition of
@@ -28,7 +28,6 @@ mod fault;
 mod printing;
 mod replaying;
 mod running;
-mod words;
 
 pub use admitting::admit_all;
 pub use calls_trace::{ReplayPrint, Span};
@@ -37,11 +36,11 @@ pub use comparing::{ComparisonEnding, TraceNames};
 pub use ending::Ending;
 pub use fault::{RefusedLine, SessionFault};
 pub use replaying::{replay, replay_as};
+pub use run_options::{
+    SpanWords, Words, WordsFault, read_limit, read_list, read_options, read_span, read_uncut,
+};
 pub use running::run;
 pub use session::{
     AllPass, Answer, Client, Names, Options, Parts, Print, Refusal, Report, Session, Shared,
     Shares, Turnstile,
-};
-pub use words::{
-    SpanWords, Words, WordsFault, read_limit, read_list, read_options, read_span, read_uncut,
 };

@@ -2,8 +2,8 @@
 
 ghost use Rattle.std.specs.Prelude.{◌≡◌, ◌<◌, ◌≤◌, ◌^◌, true, map, replicate, IfOk, IfErr, OnOk};
 ghost use Rattle.counted_io.specs.Sides.{Side, HasNoFault, faults_of, side};
-ghost use Rattle.session.specs.declared.options.Options.{Options as OptionsView};
-ghost use Rattle.session.specs.Options.{AreOptions};
+ghost use Rattle.run_options.specs.declared.options.Options.{Options as OptionsView};
+ghost use Rattle.run_options.specs.Options.{AreOptions};
 ghost use Rattle.session.specs.Admissions.{AreNew};
 ghost use Rattle.calls_trace.specs.Answer.{streams, NothingWritten};
 ghost use Rattle.dl_session.specs.FullBook.{IsFullDomain};

@@ -2,18 +2,14 @@
 //! as a trace, also with what happens between them, the jobs, a summary, or the calls with their
 //! replies; and that compares a trace with a recorded one.
 //!
-//! The program reads its words with clap (`words`), and calls [`dl_session::run`] or
+//! The program has its words read (`asked_words`), and calls [`dl_session::run`] or
 //! [`dl_session::replay_as`] with standard input and standard output, or
 //! [`dl_session::compare_texts`] with two files or one, and standard input. What it says on
 //! standard error then, and its exit status, are those of the [`Ending`] or the
 //! [`ComparisonEnding`].
 #![tactic(auto)]
 
-mod comparison;
-mod words;
-
-use crate::comparison::{Comparison, Source};
-use crate::words::{Task, Wrong, read_words};
+use asked_words::{Comparison, Source, Task, Wrong, read_words};
 use clap::error::ErrorKind;
 use dl_session::{
     AllPass, ComparisonEnding, Ending, TraceNames, WordsFault, compare_texts, replay_as, run,

@@ -18,9 +18,10 @@ use Rattle.bw_gate.specs.Terms.{TermsView, IsMachine, AreTerms, AreRooms, terms_
 use Rattle.domain_run.specs.Domain.{IsCpus}
 use Rattle.call_book.specs.declared.section.Entry.{Entry}
 use Rattle.call_book.specs.Book.{BookView, IsMember}
-use Rattle.session.specs.declared.options.Options.{Options}
+use Rattle.run_options.specs.declared.options.Options.{Options}
 use Rattle.session.specs.declared.parts.Hand.{Hand}
-use Rattle.session.specs.Options.{AreOptions, terms_of}
+use Rattle.run_options.specs.Options.{AreOptions}
+use Rattle.session.specs.Options.{terms_of}
 use Rattle.session.specs.SessionId.{SessionId, IsSession, cpu_sets_from, spine_of}
 use Rattle.session.specs.Asks.{ClientView}
 use Rattle.session.specs.Clients.{IsNew, IsNotThere, IsGivenOut}

@@ -1,31 +1,8 @@
--- Within which limits a scenario is run (own).
-use Rattle.std.specs.Prelude.{◌≡◌, ◌+◌, ◌*◌, ◌≤◌, ◌<◌, Bool, true, false, length, All}
+-- Which session the options of a run make (own).
+use Rattle.std.specs.Prelude.{◌≡◌, ◌+◌, ◌*◌, length}
 use Rattle.bw_gate.specs.Terms.{TermsView}
-use Rattle.domain_run.specs.Domain.{IsCpus, IsLimit}
+use Rattle.run_options.specs.declared.options.Options.{Options}
 use Rattle.session.specs.SessionId.{SessionId, cpu_sets_from}
-use Rattle.session.specs.declared.options.Options.{Options}
-use Rattle.session.specs.declared.options.Print.{Print}
-use Rattle.session.specs.declared.options.Print.TheVariants.{Events, Jobs, Summary, Chart}
-
-pub record AreOptions (o : Options) : Type 0 where
-  pub some_domains : 0 < length o.domains.items
-  pub few_domains : length o.domains.items ≤ 8
-  pub cpus : All IsCpus o.domains.items
-  pub limit : IsLimit o.limit
-  pub a_client : 0 < o.clients
-  pub few_clients : o.clients ≤ 64
-  pub a_worker : 0 < o.workers
-  pub few_workers : o.workers ≤ 8
-  pub some_history : 0 < o.history
-  pub short_history : o.history ≤ 65536
-
--- whether what is printed tells what happens to the tasks
-abbrev pub tells : Print → Bool
-tells Events = true
-tells Jobs = true
-tells Summary = true
-tells (Chart span) = true
-tells _ = false
 
 -- the gate's terms: the CPUs of each domain, and 256 pieces a domain and one a client
 abbrev pub terms_of : Options → TermsView

@@ -5,13 +5,14 @@ ghost use Rattle.std.specs.List.{range_with_len};
 ghost use Rattle.atomic_table.specs.Seated.{TableId};
 ghost use Rattle.bw_gate.specs.Pieces.{GateId};
 ghost use Rattle.domain_run.specs.Domain.{IsCpus};
-ghost use Rattle.session.specs.Options.{AreOptions, IsSessionOf, terms_of};
+ghost use Rattle.run_options.specs.Options.{AreOptions};
+ghost use Rattle.session.specs.Options.{IsSessionOf, terms_of};
 ghost use Rattle.session.specs.SessionId.{cpu_sets_from};
 ghost use Rattle.session.specs.private.Parts.{AreHands, HaveRoom, HaveRoomForOne, AreNewPasses, AreBooks, AreBlanksOf};
 
-use crate::options::Options;
 use bw_gate::{Blank, Gate, Room, Ticket};
 use call_book::{Closed, Domain, NoMemory, Pass};
+use run_options::Options;
 use std::alloc::Global;
 use std::marker::Model;
 

@@ -1,7 +1,7 @@
 -- Of what the text of a run is made, and what is wanted of the run for it.
-use Rattle.calls_trace.specs.declared.replaying.ReplayPrint.TheVariants as replayed
-use Rattle.session.specs.declared.options.Print.{Print}
-use Rattle.session.specs.declared.options.Print.TheVariants as prints
+use Rattle.run_options.specs.declared.replay_print.ReplayPrint.TheVariants as replayed
+use Rattle.run_options.specs.declared.options.Print.{Print}
+use Rattle.run_options.specs.declared.options.Print.TheVariants as prints
 use Rattle.session.specs.declared.report.Wanted.{Wanted}
 use Rattle.session.specs.declared.report.Wanted.TheVariants as wants
 use Rattle.dl_session.specs.declared.printing.Source.{Source}

@@ -1,7 +1,7 @@
 // Whole runs of scenarios, between bytes in memory.
 ghost use Rattle.std.specs.Prelude.{◌<◌, ◌≤◌, length, All};
 ghost use Rattle.domain_run.specs.Domain.{IsCpus};
-ghost use Rattle.session.specs.Options.{AreOptions};
+ghost use Rattle.run_options.specs.Options.{AreOptions};
 
 use dl_session::{AllPass, Options, Print, SessionFault, run};
 use std::test::Fail;

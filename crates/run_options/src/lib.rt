@@ -1,0 +1,19 @@
+//! What is asked of a run: its options, what is written of it, and the words of a command line that
+//! mean them.
+//!
+//! [`Options`] meet the definition "Options" (`specs/Options.antt`), within which a scenario is run;
+//! [`read_options`] meets the definition "Options of a run" (`specs/Words.antt`). To the crates
+//! above it promises that words which mean options give them, and that each fault is the words'.
+//! Nothing here knows of a session or a run, so that who reads words need not wait for either.
+#![tactic(auto)]
+
+mod options;
+mod replay_print;
+mod words;
+
+pub use chart_pieces::Span;
+pub use options::{Options, Print};
+pub use replay_print::ReplayPrint;
+pub use words::{
+    SpanWords, Words, WordsFault, read_limit, read_list, read_options, read_span, read_uncut,
+};
