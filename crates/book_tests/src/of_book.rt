@@ -1,5 +1,5 @@
 ghost use Rattle.std.specs.Prelude.{◌≡◌, ◌<◌, ◌≤◌, IfOk, All, length};
-ghost use Rattle.call_book.specs.Limits.{IsCall, IsEntry};
+ghost use Rattle.calls_text.specs.Limits.{IsCall, IsEntry};
 
 use bw_gate::{Blank, Gate, Room, Take, Ticket, used_of};
 use call_book::{

@@ -9,7 +9,7 @@ use Rattle.domain_run.specs.Domain.{Domain, IsLimit}
 use Rattle.domain_run.specs.Keys.{AreKept, keys}
 use Rattle.domain_run.specs.Passing.{without_switches}
 use Rattle.domain_run.specs.Tick.{ticks}
-use Rattle.call_book.specs.declared.section.Entry.{Entry}
+use Rattle.calls_text.specs.declared.section.Entry.{Entry}
 use Rattle.call_book.specs.Pieces.{HoldsTickets, is_kept, is_gone, AreGiven}
 use Rattle.call_book.specs.Book.{BookView, state_of, entry_by}
 use Rattle.call_book.specs.Ending.{left_of}

@@ -14,10 +14,11 @@ use Rattle.domain_run.specs.Run.{after_calls, replies_to, run_of}
 use Rattle.domain_run.specs.Keys.{keys}
 use Rattle.domain_run.specs.Busy.{LacksRoomFor}
 use Rattle.domain_run.proofs.CallerLemmas.{ticks_of, call_time, call_cpus, call_machine, sets_limit, wake_keys, leave_keys, admitted_keys, refused_keeps}
-use Rattle.call_book.specs.declared.section.Entry.{Entry}
+use Rattle.calls_text.specs.declared.section.Entry.{Entry}
 use Rattle.call_book.specs.declared.book.stock.Held.{Held}
 use Rattle.call_book.specs.Pieces.{held_key, HoldsTickets}
-use Rattle.call_book.specs.Book.{BookView, AdmissionView, admission, calls_of, state_of, entry_by, with_entry, Enters, EntersAlone, HasItsLimit}
+use Rattle.call_book.specs.Book.{BookView, AdmissionView, admission, state_of, entry_by, with_entry, Enters, EntersAlone, HasItsLimit}
+use Rattle.calls_text.specs.Histories.{calls_of}
 use Rattle.call_book.specs.BookAnswers.{IsBusy}
 use Rattle.call_book.specs.private.Ledger.{LedgerView}
 use Rattle.call_book.specs.private.Stock.{StockView}

@@ -3,12 +3,12 @@ use Rattle.std.proofs.Common.{◌≡◌, ℕ, ◌+◌, ◌<◌, ◌≤◌, true,
 use Rattle.std.proofs.lemmas.List.{map-append}
 use Rattle.std.proofs.lemmas.List.Elements.{All-push}
 use Rattle.std.proofs.lemmas.List.Sums.{sum_by-cons, count_by-le-length}
-use Rattle.call_book.specs.declared.section.Entry.{Entry}
-use Rattle.call_book.specs.Limits.{IsCall, IsEntry}
-use Rattle.call_book.specs.OwnCalls.{made_by}
+use Rattle.calls_text.specs.declared.section.Entry.{Entry}
+use Rattle.calls_text.specs.Limits.{IsCall, IsEntry}
+use Rattle.calls_text.specs.OwnCalls.{made_by}
 use Rattle.call_book.specs.Book.{keyed, own_entries, IsMember}
 use Rattle.call_book.specs.private.Ledger.{IsHistory}
-use Rattle.call_book.proofs.Entries.{numbered_more}
+use Rattle.calls_text.proofs.CallerLemmas.{numbered_more}
 
 -- a client's own entries are as many as it made
 pub length-own : (client : ℕ) (history : List Entry) → length (own_entries client history) ≡ made_by client history

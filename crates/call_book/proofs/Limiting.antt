@@ -18,9 +18,10 @@ use Rattle.domain_run.specs.Tick.{sum_of}
 use Rattle.domain_run.specs.Keys.{keys}
 use Rattle.domain_run.specs.Run.{run_of}
 use Rattle.domain_run.proofs.CallerLemmas.{refused_keeps}
-use Rattle.call_book.specs.declared.section.Entry.{Entry}
-use Rattle.call_book.specs.Limits.{IsCall}
-use Rattle.call_book.specs.Book.{BookView, calls_of, state_of, entry_by, with_entry, EntersAlone, HasItsLimit}
+use Rattle.calls_text.specs.declared.section.Entry.{Entry}
+use Rattle.calls_text.specs.Limits.{IsCall}
+use Rattle.call_book.specs.Book.{BookView, state_of, entry_by, with_entry, EntersAlone, HasItsLimit}
+use Rattle.calls_text.specs.Histories.{calls_of}
 use Rattle.call_book.specs.LimitAnswers.{word_of_blank, AsksForLimit, IsLimitSet, IsBusyBySum, IsBusyByWord}
 use Rattle.call_book.specs.private.Ledger.{LedgerView}
 use Rattle.call_book.specs.private.Stock.{StockView}

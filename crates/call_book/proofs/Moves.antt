@@ -18,7 +18,7 @@ use Rattle.domain_run.specs.Tick.{sum_of}
 use Rattle.domain_run.specs.Views.{Moving, moving_of, moving_in}
 use Rattle.domain_run.specs.Keys.{keys}
 use Rattle.domain_run.proofs.CallerLemmas.{AreNumbered, sets_limit, arrived_keys}
-use Rattle.call_book.specs.declared.section.Entry.{Entry}
+use Rattle.calls_text.specs.declared.section.Entry.{Entry}
 use Rattle.call_book.specs.declared.book.stock.Held.{Held}
 use Rattle.call_book.specs.Pieces.{held_key, HoldsTickets}
 use Rattle.call_book.specs.Book.{AdmissionView, entry_by}

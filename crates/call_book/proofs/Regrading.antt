@@ -20,9 +20,9 @@ use Rattle.domain_run.specs.Tick.{sum_of}
 use Rattle.domain_run.specs.Keys.{keys, with_bw}
 use Rattle.domain_run.specs.Sound.{IsDomain}
 use Rattle.domain_run.proofs.CallerLemmas.{live_key, regraded_keys, refused_keeps}
-use Rattle.call_book.specs.declared.section.Entry.{Entry}
+use Rattle.calls_text.specs.declared.section.Entry.{Entry}
 use Rattle.call_book.specs.declared.book.stock.Held.{Held}
-use Rattle.call_book.specs.Limits.{IsCall}
+use Rattle.calls_text.specs.Limits.{IsCall}
 use Rattle.call_book.specs.Pieces.{held_key, is_held, word_at, IsTicketOf, AsksTheWord, HoldsTickets}
 use Rattle.call_book.specs.Book.{BookView, state_of, entry_by, with_entry}
 use Rattle.call_book.specs.BookAnswers.{IsRegraded}

@@ -10,7 +10,7 @@ use Rattle.domain_run.specs.Domain.{Domain}
 use Rattle.domain_run.specs.Tick.{ticks}
 use Rattle.domain_run.specs.Keys.{has_task, AreKept}
 use Rattle.domain_run.proofs.CallerLemmas.{view_where_listed}
-use Rattle.call_book.specs.declared.section.Entry.{Entry}
+use Rattle.calls_text.specs.declared.section.Entry.{Entry}
 use Rattle.call_book.specs.declared.book.stock.Held.{Held}
 use Rattle.call_book.specs.Pieces.{held_key, is_kept, is_gone, AreGiven, HoldsTickets}
 use Rattle.call_book.specs.Book.{BookView, entry_by, with_entry}

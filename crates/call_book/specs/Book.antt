@@ -14,9 +14,10 @@ use Rattle.domain_run.specs.declared.call.Reply.{Reply}
 use Rattle.domain_run.specs.Domain.{Domain, opened}
 use Rattle.domain_run.specs.Calls.{reply_to}
 use Rattle.domain_run.specs.Run.{replies_to, run_of}
-use Rattle.call_book.specs.declared.section.Entry.{Entry}
-use Rattle.call_book.specs.Limits.{IsEntry}
-use Rattle.call_book.specs.OwnCalls.{IsNumbered}
+use Rattle.calls_text.specs.declared.section.Entry.{Entry}
+use Rattle.calls_text.specs.Limits.{IsEntry}
+use Rattle.calls_text.specs.OwnCalls.{IsNumbered}
+use Rattle.calls_text.specs.Histories.{IsLegal, calls_of}
 use Rattle.call_book.specs.declared.book.stock.Held.{Held}
 
 -- ---- what a contract sees of a book
@@ -46,17 +47,9 @@ pub record BookView : Type 0 where
 
 -- ---- histories
 
-abbrev pub calls_of : List Entry → List Call
-calls_of history = map (λ e. e.call) history
-
 -- the state is the run of the history
 abbrev pub state_of : BookView → Domain
 state_of b = run_of b.cpus b.limit (calls_of b.history)
-
--- a history is legal where each entry has the reply that the run gives to its call
-abbrev pub IsLegal : ℕ → ℕ → List Entry → Type 0
-IsLegal cpus limit history =
-    map (λ e. e.reply) history ≡ map Some (replies_to (opened cpus limit) (calls_of history))
 
 -- an entry beside its client, as a spine lists it
 abbrev pub keyed : Entry → ℕ × Entry

@@ -12,7 +12,7 @@ use Rattle.domain_run.specs.Domain.{IsLimit}
 use Rattle.domain_run.specs.Happened.{told_by_ticks}
 use Rattle.domain_run.specs.Log.{LogView, Tells}
 use Rattle.domain_run.specs.Calls.{reply_to}
-use Rattle.call_book.specs.declared.section.Entry.{Entry}
+use Rattle.calls_text.specs.declared.section.Entry.{Entry}
 use Rattle.call_book.specs.declared.book.domain.AdvanceError.{AdvanceError}
 use Rattle.call_book.specs.declared.book.domain.AdvanceError.TheVariants as stops
 use Rattle.call_book.specs.declared.book.domain.Admit.{Admit}

@@ -13,7 +13,7 @@ use Rattle.domain_run.specs.declared.call.Call.TheVariants as call
 use Rattle.domain_run.specs.declared.call.Reply.TheVariants as replies
 use Rattle.domain_run.specs.Calls.{reply_to, with_limit}
 use Rattle.domain_run.specs.Tick.{sum_of}
-use Rattle.call_book.specs.declared.section.Entry.{Entry}
+use Rattle.calls_text.specs.declared.section.Entry.{Entry}
 use Rattle.call_book.specs.declared.book.domain.Limit.{Limit}
 use Rattle.call_book.specs.declared.book.domain.Limit.TheVariants.{Set, Busy, Full}
 use Rattle.call_book.specs.Book.{BookView, state_of, entry_by, with_entry, EntersAlone, IsRefusedFull}

@@ -13,7 +13,7 @@ use Rattle.domain_run.specs.declared.call.Reply.TheVariants as replies
 use Rattle.domain_run.specs.Domain.{Domain, IsLimit}
 use Rattle.domain_run.specs.Calls.{reply_to}
 use Rattle.domain_run.specs.Views.{Moving, moving_in}
-use Rattle.call_book.specs.declared.section.Entry.{Entry}
+use Rattle.calls_text.specs.declared.section.Entry.{Entry}
 use Rattle.call_book.specs.declared.book.stock.Held.{Held}
 use Rattle.call_book.specs.declared.book.domain.moving.MoveFault.{MoveFault}
 use Rattle.call_book.specs.declared.book.domain.moving.MoveFault.TheVariants as faults

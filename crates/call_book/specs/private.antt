@@ -1,7 +1,3 @@
-pub mod Reading
-pub mod Numbered
-pub mod Counting
-pub mod Writing
 pub mod Ledger
 pub mod Stock
 pub mod Listing

@@ -14,4 +14,4 @@ pub use domain::{
 pub use prepared::{Prepared, prepare};
 
 /// A client's pass: the list of the calls that it made on one domain.
-pub type Pass = pass_seats::Pass<crate::section::Entry>;
+pub type Pass = pass_seats::Pass<calls_text::Entry>;

@@ -1,44 +1,23 @@
-//! The calls on domains with their replies, in the order in which they were made, and calls text,
-//! in which calls are written.
+//! The book of a domain: the calls that were made on it with their replies, in the order in which
+//! they were made, and the tickets of its tasks.
 //!
-//! Meets the definitions "Calls text" (`specs/Spelling.antt`: the text of sections;
-//! `specs/Limits.antt`: which sections have one; `specs/BadLine.antt`: the first bad line of every
-//! other text; `specs/ReadSoFar.antt`, `specs/Reader.antt`: how far it is read;
-//! `specs/KeptCall.antt`, `specs/NameGiven.antt`: its calls in little room;
-//! `specs/RoundTrip.antt`: what a written text is read as), "A client's own calls"
-//! (`specs/OwnCalls.antt`) and "A domain's book" (`specs/Book.antt`, `specs/Pieces.antt`,
+//! Meets the definition "A domain's book" (`specs/Book.antt`, `specs/Pieces.antt`,
 //! `specs/BookAnswers.antt`, `specs/LimitAnswers.antt`, `specs/MoveAnswers.antt`; at its end
-//! `specs/Ending.antt`). To the crates above it promises that [`read_calls`] accepts exactly the
-//! texts of 1 to 8 sections, gives back the very sections, and names the first bad line of every
-//! other text, as a [`CallsReader`] does call by call, and that [`write_calls`] writes the one text
-//! of its sections, which is read as these again; and that a [`Domain`]'s state is the run of its
+//! `specs/Ending.antt`). To the crates above it promises that a [`Domain`]'s state is the run of its
 //! history, in which each client's calls stand once and in their order, and that it holds a ticket
 //! for each listed task, of its bandwidth, and gives it back when the task has gone; and that an
 //! [`EndingBook`] hears its last advance while it makes it, and enters it as the domain would.
+//!
+//! A history as text is the crate `calls_text`'s; its public names are given out here too.
 #![tactic(auto)]
 
 mod book;
-mod calls_reader;
-mod cut;
-mod fault;
-mod header;
-mod kept_call;
-mod line_text;
-mod number;
-mod reading;
-mod script_text;
-mod section;
-mod times;
-mod writing;
 
 pub use book::{
     Admit, AdvanceError, Closed, Domain, EndingBook, Full, HeardAdvance, Limit, Move, MoveFault,
     Pass, Prepared, move_task, prepare,
 };
-pub use calls_reader::CallsReader;
-pub use domain_run::{Call, NoMemory, Reply};
-pub use fault::CallsFault;
-pub use kept_call::{Kept, Spelled};
-pub use reading::read_calls;
-pub use section::{Entry, Section};
-pub use writing::{put_call, put_domain, write_calls};
+pub use calls_text::{
+    Call, CallsFault, CallsReader, Entry, Kept, NoMemory, Reply, Section, Spelled, put_call,
+    put_domain, read_calls, write_calls,
+};

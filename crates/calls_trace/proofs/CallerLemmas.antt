@@ -6,11 +6,11 @@ use Rattle.std.proofs.lemmas.List.Elements.{All-nil, All-cons, All-head, All-tai
 use Rattle.domain_run.specs.declared.call.Call.{Call}
 use Rattle.domain_run.specs.Domain.{opened}
 use Rattle.domain_run.specs.Run.{run_of}
-use Rattle.call_book.specs.declared.section.Entry.{Entry}
-use Rattle.call_book.specs.SectionView.{SectionView}
-use Rattle.call_book.specs.OwnCalls.{made_by, IsNumberedAfter}
-use Rattle.call_book.specs.Limits.{IsEntry, IsSection, AreRead}
-use Rattle.call_book.specs.RoundTrip.{bare, unanswered}
+use Rattle.calls_text.specs.declared.section.Entry.{Entry}
+use Rattle.calls_text.specs.SectionView.{SectionView}
+use Rattle.calls_text.specs.OwnCalls.{made_by, IsNumberedAfter}
+use Rattle.calls_text.specs.Limits.{IsEntry, IsSection, AreRead}
+use Rattle.calls_text.specs.RoundTrip.{bare, unanswered}
 use Rattle.switch_text.specs.Trace.{RunView, trace_of}
 use Rattle.calls_trace.specs.Replay.{names_of, no_names, run_view, runs_from, trace_of_sections}
 

@@ -10,7 +10,7 @@ use Rattle.std.proofs.lemmas.Map.Made.{IsDistinct-from_AllPairs}
 use Rattle.std.proofs.lemmas.Map.Views.{Contains-from_any}
 use Rattle.std.proofs.lemmas.Map.Steps.{length-le_from_distinct_below}
 use Rattle.domain_run.specs.Domain.{opened}
-use Rattle.call_book.specs.SectionView.{SectionView}
+use Rattle.calls_text.specs.SectionView.{SectionView}
 use Rattle.run_figures.specs.declared.run.Admitted.{Admitted}
 use Rattle.run_figures.specs.Runs.{RunView, AreTasks}
 use Rattle.chart_pieces.specs.declared.window.Span.{Span}

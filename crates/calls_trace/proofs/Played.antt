@@ -1,8 +1,8 @@
 -- The text of the run of one section that is made piece by piece.
 use Rattle.std.proofs.Common.{◌≡◌, ℕ, ◌^◌, ◌≤◌, List, [], ◌∷◌, length, ap, ◌∙◌, arith}
 use Rattle.domain_run.specs.Switch.{Switch}
-use Rattle.call_book.specs.SectionView.{SectionView}
-use Rattle.call_book.specs.Limits.{IsSection}
+use Rattle.calls_text.specs.SectionView.{SectionView}
+use Rattle.calls_text.specs.Limits.{IsSection}
 use Rattle.switch_text.specs.SlicedTrace.{sliced_trace}
 use Rattle.switch_text.proofs.CallerLemmas.{sliced_trace-is}
 use Rattle.calls_trace.specs.Replay.{run_view, trace_of_sections}

@@ -9,9 +9,9 @@ use Rattle.domain_run.specs.Calls.{after_call}
 use Rattle.domain_run.specs.Run.{after_calls}
 use Rattle.domain_run.specs.Happened.{told_by_call, told_by_calls}
 use Rattle.domain_run.specs.Log.{LogView, Tells}
-use Rattle.call_book.specs.declared.section.Entry.{Entry}
-use Rattle.call_book.specs.SectionView.{SectionView}
-use Rattle.call_book.specs.Reader.{with_entries}
+use Rattle.calls_text.specs.declared.section.Entry.{Entry}
+use Rattle.calls_text.specs.SectionView.{SectionView}
+use Rattle.calls_text.specs.Reader.{with_entries}
 use Rattle.switch_text.specs.Names.{Names, named}
 use Rattle.calls_trace.specs.Replay.{calls_of, names_of, names_after, no_names}
 use Rattle.calls_trace.specs.Told.{domain_of, told_of, params_in, params_of, params_after, no_params}

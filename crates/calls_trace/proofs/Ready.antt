@@ -6,7 +6,7 @@ use Rattle.domain_run.specs.Domain.{Domain}
 use Rattle.domain_run.specs.Calls.{after_call}
 use Rattle.domain_run.specs.Tick.{ticks}
 use Rattle.domain_run.proofs.CallerLemmas.{ticks_of, call_time, ticks_time}
-use Rattle.call_book.specs.Limits.{IsCall}
+use Rattle.calls_text.specs.Limits.{IsCall}
 use Rattle.calls_trace.specs.private.Calls.{IsReady, ticks_given}
 
 -- a call of a section

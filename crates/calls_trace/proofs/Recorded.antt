@@ -20,11 +20,11 @@ use Rattle.domain_run.specs.Run.{after_calls, replies_to, run_of}
 use Rattle.domain_run.specs.Sound.{IsAdmitted}
 use Rattle.domain_run.specs.Log.{LogView}
 use Rattle.domain_run.proofs.CallerLemmas.{with_number_contains}
-use Rattle.call_book.specs.declared.section.Entry.{Entry}
-use Rattle.call_book.specs.SectionView.{SectionView}
-use Rattle.call_book.specs.Limits.{IsCall, IsEntry, IsSection}
-use Rattle.call_book.specs.Book.{calls_of, IsLegal}
-use Rattle.call_book.specs.Histories.{AreTold}
+use Rattle.calls_text.specs.declared.section.Entry.{Entry}
+use Rattle.calls_text.specs.SectionView.{SectionView}
+use Rattle.calls_text.specs.Limits.{IsCall, IsEntry, IsSection}
+use Rattle.calls_text.specs.Histories.{calls_of, IsLegal}
+use Rattle.calls_text.specs.Histories.{AreTold}
 use Rattle.switch_text.specs.Names.{Names, named}
 use Rattle.calls_trace.specs.declared.placed_run.PlacedRun.{PlacedRun}
 use Rattle.calls_trace.specs.Replay.{with_name, named_by, names_after, names_of, no_names}

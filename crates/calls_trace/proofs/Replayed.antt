@@ -2,12 +2,12 @@
 use Rattle.std.proofs.Common.{◌≡◌, ℕ, List, [], ◌∷◌, Option, Some, None, refl, sym, subst}
 use Rattle.std.specs.Io.KnownBytes.{Keeps}
 use Rattle.std.proofs.lemmas.List.Elements.{All-head}
-use Rattle.call_book.specs.declared.fault.CallsFault.{CallsFault}
-use Rattle.call_book.specs.declared.fault.CallsFault.TheVariants as calls
-use Rattle.call_book.specs.SectionView.{SectionView}
-use Rattle.call_book.specs.Spelling.{spelling}
-use Rattle.call_book.specs.Limits.{IsSection, AreRead}
-use Rattle.call_book.specs.BadLine.{IsReadFault}
+use Rattle.calls_text.specs.declared.fault.CallsFault.{CallsFault}
+use Rattle.calls_text.specs.declared.fault.CallsFault.TheVariants as calls
+use Rattle.calls_text.specs.SectionView.{SectionView}
+use Rattle.calls_text.specs.Spelling.{spelling}
+use Rattle.calls_text.specs.Limits.{IsSection, AreRead}
+use Rattle.calls_text.specs.BadLine.{IsReadFault}
 use Rattle.counted_io.specs.declared.counted.Counted.{Counted}
 use Rattle.counted_io.specs.Sides.{Side, side}
 use Rattle.calls_trace.specs.declared.fault.TraceFault.{TraceFault}

@@ -14,8 +14,8 @@ use Rattle.domain_run.specs.Tick.{prepared, ticked, ticks}
 use Rattle.domain_run.specs.Calls.{reply_to, is_refusal, granted, after_call}
 use Rattle.domain_run.specs.Run.{after_calls}
 use Rattle.domain_run.proofs.CallerLemmas.{AllPairs-append, before_time, HasKnown, has_call, has_opened}
-use Rattle.call_book.specs.SectionView.{SectionView}
-use Rattle.call_book.specs.Limits.{IsSection}
+use Rattle.calls_text.specs.SectionView.{SectionView}
+use Rattle.calls_text.specs.Limits.{IsSection}
 use Rattle.calls_trace.specs.Replay.{calls_of}
 use Rattle.calls_trace.specs.Told.{domain_of}
 use Rattle.calls_trace.proofs.ToldLines.{section_time}

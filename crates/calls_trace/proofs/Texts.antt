@@ -6,7 +6,7 @@ use Rattle.std.proofs.lemmas.List.Elements.{All-map}
 use Rattle.std.proofs.lemmas.List.FromFn.{length-map-range_with_len}
 use Rattle.attr_check.specs.ParamsView.{ParamsView}
 use Rattle.domain_run.specs.declared.happened.Happened.{Happened}
-use Rattle.call_book.specs.SectionView.{SectionView}
+use Rattle.calls_text.specs.SectionView.{SectionView}
 use Rattle.switch_text.specs.declared.run.Run.{Run as Lent}
 use Rattle.switch_text.specs.declared.told.Told.{Told}
 use Rattle.switch_text.specs.Runs as lent

@@ -13,9 +13,9 @@ use Rattle.domain_run.specs.Calls.{after_call}
 use Rattle.domain_run.specs.Run.{after_calls}
 use Rattle.domain_run.specs.Happened.{rank, is_first}
 use Rattle.domain_run.proofs.CallerLemmas.{ticks_of, call_time, IsSooner, IsSoonerUnlessCut, IsToldIn, run_tells, run_rises, run_cpus}
-use Rattle.call_book.specs.declared.section.Entry.{Entry}
-use Rattle.call_book.specs.SectionView.{SectionView}
-use Rattle.call_book.specs.Limits.{IsCall, IsEntry, IsSection}
+use Rattle.calls_text.specs.declared.section.Entry.{Entry}
+use Rattle.calls_text.specs.SectionView.{SectionView}
+use Rattle.calls_text.specs.Limits.{IsCall, IsEntry, IsSection}
 use Rattle.switch_text.specs.Names.{Names}
 use Rattle.switch_text.specs.ToldLine.{has_line}
 use Rattle.switch_text.specs.Telling.{HasToldLine, is_sooner, is_sooner_unless_cut}

@@ -11,8 +11,8 @@ use Rattle.domain_run.specs.Calls.{after_call}
 use Rattle.domain_run.specs.Run.{after_calls}
 use Rattle.domain_run.specs.Sound.{IsAdmitted, IsSwitch, IsDomain}
 use Rattle.domain_run.proofs.CallerLemmas.{call_cpus}
-use Rattle.call_book.specs.SectionView.{SectionView}
-use Rattle.call_book.specs.Limits.{IsSection}
+use Rattle.calls_text.specs.SectionView.{SectionView}
+use Rattle.calls_text.specs.Limits.{IsSection}
 use Rattle.switch_text.specs.Names.{Names, named, HasName, HasLine}
 use Rattle.switch_text.specs.Telling.{HasToldLine, is_sooner_unless_cut}
 use Rattle.calls_trace.specs.declared.placed_run.PlacedRun.{PlacedRun}

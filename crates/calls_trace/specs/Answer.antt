@@ -1,10 +1,10 @@
 -- What a replay answers, and what it leaves.
 use Rattle.std.specs.Prelude.{ℕ, ◌≡◌, Bool, true, false, List, IfSome}
 use Rattle.std.specs.Io.KnownBytes.{Appends, Keeps}
-use Rattle.call_book.specs.SectionView.{SectionView}
-use Rattle.call_book.specs.Spelling.{spelling}
-use Rattle.call_book.specs.Limits.{AreRead}
-use Rattle.call_book.specs.BadLine.{IsBadLine}
+use Rattle.calls_text.specs.SectionView.{SectionView}
+use Rattle.calls_text.specs.Spelling.{spelling}
+use Rattle.calls_text.specs.Limits.{AreRead}
+use Rattle.calls_text.specs.BadLine.{IsBadLine}
 use Rattle.counted_io.specs.Sides.{Side, HasNoFault, HasOneFault}
 use Rattle.counted_io.specs.Faults.{TakesFront}
 use Rattle.calls_trace.specs.declared.fault.ReplayFault.{ReplayFault}

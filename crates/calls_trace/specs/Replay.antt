@@ -5,7 +5,7 @@ use Rattle.domain_run.specs.declared.call.Call.TheVariants.{Admit, Regrade, Wake
 use Rattle.domain_run.specs.Domain.{Domain, opened}
 use Rattle.domain_run.specs.Calls.{reply_to, is_refusal, after_call}
 use Rattle.domain_run.specs.Run.{run_of}
-use Rattle.call_book.specs.SectionView.{SectionView}
+use Rattle.calls_text.specs.SectionView.{SectionView}
 use Rattle.switch_text.specs.Trace.{RunView, trace_of}
 
 -- the calls of a section, whoever made them

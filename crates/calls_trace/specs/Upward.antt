@@ -1,6 +1,6 @@
 -- How a replay tells a fault of the trace, and one of the calls text (own).
-use Rattle.call_book.specs.declared.fault.CallsFault.{CallsFault}
-use Rattle.call_book.specs.declared.fault.CallsFault.TheVariants as calls
+use Rattle.calls_text.specs.declared.fault.CallsFault.{CallsFault}
+use Rattle.calls_text.specs.declared.fault.CallsFault.TheVariants as calls
 use Rattle.calls_trace.specs.declared.fault.TraceFault.{TraceFault}
 use Rattle.calls_trace.specs.declared.fault.TraceFault.TheVariants as traces
 use Rattle.calls_trace.specs.declared.fault.ReplayFault.{ReplayFault}

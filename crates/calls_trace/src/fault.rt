@@ -1,6 +1,6 @@
 //! Why a trace was not written.
 
-use call_book::CallsFault;
+use calls_text::CallsFault;
 use domain_run::NoMemory;
 use thiserror::Error;
 

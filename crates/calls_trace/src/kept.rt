@@ -2,7 +2,7 @@
 
 ghost use Rattle.std.specs.Prelude.{◌≡◌, ◌+◌, ◌≤◌, OnOk, vec_len, vec_capacity};
 
-use call_book::{Kept, Spelled};
+use calls_text::{Kept, Spelled};
 use domain_run::{Call, NoMemory};
 use std::alloc::Global;
 use std::marker::Model;
@@ -68,8 +68,8 @@ fn make_room(order: &mut Vec<Place>, long: &mut Vec<Spelled>) -> Result<(), NoMe
 
 impl KeptCalls {
     ghost use Rattle.std.specs.Prelude.{◌≡◌, [], ◌∷◌, ◌++◌, ◌≤◌, OnOk, sum_by};
-    ghost use Rattle.call_book.specs.Limits.{IsCall};
-    ghost use Rattle.call_book.specs.KeptCall.{call_of};
+    ghost use Rattle.calls_text.specs.Limits.{IsCall};
+    ghost use Rattle.calls_text.specs.KeptCall.{call_of};
     ghost use Rattle.calls_trace.specs.private.Kept.{room_of};
     ghost use Rattle.calls_trace.specs.private.LittleRoom.{calls_in, is_long};
 
@@ -170,7 +170,7 @@ impl Model for CallsLeft {
 impl CallsLeft {
     ghost use Rattle.std.specs.Prelude.{◌≡◌, [], ◌∷◌, IfSome, MatchOption};
     ghost use Rattle.std.specs.String.{string_bytes};
-    ghost use Rattle.call_book.specs.NameGiven.{name_given};
+    ghost use Rattle.calls_text.specs.NameGiven.{name_given};
 
     /// The next call, and the text of the name that it gives; none behind the last one.
     #[inline(always)]

@@ -1,16 +1,16 @@
 //! A section whose calls are kept in little room: they are all read before the first one is made.
 
 ghost use Rattle.std.specs.Prelude.{ℕ, false, List, IfOk};
-ghost use Rattle.call_book.specs.SectionView.{SectionView};
-ghost use Rattle.call_book.specs.Limits.{IsSection};
-ghost use Rattle.call_book.specs.Reader.{IsWithin, begun};
+ghost use Rattle.calls_text.specs.SectionView.{SectionView};
+ghost use Rattle.calls_text.specs.Limits.{IsSection};
+ghost use Rattle.calls_text.specs.Reader.{IsWithin, begun};
 ghost use Rattle.calls_trace.specs.private.Kept.{IsKeptSection, IsReadSection, KeepsSection};
 ghost use Rattle.calls_trace.specs.private.Replaying.{IsRunOf, IsToldOf};
 
 use crate::kept::KeptCalls;
 use crate::named_run::RunWithNames;
 use crate::read_runs::next_of;
-use call_book::CallsReader;
+use calls_text::CallsReader;
 use domain_run::NoMemory;
 use std::alloc::Global;
 

@@ -10,10 +10,10 @@ ghost use Rattle.domain_run.specs.Happened.{told_by_call, told_by_ticks};
 ghost use Rattle.domain_run.specs.Log.{Tells};
 ghost use Rattle.domain_run.specs.Run.{run_of};
 ghost use Rattle.domain_run.specs.Tick.{ticks as ticked_by};
-ghost use Rattle.call_book.specs.Limits.{IsNumber, IsCall, IsEntry, IsSection};
-ghost use Rattle.call_book.specs.Book.{IsLegal};
-ghost use Rattle.call_book.specs.NameGiven.{name_given};
-ghost use Rattle.call_book.specs.KeptCall.{call_of};
+ghost use Rattle.calls_text.specs.Limits.{IsNumber, IsCall, IsEntry, IsSection};
+ghost use Rattle.calls_text.specs.Histories.{IsLegal};
+ghost use Rattle.calls_text.specs.NameGiven.{name_given};
+ghost use Rattle.calls_text.specs.KeptCall.{call_of};
 ghost use Rattle.switch_text.specs.Names.{named};
 ghost use Rattle.calls_trace.specs.Replay.{no_names, with_name, names_after, calls_of};
 ghost use Rattle.calls_trace.specs.Told.{names_in, params_in, no_params, with_params, params_after, told_of};
@@ -22,7 +22,7 @@ ghost use Rattle.calls_trace.specs.private.Recorded.{given_by, given_by_all, par
 
 use crate::laid_out::lay_out_if_admitted;
 use attr_check::Params;
-use call_book::{Entry, Kept, Section, Spelled};
+use calls_text::{Entry, Kept, Section, Spelled};
 use domain_run::{Call, Log, Name, NoMemory, Reply, Script, State};
 use indexmap::IndexMap;
 use std::alloc::Global;

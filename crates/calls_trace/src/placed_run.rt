@@ -2,12 +2,12 @@
 
 ghost use Rattle.std.specs.Prelude.{◌≡◌, ◌<◌, ◌≤◌, ℕ, All, IfOk, length, map, slice_index_or};
 ghost use Rattle.domain_run.specs.Log.{LogView};
-ghost use Rattle.call_book.specs.Limits.{IsSection};
-ghost use Rattle.call_book.specs.Histories.{AreLegal, AreRuns, AreTold};
+ghost use Rattle.calls_text.specs.Limits.{IsSection};
+ghost use Rattle.calls_text.specs.Histories.{AreLegal, AreRuns, AreTold};
 ghost use Rattle.calls_trace.specs.private.Replaying.{IsPlaced, view_of, views_from};
 
 use crate::named_run::{RunWithNames, recorded};
-use call_book::Section;
+use calls_text::Section;
 use domain_run::{Log, NoMemory, State};
 use std::alloc::Global;
 use std::mem;

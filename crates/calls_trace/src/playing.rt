@@ -47,11 +47,11 @@ impl NamedDomain {
     ghost use Rattle.domain_run.specs.declared.call.Call.TheVariants as Call;
     ghost use Rattle.domain_run.specs.Calls.{after_call};
     ghost use Rattle.domain_run.specs.Tick.{ticks};
-    ghost use Rattle.call_book.specs.Limits.{IsNumber};
+    ghost use Rattle.calls_text.specs.Limits.{IsNumber};
     ghost use Rattle.switch_text.specs.Names.{named};
     ghost use Rattle.calls_trace.specs.Replay.{with_name, names_after};
     ghost use Rattle.calls_trace.specs.private.Replaying.{Gives};
-    ghost use Rattle.call_book.specs.NameGiven.{name_given};
+    ghost use Rattle.calls_text.specs.NameGiven.{name_given};
     ghost use Rattle.calls_trace.specs.private.Kept.{room_of};
 
     /// A domain of which no call is made yet, with room for so many names.
@@ -182,7 +182,7 @@ impl Playing {
     ghost use Rattle.std.specs.Prelude.{◌<◌, ◌++◌, ℕ, [], true, false, IfOk};
     ghost use Rattle.domain_run.specs.Passing.{without_switches};
     ghost use Rattle.domain_run.specs.Run.{after_calls};
-    ghost use Rattle.call_book.specs.SectionView.{SectionView};
+    ghost use Rattle.calls_text.specs.SectionView.{SectionView};
     ghost use Rattle.switch_text.specs.Names.{named};
     ghost use Rattle.switch_text.specs.Runs.{IsRun};
     ghost use Rattle.switch_text.specs.Names.{SameNames};

@@ -1,14 +1,14 @@
 //! The run of a section of a calls text, of which each call is made as soon as it is read.
 
 ghost use Rattle.std.specs.Prelude.{◌≡◌, ◌<◌, ◌≤◌, ℕ, List, Ok, IfOk, IfSome};
-ghost use Rattle.call_book.specs.SectionView.{SectionView};
-ghost use Rattle.call_book.specs.Limits.{IsCall};
-ghost use Rattle.call_book.specs.KeptCall.{IsNextKept, call_of};
-ghost use Rattle.call_book.specs.Reader.{IsWithin, begun, left};
+ghost use Rattle.calls_text.specs.SectionView.{SectionView};
+ghost use Rattle.calls_text.specs.Limits.{IsCall};
+ghost use Rattle.calls_text.specs.KeptCall.{IsNextKept, call_of};
+ghost use Rattle.calls_text.specs.Reader.{IsWithin, begun, left};
 ghost use Rattle.calls_trace.specs.private.ReadRuns.{IsBegun, IsReadRun};
 
 use crate::named_run::RunWithNames;
-use call_book::{CallsReader, Kept};
+use calls_text::{CallsReader, Kept};
 use domain_run::NoMemory;
 use std::alloc::Global;
 

@@ -2,10 +2,10 @@
 //! alone, its calls are kept in place of its run, which is made while the trace is written.
 
 ghost use Rattle.std.specs.Prelude.{◌≡◌, ℕ, [], ◌∷◌, List, false, IfErr, IfOk};
-ghost use Rattle.call_book.specs.SectionView.{SectionView};
-ghost use Rattle.call_book.specs.Limits.{IsSection};
-ghost use Rattle.call_book.specs.BadLine.{IsReadFault};
-ghost use Rattle.call_book.specs.Reader.{IsWithin, begun};
+ghost use Rattle.calls_text.specs.SectionView.{SectionView};
+ghost use Rattle.calls_text.specs.Limits.{IsSection};
+ghost use Rattle.calls_text.specs.BadLine.{IsReadFault};
+ghost use Rattle.calls_text.specs.Reader.{IsWithin, begun};
 ghost use Rattle.calls_trace.specs.private.Kept.{IsKeptSection, KeepsSection};
 ghost use Rattle.calls_trace.specs.private.ReadRuns.{IsBegun, ArePlacedSoFar, AreReadRuns};
 ghost use Rattle.calls_trace.specs.private.ReadText.{IsReadText, IsBegunFirst};
@@ -13,7 +13,7 @@ ghost use Rattle.calls_trace.specs.private.ReadText.{IsReadText, IsBegunFirst};
 use crate::kept_section::{KeptSection, section_read};
 use crate::placed_run::PlacedRun;
 use crate::runs_so_far::RunsSoFar;
-use call_book::{CallsFault, CallsReader};
+use calls_text::{CallsFault, CallsReader};
 use domain_run::NoMemory;
 use std::alloc::Global;
 

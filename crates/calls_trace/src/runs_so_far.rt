@@ -5,7 +5,7 @@ ghost use Rattle.std.specs.Prelude.{◌≤◌, vec_capacity};
 use crate::named_run::RunWithNames;
 use crate::placed_run::PlacedRun;
 use crate::read_runs::run_read;
-use call_book::{CallsFault, CallsReader};
+use calls_text::{CallsFault, CallsReader};
 use domain_run::NoMemory;
 use std::alloc::Global;
 
@@ -24,10 +24,10 @@ pub(crate) struct RunsSoFar {
 
 impl RunsSoFar {
     ghost use Rattle.std.specs.Prelude.{◌≡◌, ◌<◌, ◌+◌, ℕ, Bool, [], ◌∷◌, ◌++◌, List, length, IfOk, IfErr, OnOk};
-    ghost use Rattle.call_book.specs.SectionView.{SectionView};
-    ghost use Rattle.call_book.specs.Limits.{IsSection};
-    ghost use Rattle.call_book.specs.BadLine.{IsReadFault};
-    ghost use Rattle.call_book.specs.Reader.{IsWithin, begun, left};
+    ghost use Rattle.calls_text.specs.SectionView.{SectionView};
+    ghost use Rattle.calls_text.specs.Limits.{IsSection};
+    ghost use Rattle.calls_text.specs.BadLine.{IsReadFault};
+    ghost use Rattle.calls_text.specs.Reader.{IsWithin, begun, left};
     ghost use Rattle.calls_trace.specs.private.Replaying.{IsRunOf, IsToldOf};
     ghost use Rattle.calls_trace.specs.private.ReadRuns.{IsBegun, IsUnderWay, ArePlacedFor, ArePlacedSoFar, AreReadRuns};
 

@@ -4,8 +4,8 @@ ghost use Rattle.std.specs.Prelude.{◌≡◌, ◌<◌, ◌≤◌, ◌^◌, [], 
 ghost use Rattle.switch_text.specs.Runs as runs;
 ghost use Rattle.switch_text.specs.Telling.{told_view, told_views, IsTold};
 ghost use Rattle.counted_io.specs.Sides.{faults_of, side};
-ghost use Rattle.call_book.specs.SectionView.{SectionView};
-ghost use Rattle.call_book.specs.Limits.{IsSection};
+ghost use Rattle.calls_text.specs.SectionView.{SectionView};
+ghost use Rattle.calls_text.specs.Limits.{IsSection};
 ghost use Rattle.calls_trace.specs.Replay.{trace_of_sections};
 ghost use Rattle.calls_trace.specs.Written.{IsWritten, IsUnwritten};
 ghost use Rattle.calls_trace.specs.declared.run_text.RunText.TheVariants as texts;

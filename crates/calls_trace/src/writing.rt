@@ -2,10 +2,10 @@
 
 ghost use Rattle.std.specs.Prelude.{◌≡◌, ◌<◌, ◌≤◌, ◌^◌, [], ◌∷◌, All, IfErr, IfOk, IfSome, OnOk, length};
 ghost use Rattle.counted_io.specs.Sides.{faults_of, side};
-ghost use Rattle.call_book.specs.Spelling.{spelling};
-ghost use Rattle.call_book.specs.Limits.{IsSection, AreRead};
-ghost use Rattle.call_book.specs.BadLine.{IsReadFault};
-ghost use Rattle.call_book.specs.Histories.{AreLegal, AreRuns, AreTold};
+ghost use Rattle.calls_text.specs.Spelling.{spelling};
+ghost use Rattle.calls_text.specs.Limits.{IsSection, AreRead};
+ghost use Rattle.calls_text.specs.BadLine.{IsReadFault};
+ghost use Rattle.calls_text.specs.Histories.{AreLegal, AreRuns, AreTold};
 ghost use Rattle.reply_text.specs.Replies.{replies_of};
 ghost use Rattle.calls_trace.specs.Answer.{replayed};
 ghost use Rattle.run_options.specs.Options.{print_tells};
@@ -22,7 +22,7 @@ use crate::placed_run::{PlacedRun, place_runs};
 use crate::read_text::{ReadText, read_text, runs_of_text};
 use crate::run_text::RunText;
 use crate::trace::{write_events_of, write_played, write_trace_of};
-use call_book::{Section, read_calls};
+use calls_text::{Section, read_calls};
 use domain_run::{Log, State};
 use reply_text::{write_recorded, write_replies};
 use run_options::ReplayPrint;

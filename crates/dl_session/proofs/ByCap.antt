@@ -17,8 +17,9 @@ use Rattle.domain_run.specs.Tick.{sum_of}
 use Rattle.domain_run.specs.Calls.{reply_to, is_refusal, after_call}
 use Rattle.domain_run.proofs.CallerLemmas.{sum_push, granted_is, refused_keeps, admit_busy}
 use Rattle.rtapp_scenario.specs.ScenarioView.{TaskSpecView}
-use Rattle.call_book.specs.declared.section.Entry.{Entry}
-use Rattle.call_book.specs.Book.{AdmissionView, admission, IsMember, IsLegal, own_entries}
+use Rattle.calls_text.specs.declared.section.Entry.{Entry}
+use Rattle.call_book.specs.Book.{AdmissionView, admission, IsMember, own_entries}
+use Rattle.calls_text.specs.Histories.{IsLegal}
 use Rattle.session.specs.SessionId.{SessionId, cap_in, cpus_of}
 use Rattle.session.specs.Asks.{Answer, IsLawful, Asked, Made, call_of, domain_of, made_at, made_in, entries_from}
 use Rattle.session.specs.Admissions.{own_asked}

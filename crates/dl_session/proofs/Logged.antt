@@ -17,10 +17,10 @@ use Rattle.domain_run.specs.Happened.{told_by_ticks, told_by_granted, told_by_ca
 use Rattle.domain_run.specs.Log.{LogView}
 use Rattle.domain_run.specs.Run.{after_calls, run_of}
 use Rattle.rtapp_scenario.specs.ScenarioView.{TaskSpecView}
-use Rattle.call_book.specs.declared.section.Entry.{Entry}
-use Rattle.call_book.specs.SectionView.{SectionView}
-use Rattle.call_book.specs.Book.{calls_of}
-use Rattle.call_book.specs.Histories.{AreTold}
+use Rattle.calls_text.specs.declared.section.Entry.{Entry}
+use Rattle.calls_text.specs.SectionView.{SectionView}
+use Rattle.calls_text.specs.Histories.{calls_of}
+use Rattle.calls_text.specs.Histories.{AreTold}
 use Rattle.run_figures.specs.Accounting.{AccountingView}
 use Rattle.calls_trace.specs.Told.{domain_of}
 use Rattle.calls_trace.specs.Heard.{AreHeard}

@@ -7,8 +7,8 @@ use Rattle.domain_run.specs.Domain.{opened}
 use Rattle.domain_run.specs.Switch.{Switch}
 use Rattle.domain_run.specs.Run.{run_of}
 use Rattle.rtapp_scenario.specs.ScenarioView.{TaskSpecView}
-use Rattle.call_book.specs.SectionView.{SectionView}
-use Rattle.call_book.specs.declared.section.Entry.{Entry}
+use Rattle.calls_text.specs.SectionView.{SectionView}
+use Rattle.calls_text.specs.declared.section.Entry.{Entry}
 use Rattle.call_book.specs.Book.{IsMember, own_entries}
 use Rattle.switch_text.specs.Trace.{RunView, trace_of}
 use Rattle.session.specs.declared.refusal.Refusal.{Refusal}

@@ -15,8 +15,9 @@ use Rattle.domain_run.specs.Run.{after_calls, replies_to}
 use Rattle.domain_run.proofs.CallerLemmas.{with_number_contains, granted_is}
 use Rattle.domain_run.proofs.CallerLemmas.{refused_keeps}
 use Rattle.domain_run.proofs.CallerLemmas.{AreNumbered}
-use Rattle.call_book.specs.declared.section.Entry.{Entry}
-use Rattle.call_book.specs.Book.{AdmissionView, admission, calls_of}
+use Rattle.calls_text.specs.declared.section.Entry.{Entry}
+use Rattle.call_book.specs.Book.{AdmissionView, admission}
+use Rattle.calls_text.specs.Histories.{calls_of}
 use Rattle.calls_trace.specs.Replay.{named_by, names_after, names_of}
 use Rattle.dl_session.specs.InOrder.{is_admitted}
 use Rattle.domain_run.proofs.CallerLemmas.{Reordered, ends, next, swaps, chain}

@@ -10,8 +10,8 @@ use Rattle.domain_run.specs.declared.call.Reply.TheVariants.{Done}
 use Rattle.domain_run.specs.Domain.{Domain}
 use Rattle.domain_run.specs.Calls.{reply_to, after_call}
 use Rattle.domain_run.specs.Run.{after_calls}
-use Rattle.call_book.specs.declared.section.Entry.{Entry}
-use Rattle.call_book.specs.Book.{calls_of}
+use Rattle.calls_text.specs.declared.section.Entry.{Entry}
+use Rattle.calls_text.specs.Histories.{calls_of}
 use Rattle.session.specs.Asks.{Made}
 use Rattle.session.specs.RunEnd.{advance_of, IsEnd, EndsWith}
 use Rattle.calls_trace.specs.Replay.{names_after, names_of}

@@ -1,7 +1,7 @@
 -- What is printed of a run is what is printed of a replay of its calls.
 use Rattle.std.proofs.Common.{◌≡◌, List, refl, ap, sym, subst}
-use Rattle.call_book.specs.SectionView.{SectionView}
-use Rattle.call_book.specs.Spelling.{spelling}
+use Rattle.calls_text.specs.SectionView.{SectionView}
+use Rattle.calls_text.specs.Spelling.{spelling}
 use Rattle.domain_run.specs.Domain.{Domain}
 use Rattle.domain_run.specs.Log.{LogView}
 use Rattle.run_figures.specs.Accounting.{AccountingView}

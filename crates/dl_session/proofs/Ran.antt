@@ -11,7 +11,7 @@ use Rattle.rtapp_scenario.specs.Scenario.{parsed}
 use Rattle.rtapp_scenario.specs.Told as profile
 use Rattle.rtapp_scenario.specs.declared.fault.ScenarioFault.{ScenarioFault}
 use Rattle.rtapp_scenario.specs.declared.fault.ScenarioFault.TheVariants as scenario_faults
-use Rattle.call_book.specs.SectionView.{SectionView}
+use Rattle.calls_text.specs.SectionView.{SectionView}
 use Rattle.call_book.specs.Book.{own_entries}
 use Rattle.counted_io.specs.Sides.{HasNoFault}
 use Rattle.counted_io.specs.Faults.{TakesFront}

@@ -3,9 +3,10 @@ use Rattle.std.proofs.Common.{◌≡◌, ℕ, false, Some, None, zero, suc, ◌+
 use Rattle.std.proofs.lemmas.List.{get_or-map, length-map, length-replicate}
 use Rattle.std.proofs.lemmas.List.Elements.{All-get_or}
 use Rattle.rtapp_scenario.specs.ScenarioView.{TaskSpecView}
-use Rattle.call_book.specs.SectionView.{SectionView}
-use Rattle.call_book.specs.declared.section.Entry.{Entry}
-use Rattle.call_book.specs.Book.{IsLegal, own_entries}
+use Rattle.calls_text.specs.SectionView.{SectionView}
+use Rattle.calls_text.specs.declared.section.Entry.{Entry}
+use Rattle.call_book.specs.Book.{own_entries}
+use Rattle.calls_text.specs.Histories.{IsLegal}
 use Rattle.session.specs.declared.refusal.Refusal.{Refusal}
 use Rattle.session.specs.SessionId.{SessionId, IsDomainIndex, cpus_of}
 use Rattle.session.specs.Asks.{ClientView, Asked, Made, Makes, pass_in, made_in, entries_from}

@@ -1,6 +1,6 @@
 -- The fault of a replay, as the program tells it.
 use Rattle.std.proofs.Common.{ℕ, List}
-use Rattle.call_book.specs.SectionView.{SectionView}
+use Rattle.calls_text.specs.SectionView.{SectionView}
 use Rattle.calls_trace.specs.declared.fault.ReplayFault.{ReplayFault}
 use Rattle.calls_trace.specs.declared.fault.ReplayFault.TheVariants.{Calls, Read, Write, Memory}
 use Rattle.calls_trace.specs.Answer as replays

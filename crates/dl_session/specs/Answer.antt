@@ -1,6 +1,6 @@
 -- The faults of a replay, as the program tells them; what a replay answers is calls_trace's.
 use Rattle.std.specs.Prelude.{ℕ, List}
-use Rattle.call_book.specs.SectionView.{SectionView}
+use Rattle.calls_text.specs.SectionView.{SectionView}
 use Rattle.dl_session.specs.declared.fault.SessionFault.{SessionFault}
 use Rattle.dl_session.specs.declared.fault.SessionFault.TheVariants.{Json, Scenario, Calls, Read, Write, Start, Full, Memory}
 use Rattle.calls_trace.specs.Replay.{trace_of_sections}

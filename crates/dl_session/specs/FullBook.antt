@@ -1,8 +1,8 @@
 -- A book that has no room for the advance, once a scenario's tasks were asked (own).
 use Rattle.std.specs.Prelude.{◌≡◌, ℕ, ◌+◌, ◌<◌, List, [], length, map, All}
 use Rattle.rtapp_scenario.specs.ScenarioView.{TaskSpecView}
-use Rattle.call_book.specs.declared.section.Entry.{Entry}
-use Rattle.call_book.specs.SectionView.{SectionView}
+use Rattle.calls_text.specs.declared.section.Entry.{Entry}
+use Rattle.calls_text.specs.SectionView.{SectionView}
 use Rattle.call_book.specs.Book.{own_entries}
 use Rattle.session.specs.SessionId.{SessionId, IsDomainIndex}
 use Rattle.session.specs.Asks.{IsLawful, Asked, made_in, entries_from}

@@ -11,10 +11,10 @@ use Rattle.rtapp_scenario.specs.Scenario.{parsed}
 use Rattle.rtapp_scenario.specs.Told as profile
 use Rattle.rtapp_scenario.specs.declared.fault.ScenarioFault.{ScenarioFault}
 use Rattle.rtapp_scenario.specs.declared.fault.ScenarioFault.TheVariants as scenario_faults
-use Rattle.call_book.specs.SectionView.{SectionView}
-use Rattle.call_book.specs.Spelling.{spelling}
-use Rattle.call_book.specs.Limits.{AreRead}
-use Rattle.call_book.specs.RoundTrip.{unanswered}
+use Rattle.calls_text.specs.SectionView.{SectionView}
+use Rattle.calls_text.specs.Spelling.{spelling}
+use Rattle.calls_text.specs.Limits.{AreRead}
+use Rattle.calls_text.specs.RoundTrip.{unanswered}
 use Rattle.counted_io.specs.Sides.{HasNoFault, HasOneFault}
 use Rattle.counted_io.specs.Faults.{TakesFront}
 use Rattle.dl_session.specs.declared.fault.SessionFault.{SessionFault}

@@ -1,9 +1,9 @@
 //! The last step of a run: the text that is asked for of its histories.
 
 ghost use Rattle.std.specs.Prelude.{◌≡◌, ◌<◌, ◌≤◌, ◌^◌, All, OnOk, IfErr, length};
-ghost use Rattle.call_book.specs.Limits.{IsSection};
-ghost use Rattle.call_book.specs.Spelling.{spelling};
-ghost use Rattle.call_book.specs.Histories.{AreLegal};
+ghost use Rattle.calls_text.specs.Limits.{IsSection};
+ghost use Rattle.calls_text.specs.Spelling.{spelling};
+ghost use Rattle.calls_text.specs.Histories.{AreLegal};
 ghost use Rattle.counted_io.specs.Sides.{faults_of, side};
 ghost use Rattle.calls_trace.specs.Written.{IsWritten, IsUnwritten};
 ghost use Rattle.dl_session.specs.RunAnswer.{printed};

@@ -8,10 +8,10 @@ use Rattle.domain_run.specs.declared.call.Reply.{Reply}
 use Rattle.domain_run.specs.Domain.{Domain, opened}
 use Rattle.domain_run.specs.Calls.{reply_to, after_call}
 use Rattle.domain_run.specs.Run.{replies_to}
-use Rattle.call_book.specs.declared.section.Entry.{Entry}
-use Rattle.call_book.specs.SectionView.{SectionView}
-use Rattle.call_book.specs.Spelling.{domain_line, text_of}
-use Rattle.call_book.specs.Book.{calls_of}
+use Rattle.calls_text.specs.declared.section.Entry.{Entry}
+use Rattle.calls_text.specs.SectionView.{SectionView}
+use Rattle.calls_text.specs.Spelling.{domain_line, text_of}
+use Rattle.calls_text.specs.Histories.{calls_of}
 use Rattle.reply_text.specs.Replies.{answered_line, answered_lines, section_replies, replies_of}
 use Rattle.reply_text.specs.private.Recorded.{line_with, recorded_lines}
 

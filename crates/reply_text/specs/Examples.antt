@@ -7,7 +7,7 @@ use Rattle.task_script.specs.declared.script.Event.TheVariants.{Run, Wait}
 use Rattle.task_script.specs.script.ScriptView.{ScriptView, script_of}
 use Rattle.domain_run.specs.declared.call.Call.{Call}
 use Rattle.domain_run.specs.declared.call.Call.TheVariants.{Admit, Regrade, Wake, Leave, Advance, Limit, Depart, Arrive}
-use Rattle.call_book.specs.declared.section.Entry.{Entry}
+use Rattle.calls_text.specs.declared.section.Entry.{Entry}
 use Rattle.reply_text.specs.Replies.{replies_of}
 
 -- a call of client 1

@@ -4,10 +4,10 @@ ghost use Rattle.std.specs.Prelude.{◌≡◌, ◌<◌, ◌≤◌, ◌+◌, ◌^
 ghost use Rattle.domain_run.specs.declared.call.Call.TheVariants as Call;
 ghost use Rattle.domain_run.specs.Calls.{reply_to, after_call};
 ghost use Rattle.domain_run.specs.Tick.{ticks as ticked_by};
-ghost use Rattle.call_book.specs.Limits.{IsCall};
+ghost use Rattle.calls_text.specs.Limits.{IsCall};
 
 use attr_check::Params;
-use call_book::{Call, NoMemory, Reply};
+use calls_text::{Call, NoMemory, Reply};
 use domain_run::{Name, Script, State};
 
 /// Admits a task.

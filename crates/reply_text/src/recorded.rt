@@ -1,14 +1,14 @@
 //! The replies that histories have.
 
 ghost use Rattle.std.specs.Prelude.{◌≡◌, ◌++◌, All, IfOk, OnOk, IsSome};
-ghost use Rattle.call_book.specs.Histories.{AreLegal};
-ghost use Rattle.call_book.specs.Book.{IsLegal};
-ghost use Rattle.call_book.specs.Spelling.{text_of};
+ghost use Rattle.calls_text.specs.Histories.{AreLegal};
+ghost use Rattle.calls_text.specs.Histories.{IsLegal};
+ghost use Rattle.calls_text.specs.Spelling.{text_of};
 ghost use Rattle.reply_text.specs.Replies.{section_replies, replies_of};
 ghost use Rattle.reply_text.specs.private.Recorded.{recorded_line, recorded_lines};
 
 use crate::text::{put, put_answered};
-use call_book::{Entry, NoMemory, Section, put_domain};
+use calls_text::{Entry, NoMemory, Section, put_domain};
 use std::alloc::Global;
 
 /// The line of an entry with the reply that it has.

@@ -1,10 +1,10 @@
 //! The text of a reply, put behind what stands before.
 
 ghost use Rattle.std.specs.Prelude.{◌≡◌, ◌++◌, codes, decimal, OnOk};
-ghost use Rattle.call_book.specs.Spelling.{entry_line};
+ghost use Rattle.calls_text.specs.Spelling.{entry_line};
 ghost use Rattle.reply_text.specs.Replies.{reply_text, answered_line};
 
-use call_book::{Entry, NoMemory, Reply, put_call};
+use calls_text::{Entry, NoMemory, Reply, put_call};
 use itoa::Buffer;
 
 pub(crate) fn put(out: &mut Vec<u8>, text: &[u8]) -> Result<(), NoMemory>

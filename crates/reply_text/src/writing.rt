@@ -1,14 +1,14 @@
 //! The replies of calls that are made.
 
 ghost use Rattle.std.specs.Prelude.{◌≡◌, ◌≤◌, ◌*◌, ◌+◌, ◌^◌, ◌++◌, All, IfOk, OnOk, length, codes};
-ghost use Rattle.call_book.specs.Limits.{IsEntry, IsSection};
-ghost use Rattle.call_book.specs.Spelling.{text_of};
+ghost use Rattle.calls_text.specs.Limits.{IsEntry, IsSection};
+ghost use Rattle.calls_text.specs.Spelling.{text_of};
 ghost use Rattle.domain_run.specs.Calls.{reply_to, after_call};
 ghost use Rattle.reply_text.specs.Replies.{answered_line, answered_lines, section_replies, replies_of};
 
 use crate::making::make;
 use crate::text::{put, put_answer, put_asked};
-use call_book::{Entry, NoMemory, Section, put_domain};
+use calls_text::{Entry, NoMemory, Section, put_domain};
 use domain_run::State;
 use std::alloc::Global;
 use std::collections::VecDeque;

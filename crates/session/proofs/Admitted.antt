@@ -8,7 +8,7 @@ use Rattle.std.proofs.lemmas.List.Elements.{All-append, All-nil, All-cons, All-h
 use Rattle.std.proofs.lemmas.List.Filters.{length-filter_more}
 use Rattle.rtapp_scenario.specs.ScenarioView.{TaskSpecView}
 use Rattle.bw_gate.specs.Pieces.{BlankView}
-use Rattle.call_book.specs.declared.section.Entry.{Entry}
+use Rattle.calls_text.specs.declared.section.Entry.{Entry}
 use Rattle.session.specs.declared.refusal.Refusal.{Refusal}
 use Rattle.session.specs.SessionId.{SessionId}
 use Rattle.session.specs.Asks.{Answer, IsLawful, Asked, Made, made_in, made_at, call_of, domain_of, entries_from, ClientView, pass_in, followed_by, Asks, IsHandAfterAll}

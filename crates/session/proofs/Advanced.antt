@@ -15,8 +15,9 @@ use Rattle.domain_run.specs.Run.{run_of}
 use Rattle.domain_run.specs.declared.call.Call.TheVariants.{Advance}
 use Rattle.domain_run.specs.declared.call.Reply.{Reply}
 use Rattle.domain_run.specs.declared.call.Reply.TheVariants as replies
-use Rattle.call_book.specs.declared.section.Entry.{Entry}
-use Rattle.call_book.specs.Book.{BookView, IsFull, own_entries, calls_of, state_of, entry_by}
+use Rattle.calls_text.specs.declared.section.Entry.{Entry}
+use Rattle.call_book.specs.Book.{BookView, IsFull, own_entries, state_of, entry_by}
+use Rattle.calls_text.specs.Histories.{calls_of}
 use Rattle.call_book.specs.BookAnswers.{IsAdvanced, TellsAdvance}
 use Rattle.call_book.specs.Ending.{EndingView, left_of}
 use Rattle.run_figures.specs.Accounting.{AccountingView}
@@ -24,7 +25,7 @@ use Rattle.heard_run.specs.Heard.{heard_of, heard_after}
 use Rattle.heard_run.proofs.CallerLemmas.{heard_whole}
 use Rattle.call_book.proofs.CallerLemmas.{run_grows}
 use Rattle.domain_run.specs.Tick.{ticks}
-use Rattle.call_book.specs.SectionView.{SectionView}
+use Rattle.calls_text.specs.SectionView.{SectionView}
 use Rattle.session.specs.declared.fault.EndFault.{EndFault}
 use Rattle.session.specs.declared.fault.EndFault.TheVariants as faults
 use Rattle.session.specs.declared.report.Finished.{Finished}

@@ -18,7 +18,7 @@ use Rattle.bw_gate.specs.Word.{used_of, cap_of, IsCap}
 use Rattle.bw_gate.specs.Pieces.{GateId, BlankView, TicketView, last_of, cpus_of as gate_cpus}
 use Rattle.bw_gate.specs.Answers.{IsTake, IsGive, words_of}
 use Rattle.bw_gate.specs.declared.answer.Take.TheVariants as takes
-use Rattle.call_book.specs.declared.section.Entry.{Entry}
+use Rattle.calls_text.specs.declared.section.Entry.{Entry}
 use Rattle.session.specs.declared.refusal.Refusal.{Refusal}
 use Rattle.session.specs.declared.refusal.Refusal.TheVariants as refusals
 use Rattle.session.specs.SessionId.{SessionId, IsSession, IsDomainIndex, cpus_of}

@@ -8,7 +8,7 @@ use Rattle.call_book.specs.Pieces.{IsTicketOf}
 use Rattle.domain_run.specs.Domain.{Domain}
 use Rattle.call_book.specs.Book.{BookView}
 use Rattle.call_book.specs.Ending.{EndingView}
-use Rattle.call_book.specs.SectionView.{SectionView}
+use Rattle.calls_text.specs.SectionView.{SectionView}
 use Rattle.session.specs.SessionId.{SessionId}
 use Rattle.session.specs.private.Entering.{IsSessionBook}
 use Rattle.session.specs.private.Parts.{AreSessionBooks}

@@ -17,8 +17,9 @@ use Rattle.domain_run.specs.Run.{run_of}
 use Rattle.bw_gate.specs.Pieces.{GateId, BlankView, TicketView}
 use Rattle.bw_gate.specs.Answers.{IsGive}
 use Rattle.call_book.specs.Pieces.{IsTicketOf}
-use Rattle.call_book.specs.declared.section.Entry.{Entry}
-use Rattle.call_book.specs.Book.{BookView, AdmissionView, Enters, Stays, calls_of, state_of}
+use Rattle.calls_text.specs.declared.section.Entry.{Entry}
+use Rattle.call_book.specs.Book.{BookView, AdmissionView, Enters, Stays, state_of}
+use Rattle.calls_text.specs.Histories.{calls_of}
 use Rattle.call_book.specs.MoveAnswers.{Sides, moving_as, arrival, IsStale, ComeBack, IsMoved, LacksRoom}
 use Rattle.session.specs.declared.refusal.Refusal.{Refusal}
 use Rattle.session.specs.SessionId.{SessionId, cpus_of}

@@ -16,7 +16,7 @@ use Rattle.bw_gate.specs.Word.{IsLimit}
 use Rattle.bw_gate.specs.declared.terms.Room.{Room}
 use Rattle.bw_gate.specs.Terms.{TermsView, IsMachine, AreTerms, AreRooms, terms_of as gate_terms}
 use Rattle.domain_run.specs.Domain.{IsCpus}
-use Rattle.call_book.specs.declared.section.Entry.{Entry}
+use Rattle.calls_text.specs.declared.section.Entry.{Entry}
 use Rattle.call_book.specs.Book.{BookView, IsMember}
 use Rattle.run_options.specs.declared.options.Options.{Options}
 use Rattle.session.specs.declared.parts.Hand.{Hand}

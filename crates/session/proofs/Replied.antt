@@ -16,10 +16,11 @@ use Rattle.bw_gate.specs.Pieces.{GateId, BlankView, TicketView}
 use Rattle.call_book.specs.declared.book.domain.Full.{Full}
 use Rattle.call_book.specs.declared.book.domain.Limit.{Limit}
 use Rattle.call_book.specs.declared.book.domain.Limit.TheVariants as limits
-use Rattle.call_book.specs.declared.section.Entry.{Entry}
+use Rattle.calls_text.specs.declared.section.Entry.{Entry}
 use Rattle.call_book.specs.declared.book.stock.Held.{Held}
 use Rattle.call_book.specs.Pieces.{IsTicketOf, AsksTheWord}
-use Rattle.call_book.specs.Book.{BookView, AdmissionView, calls_of, state_of, Enters, EntersAlone, Stays, IsRefusedFull}
+use Rattle.call_book.specs.Book.{BookView, AdmissionView, state_of, Enters, EntersAlone, Stays, IsRefusedFull}
+use Rattle.calls_text.specs.Histories.{calls_of}
 use Rattle.call_book.specs.BookAnswers.{IsBusy, IsRegraded}
 use Rattle.call_book.specs.LimitAnswers.{IsLimitSet, AnswersLimit}
 use Rattle.session.specs.declared.refusal.Refusal.TheVariants as refusals

@@ -14,7 +14,7 @@ use Rattle.domain_run.specs.declared.call.Reply.TheVariants as replies
 use Rattle.domain_run.specs.Calls.{reply_to}
 use Rattle.domain_run.specs.Run.{run_of}
 use Rattle.rtapp_scenario.specs.ScenarioView.{TaskSpecView}
-use Rattle.call_book.specs.declared.section.Entry.{Entry}
+use Rattle.calls_text.specs.declared.section.Entry.{Entry}
 use Rattle.call_book.specs.Pieces.{IsTicketOf, IsAnswered}
 use Rattle.call_book.specs.LimitAnswers.{AsksForLimit}
 use Rattle.session.specs.declared.refusal.Refusal.{Refusal}

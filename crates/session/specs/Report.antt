@@ -3,10 +3,11 @@ use Rattle.std.specs.Prelude.{◌≡◌, ℕ, ◌≤◌, List, [], length, All, 
 use Rattle.bw_gate.specs.Word.{IsCap}
 use Rattle.domain_run.specs.Tick.{sum_of}
 use Rattle.domain_run.specs.Run.{run_of}
-use Rattle.call_book.specs.SectionView.{SectionView}
-use Rattle.call_book.specs.OwnCalls.{IsNumbered}
-use Rattle.call_book.specs.Limits.{IsSection}
-use Rattle.call_book.specs.Book.{IsMember, IsLegal, own_entries, calls_of}
+use Rattle.calls_text.specs.SectionView.{SectionView}
+use Rattle.calls_text.specs.OwnCalls.{IsNumbered}
+use Rattle.calls_text.specs.Limits.{IsSection}
+use Rattle.call_book.specs.Book.{IsMember, own_entries}
+use Rattle.calls_text.specs.Histories.{IsLegal, calls_of}
 use Rattle.session.specs.declared.report.Report.{Report}
 use Rattle.session.specs.SessionId.{SessionId, IsDomainIndex, cpus_of}
 use Rattle.session.specs.Asks.{ClientView, pass_in}

@@ -11,10 +11,10 @@ use Rattle.domain_run.specs.Passing.{without_switches}
 use Rattle.domain_run.specs.Run.{run_of}
 use Rattle.run_figures.specs.Accounting.{AccountingView}
 use Rattle.heard_run.specs.Heard.{heard_of}
-use Rattle.call_book.specs.declared.section.Entry.{Entry}
-use Rattle.call_book.specs.Book.{calls_of}
-use Rattle.call_book.specs.SectionView.{SectionView}
-use Rattle.call_book.specs.Histories.{AreRuns}
+use Rattle.calls_text.specs.declared.section.Entry.{Entry}
+use Rattle.calls_text.specs.Histories.{calls_of}
+use Rattle.calls_text.specs.SectionView.{SectionView}
+use Rattle.calls_text.specs.Histories.{AreRuns}
 use Rattle.session.specs.declared.fault.EndFault.{EndFault}
 use Rattle.session.specs.declared.fault.EndFault.TheVariants.{Full, Memory}
 use Rattle.session.specs.declared.report.Finished.{Finished}

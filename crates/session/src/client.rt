@@ -5,7 +5,7 @@ ghost use Rattle.attr_check.specs.Accepted.{accepted, params_of};
 ghost use Rattle.domain_run.specs.declared.call.Call.TheVariants as calls;
 ghost use Rattle.domain_run.specs.Domain.{IsLimit};
 ghost use Rattle.domain_run.specs.Log.{Tells};
-ghost use Rattle.call_book.specs.Limits.{IsCall};
+ghost use Rattle.calls_text.specs.Limits.{IsCall};
 ghost use Rattle.call_book.specs.Book.{IsMember, IsFull, admission, own_entries};
 ghost use Rattle.session.specs.SessionId.{IsSession, IsDomainIndex, cpus_of, spine_of};
 ghost use Rattle.session.specs.Asks.{Asks, call_of, pass_in, Makes, made_by, MakesRegrade, MakesLimit, MakesAdvance, RefusesOnlyFull, RefusesOnlyFullOrMemory, IsLastFound, piece_of, AsksGate, IsHandAfter};

@@ -5,7 +5,7 @@ ghost use Rattle.bw_gate.specs.Answers.{IsGive};
 ghost use Rattle.domain_run.specs.declared.call.Call.TheVariants as calls;
 ghost use Rattle.domain_run.specs.Domain.{IsLimit};
 ghost use Rattle.call_book.specs.Book.{IsPassOf, IsMember, admission};
-ghost use Rattle.call_book.specs.Limits.{IsCall};
+ghost use Rattle.calls_text.specs.Limits.{IsCall};
 ghost use Rattle.call_book.specs.Pieces.{IsTicketOf};
 ghost use Rattle.session.specs.SessionId.{IsSession, spine_of};
 ghost use Rattle.session.specs.private.Entering.{IsSessionBook, SameBook, IsAsk, IsGivenBack, NoneIsKept, IsDone, IsOffered, IsReplied, IsRegradedBy, limit_answer, limit_back, IsLimitedBy, IsAdvancedBy, IsWhyNotAdmitted, IsWhyNotMade, IsWhyNot};

@@ -2,7 +2,7 @@
 
 ghost use Rattle.std.specs.Prelude.{◌≡◌, ◌≢◌, ◌<◌, ◌↔◌, Some, None, IfOk, IfErr, OnOk, IsSome, Err, []};
 ghost use Rattle.domain_run.specs.declared.call.Call.TheVariants as calls;
-ghost use Rattle.call_book.specs.Limits.{IsCall};
+ghost use Rattle.calls_text.specs.Limits.{IsCall};
 ghost use Rattle.call_book.specs.MoveAnswers.{moving_as};
 ghost use Rattle.session.specs.declared.refusal.Refusal.TheVariants as refusals;
 ghost use Rattle.session.specs.SessionId.{IsDomainIndex};

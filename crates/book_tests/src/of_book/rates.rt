@@ -1,6 +1,6 @@
 // How many admissions a second clients make through word and locked book.
 ghost use Rattle.std.specs.Prelude.{◌<◌};
-ghost use Rattle.call_book.specs.Limits.{IsCall, IsNumber};
+ghost use Rattle.calls_text.specs.Limits.{IsCall, IsNumber};
 
 use super::{Desk, admit, calls_of, end, opened_with};
 use call_book::{Prepared, prepare};

@@ -7,7 +7,8 @@ use Rattle.domain_run.specs.Domain.{Domain, IsLimit}
 use Rattle.domain_run.specs.Sound.{IsDomain}
 use Rattle.domain_run.specs.Calls.{regrade_reply, limit_reply, task_of}
 use Rattle.call_book.specs.Pieces.{HoldsTickets, IsTicketOf, AsksTheWord}
-use Rattle.call_book.specs.Book.{BookView, state_of, IsLegal, HasItsLimit}
+use Rattle.call_book.specs.Book.{BookView, state_of, HasItsLimit}
+use Rattle.calls_text.specs.Histories.{IsLegal}
 use Rattle.call_book.specs.LimitAnswers.{AsksForLimit}
 use Rattle.call_book.specs.private.Ledger.{LedgerView}
 use Rattle.call_book.specs.private.Stock.{StockView}

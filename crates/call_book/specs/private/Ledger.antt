@@ -2,9 +2,9 @@
 use Rattle.std.specs.Prelude.{◌≡◌, ℕ, ◌≤◌, List, length, map, All}
 use Rattle.atomic_table.specs.Seated.{TableId}
 use Rattle.pass_seats.specs.Lists.{SpineView}
-use Rattle.call_book.specs.declared.section.Entry.{Entry}
-use Rattle.call_book.specs.Limits.{IsEntry}
-use Rattle.call_book.specs.OwnCalls.{IsNumbered}
+use Rattle.calls_text.specs.declared.section.Entry.{Entry}
+use Rattle.calls_text.specs.Limits.{IsEntry}
+use Rattle.calls_text.specs.OwnCalls.{IsNumbered}
 use Rattle.call_book.specs.Book.{keyed, IsMember}
 
 pub record LedgerView : Type 0 where

@@ -6,7 +6,7 @@ use Rattle.domain_run.specs.Calls.{reply_to, after_call}
 use Rattle.domain_run.specs.Busy.{LacksRoomFor}
 use Rattle.domain_run.specs.declared.call.Call.{Call}
 use Rattle.domain_run.specs.declared.call.Reply.{Reply as Answer}
-use Rattle.call_book.specs.Limits.{IsCall}
+use Rattle.calls_text.specs.Limits.{IsCall}
 use Rattle.call_book.specs.Book.{AdmissionView, admission}
 use Rattle.call_book.specs.declared.book.prepared.Listing.{Listing}
 use Rattle.call_book.specs.declared.book.prepared.Listing.TheVariants.{Listed, Busy, Full, Twice}

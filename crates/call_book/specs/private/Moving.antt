@@ -5,7 +5,7 @@ use Rattle.domain_run.specs.declared.call.Reply.TheVariants as replies
 use Rattle.domain_run.specs.Calls.{reply_to}
 use Rattle.call_book.specs.declared.book.domain.moving.Verdict.{Verdict}
 use Rattle.call_book.specs.declared.book.domain.moving.Verdict.TheVariants.{Moves, Full, NotListed, Stale, Twice, Busy}
-use Rattle.call_book.specs.Limits.{IsCall}
+use Rattle.calls_text.specs.Limits.{IsCall}
 use Rattle.call_book.specs.Book.{BookView, AdmissionView, state_of, IsFull}
 use Rattle.call_book.specs.MoveAnswers.{HasRoom, IsAsPrepared, IsStale, LacksRoom, arrival}
 

@@ -20,7 +20,7 @@ use crate::book::Pass;
 use crate::book::ledger::Ledger;
 use crate::book::prepared::{Listing, Prepared};
 use crate::book::stock::Stock;
-use crate::section::Entry;
+use calls_text::Entry;
 use attr_check::Params;
 use bw_gate::{Blank, Gate, Ticket, used_of};
 use domain_run::{Call, Log, NoMemory, Reply, State};
@@ -178,7 +178,7 @@ pub struct Closed {
 }
 
 impl Domain {
-    ghost use Rattle.call_book.specs.Limits.{IsCall};
+    ghost use Rattle.calls_text.specs.Limits.{IsCall};
     ghost use Rattle.bw_gate.specs.Pieces.{sum_of};
     ghost use Rattle.call_book.specs.Pieces.{IsTicketOf, HoldsTickets};
     ghost use Rattle.call_book.specs.Book.{own_entries, state_of, HasItsLimit, IsBookHistory, IsPassOf, EntersAlone, IsRefusedFull};

@@ -1,12 +1,12 @@
 //! The history of a book: the entries, beside the spine that lists them by client.
 
 ghost use Rattle.std.specs.Prelude.{◌≡◌, ◌<◌, ◌≤◌, ◌↔◌, ◌+◌, ◌++◌, ◌∷◌, [], ℕ, length, slice_get, IfOk, IsTrue, All};
-ghost use Rattle.call_book.specs.Limits.{IsCall};
+ghost use Rattle.calls_text.specs.Limits.{IsCall};
 ghost use Rattle.call_book.specs.Book.{IsMember, entry_by, with_entry, own_entries};
 ghost use Rattle.call_book.specs.private.Ledger.{LedgerView, IsHistory};
 
 use crate::book::Pass;
-use crate::section::Entry;
+use calls_text::Entry;
 use domain_run::{Call, NoMemory, Reply};
 use pass_seats::Spine;
 use std::alloc::Global;

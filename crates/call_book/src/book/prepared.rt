@@ -3,7 +3,7 @@
 ghost use Rattle.std.specs.Prelude.{◌≡◌, ◌↔◌, ◌≤◌, ◌^◌, IsTrue, IfOk};
 ghost use Rattle.domain_run.specs.Calls as rules;
 ghost use Rattle.domain_run.specs.declared.call.Reply.TheVariants.{Admitted};
-ghost use Rattle.call_book.specs.Limits.{IsNumber, IsAdmission, IsCall};
+ghost use Rattle.calls_text.specs.Limits.{IsNumber, IsAdmission, IsCall};
 ghost use Rattle.call_book.specs.MoveAnswers.{moving_as, arrival};
 ghost use Rattle.call_book.specs.Book.{AdmissionView};
 ghost use Rattle.call_book.specs.private.Listing.{IsListing};
@@ -29,7 +29,7 @@ pub struct Prepared {
 
 impl Model for Prepared {
     ghost use Rattle.std.specs.Prelude.{◌≡◌};
-    ghost use Rattle.call_book.specs.Limits.{IsAdmission};
+    ghost use Rattle.calls_text.specs.Limits.{IsAdmission};
     ghost use Rattle.call_book.specs.Book.{AdmissionView};
 
     ghost Value = { AdmissionView };

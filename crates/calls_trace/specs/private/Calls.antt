@@ -3,7 +3,7 @@ use Rattle.std.specs.Prelude.{ℕ, ◌≤◌}
 use Rattle.domain_run.specs.declared.call.Call.{Call}
 use Rattle.domain_run.specs.declared.call.Call.TheVariants.{Admit, Regrade, Wake, Leave, Advance, Limit, Depart, Arrive}
 use Rattle.domain_run.specs.Domain.{IsLimit}
-use Rattle.call_book.specs.Limits.{IsNumber}
+use Rattle.calls_text.specs.Limits.{IsNumber}
 
 -- whom it admits; 1 where it admits nobody
 abbrev pub number_given : Call → ℕ
@@ -50,7 +50,7 @@ ticks_given (Depart number) = 0
 ticks_given (Arrive number name params script) = 0
 
 -- What is used of a call of a section while it is made, in a form that a ghost field may keep: a
--- fact that goes by cases, as `IsCall` of call_book does, it may not.
+-- fact that goes by cases, as `IsCall` of calls_text does, it may not.
 pub record IsReady (c : Call) : Type 0 where
   pub numbered : IsNumber (number_given c)
   pub soon : delay_given c ≤ 1000000000

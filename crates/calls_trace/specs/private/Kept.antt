@@ -3,10 +3,10 @@ use Rattle.std.specs.Prelude.{ℕ, ◌≡◌, List, [], ◌∷◌, ◌++◌}
 use Rattle.domain_run.specs.declared.call.Call.{Call}
 use Rattle.domain_run.specs.declared.call.Call.TheVariants.{Admit, Regrade, Wake, Leave, Advance, Limit, Depart, Arrive}
 use Rattle.domain_run.specs.Run.{after_calls}
-use Rattle.call_book.specs.SectionView.{SectionView}
-use Rattle.call_book.specs.Spelling.{spelling}
-use Rattle.call_book.specs.Limits.{IsSection, AreRead}
-use Rattle.call_book.specs.Reader.{ReaderView, IsBehind, IsWithin}
+use Rattle.calls_text.specs.SectionView.{SectionView}
+use Rattle.calls_text.specs.Spelling.{spelling}
+use Rattle.calls_text.specs.Limits.{IsSection, AreRead}
+use Rattle.calls_text.specs.Reader.{ReaderView, IsBehind, IsWithin}
 use Rattle.switch_text.specs.Names.{named}
 use Rattle.calls_trace.specs.Replay.{calls_of, names_of}
 use Rattle.calls_trace.specs.Told.{domain_of, names_in}

@@ -1,9 +1,9 @@
 -- Runs of which each call is made as soon as it is read.
 use Rattle.std.specs.Prelude.{ℕ, ◌≡◌, ◌≤◌, ◌*◌, Bool, List, [], ◌∷◌, ◌++◌, length, map, All, sum_by}
-use Rattle.call_book.specs.SectionView.{SectionView}
-use Rattle.call_book.specs.Spelling.{spelling}
-use Rattle.call_book.specs.Limits.{IsSection, AreRead}
-use Rattle.call_book.specs.Reader.{ReaderView, IsBehind, IsWithin, begun}
+use Rattle.calls_text.specs.SectionView.{SectionView}
+use Rattle.calls_text.specs.Spelling.{spelling}
+use Rattle.calls_text.specs.Limits.{IsSection, AreRead}
+use Rattle.calls_text.specs.Reader.{ReaderView, IsBehind, IsWithin, begun}
 use Rattle.calls_trace.specs.declared.named_run.RunWithNames.{RunWithNames}
 use Rattle.calls_trace.specs.declared.placed_run.PlacedRun.{PlacedRun}
 use Rattle.calls_trace.specs.declared.runs_so_far.RunsSoFar.{RunsSoFar}

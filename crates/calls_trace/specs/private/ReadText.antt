@@ -1,6 +1,6 @@
 -- A text that is read for its trace.
 use Rattle.std.specs.Prelude.{ℕ, List, [], false}
-use Rattle.call_book.specs.Reader.{ReaderView, IsWithin, begun}
+use Rattle.calls_text.specs.Reader.{ReaderView, IsWithin, begun}
 use Rattle.calls_trace.specs.declared.read_text.ReadText.{ReadText}
 use Rattle.calls_trace.specs.declared.read_text.ReadText.TheVariants.{Alone, Runs}
 use Rattle.calls_trace.specs.private.Kept.{IsOnly}

@@ -6,7 +6,7 @@ use Rattle.domain_run.specs.declared.call.Call.TheVariants.{Admit, Regrade, Arri
 use Rattle.domain_run.specs.declared.call.Reply.{Reply}
 use Rattle.domain_run.specs.declared.call.Reply.TheVariants.{Admitted, Changed}
 use Rattle.domain_run.specs.Sound.{IsAdmitted}
-use Rattle.call_book.specs.declared.section.Entry.{Entry}
+use Rattle.calls_text.specs.declared.section.Entry.{Entry}
 use Rattle.calls_trace.specs.Replay.{named_by}
 use Rattle.calls_trace.specs.Told.{with_params}
 

@@ -1,9 +1,9 @@
 -- What a replay of a text leaves at its writer.
 use Rattle.std.specs.Prelude.{ℕ, ◌≡◌, List}
-use Rattle.call_book.specs.SectionView.{SectionView}
-use Rattle.call_book.specs.Spelling.{spelling}
-use Rattle.call_book.specs.Limits.{AreRead}
-use Rattle.call_book.specs.BadLine.{IsBadLine}
+use Rattle.calls_text.specs.SectionView.{SectionView}
+use Rattle.calls_text.specs.Spelling.{spelling}
+use Rattle.calls_text.specs.Limits.{AreRead}
+use Rattle.calls_text.specs.BadLine.{IsBadLine}
 use Rattle.counted_io.specs.Sides.{Side}
 use Rattle.calls_trace.specs.Written.{IsWritten, IsCut, IsUntouched}
 use Rattle.calls_trace.specs.declared.fault.ReplayFault.{ReplayFault}

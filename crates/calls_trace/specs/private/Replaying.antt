@@ -11,7 +11,7 @@ use Rattle.domain_run.specs.Tick.{sum_of}
 use Rattle.domain_run.specs.Sound.{IsAdmitted}
 use Rattle.domain_run.specs.Log.{LogView}
 use Rattle.domain_run.specs.Run.{run_of}
-use Rattle.call_book.specs.SectionView.{SectionView}
+use Rattle.calls_text.specs.SectionView.{SectionView}
 use Rattle.switch_text.specs.Names.{Names, named, HasName}
 use Rattle.switch_text.specs.Trace.{RunView, trace_of}
 use Rattle.switch_text.specs.Events.{ToldView, events_of}

@@ -1,6 +1,6 @@
 -- The texts that are made of runs.
 use Rattle.std.specs.Prelude.{ℕ, Bool, true, false, List, Option, Some, None}
-use Rattle.call_book.specs.SectionView.{SectionView}
+use Rattle.calls_text.specs.SectionView.{SectionView}
 use Rattle.run_options.specs.declared.replay_print.ReplayPrint.{ReplayPrint}
 use Rattle.run_options.specs.declared.replay_print.ReplayPrint.TheVariants as prints
 use Rattle.calls_trace.specs.declared.run_text.RunText.{RunText}

@@ -9,8 +9,8 @@ use Rattle.rtapp_scenario.specs.declared.fault.ScenarioFault.{ScenarioFault}
 use Rattle.rtapp_scenario.specs.declared.fault.ScenarioFault.TheVariants as scenario_faults
 use Rattle.rtapp_scenario.specs.ScenarioView.{TaskSpecView}
 use Rattle.run_figures.specs.Accounting.{AccountingView}
-use Rattle.call_book.specs.SectionView.{SectionView}
-use Rattle.call_book.specs.Histories.{AreRuns, AreTold}
+use Rattle.calls_text.specs.SectionView.{SectionView}
+use Rattle.calls_text.specs.Histories.{AreRuns, AreTold}
 use Rattle.calls_trace.specs.Heard.{AreHeard, AreRunsButSwitches}
 use Rattle.session.specs.declared.report.Finished.{Finished}
 use Rattle.session.specs.declared.report.Wanted.{Wanted}

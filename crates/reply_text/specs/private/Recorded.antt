@@ -2,7 +2,7 @@
 use Rattle.std.specs.Prelude.{ℕ, List, [], ◌++◌, Option, Some, None, codes}
 use Rattle.std.specs.List.{flat_map}
 use Rattle.domain_run.specs.declared.call.Reply.{Reply}
-use Rattle.call_book.specs.declared.section.Entry.{Entry}
+use Rattle.calls_text.specs.declared.section.Entry.{Entry}
 use Rattle.reply_text.specs.Replies.{answered_line}
 
 abbrev pub line_with : Entry → Option Reply → List ℕ

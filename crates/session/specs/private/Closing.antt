@@ -3,8 +3,8 @@ use Rattle.std.specs.Prelude.{◌≡◌, ℕ, ◌*◌, ◌<◌, ◌≤◌, List,
 use Rattle.bw_gate.specs.Pieces.{GateId, TicketView, sum_of}
 use Rattle.domain_run.specs.Domain.{Domain}
 use Rattle.domain_run.specs.Run.{run_of}
-use Rattle.call_book.specs.SectionView.{SectionView}
-use Rattle.call_book.specs.Book.{calls_of}
+use Rattle.calls_text.specs.SectionView.{SectionView}
+use Rattle.calls_text.specs.Histories.{calls_of}
 use Rattle.call_book.specs.Ending.{EndingView, left_of}
 use Rattle.session.specs.declared.closing_session.Room.{Room}
 use Rattle.session.specs.SessionId.{SessionId}

@@ -3,7 +3,7 @@ use Rattle.std.specs.Prelude.{◌≡◌, ℕ, ◌<◌, Bool, true, false, List, 
 use Rattle.domain_run.specs.declared.call.Call.TheVariants.{Advance}
 use Rattle.domain_run.specs.declared.call.Reply.TheVariants as replies
 use Rattle.domain_run.specs.Log.{LogView, Tells}
-use Rattle.call_book.specs.declared.section.Entry.{Entry}
+use Rattle.calls_text.specs.declared.section.Entry.{Entry}
 use Rattle.run_figures.specs.Accounting.{AccountingView}
 use Rattle.heard_run.specs.Heard.{heard_of}
 use Rattle.call_book.specs.Book.{BookView, IsFull, state_of}

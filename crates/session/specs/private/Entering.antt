@@ -9,11 +9,11 @@ use Rattle.domain_run.specs.declared.call.Call.TheVariants as calls
 use Rattle.domain_run.specs.declared.call.Reply.TheVariants as replies
 use Rattle.domain_run.specs.Calls.{reply_to}
 use Rattle.domain_run.specs.Domain.{IsLimit}
-use Rattle.call_book.specs.declared.section.Entry.{Entry}
+use Rattle.calls_text.specs.declared.section.Entry.{Entry}
 use Rattle.call_book.specs.declared.book.domain.Limit.{Limit}
 use Rattle.call_book.specs.declared.book.domain.Limit.TheVariants as limits
 use Rattle.call_book.specs.Pieces.{IsTicketOf}
-use Rattle.call_book.specs.Limits.{IsCall}
+use Rattle.calls_text.specs.Limits.{IsCall}
 use Rattle.call_book.specs.Book.{BookView, IsMember, IsFull, AdmissionView, admission, state_of, with_entry}
 use Rattle.session.specs.declared.refusal.Refusal.TheVariants as refusals
 use Rattle.session.specs.declared.locked_book.Ask.{Ask}

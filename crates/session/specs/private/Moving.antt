@@ -5,7 +5,7 @@ use Rattle.bw_gate.specs.Pieces.{BlankView, TicketView}
 use Rattle.bw_gate.specs.Answers.{IsGive}
 use Rattle.domain_run.specs.declared.call.Call.TheVariants.{Depart}
 use Rattle.domain_run.specs.declared.call.Reply.TheVariants as replies
-use Rattle.call_book.specs.declared.section.Entry.{Entry}
+use Rattle.calls_text.specs.declared.section.Entry.{Entry}
 use Rattle.call_book.specs.declared.book.domain.moving.MoveFault.{MoveFault}
 use Rattle.call_book.specs.declared.book.domain.moving.MoveFault.TheVariants as faults
 use Rattle.call_book.specs.Pieces.{IsTicketOf}

@@ -3,7 +3,7 @@ use Rattle.std.specs.Prelude.{◌≡◌, ℕ, ◌+◌, ◌<◌, ◌≤◌, List,
 use Rattle.atomic_table.specs.Seated.{TableId}
 use Rattle.pass_seats.specs.Lists.{PassView}
 use Rattle.bw_gate.specs.Pieces.{GateId, BlankView}
-use Rattle.call_book.specs.declared.section.Entry.{Entry}
+use Rattle.calls_text.specs.declared.section.Entry.{Entry}
 use Rattle.call_book.specs.Book.{BookView}
 use Rattle.session.specs.declared.parts.Hand.{Hand}
 use Rattle.session.specs.SessionId.{SessionId, IsSession}

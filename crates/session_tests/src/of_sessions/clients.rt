@@ -1,6 +1,6 @@
 // The calls of one client of a session, given as the calls of a text.
 ghost use Rattle.std.specs.Prelude.{◌≡◌, ◌+◌, ◌<◌, ◌≤◌, length, vec_capacity, IfOk, All};
-ghost use Rattle.call_book.specs.Limits.{IsCall, IsEntry, IsSection};
+ghost use Rattle.calls_text.specs.Limits.{IsCall, IsEntry, IsSection};
 
 use attr_check::{Params, SchedAttr};
 use call_book::{Call, Entry, NoMemory, Section, read_calls};

@@ -1,6 +1,6 @@
 // A storm: 64 clients at once, each in a thread of its own, on one domain.
 ghost use Rattle.std.specs.Prelude.{◌≡◌, ◌<◌, length, All, IfSome};
-ghost use Rattle.call_book.specs.Limits.{IsEntry, IsSection};
+ghost use Rattle.calls_text.specs.Limits.{IsEntry, IsSection};
 
 use super::clients::make;
 use call_book::{Entry, NoMemory, Reply, Section, read_calls};

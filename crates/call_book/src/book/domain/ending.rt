@@ -90,7 +90,7 @@ impl Domain {
 }
 
 impl EndingBook {
-    ghost use Rattle.call_book.specs.Limits.{IsCall};
+    ghost use Rattle.calls_text.specs.Limits.{IsCall};
     ghost use Rattle.bw_gate.specs.Pieces.{sum_of};
     ghost use Rattle.call_book.specs.Pieces.{IsTicketOf, HoldsTickets};
     ghost use Rattle.call_book.specs.Book.{own_entries, state_of, HasItsLimit, IsBookHistory, IsPassOf};

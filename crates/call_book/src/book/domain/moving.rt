@@ -6,7 +6,7 @@ ghost use Rattle.domain_run.specs.declared.call.Call.TheVariants as Call;
 ghost use Rattle.domain_run.specs.declared.call.Reply.TheVariants as Reply;
 ghost use Rattle.domain_run.specs.Calls.{reply_to};
 ghost use Rattle.domain_run.specs.Views.{moving_in};
-ghost use Rattle.call_book.specs.Limits.{IsCall};
+ghost use Rattle.calls_text.specs.Limits.{IsCall};
 ghost use Rattle.call_book.specs.Pieces.{IsTicketOf};
 ghost use Rattle.call_book.specs.Book.{state_of, IsFull, IsPassOf, Enters};
 ghost use Rattle.call_book.specs.MoveAnswers.{moving_as, arrival, IsTakenOut, IsMove, IsUnprepared};

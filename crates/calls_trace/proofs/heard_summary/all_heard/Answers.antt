@@ -1,8 +1,8 @@
 use Rattle.std.proofs.Common.{◌<◌, length, map, sym, ap, subst, ◌∙◌, arith}
 use Rattle.std.proofs.lemmas.List.{length_push, take_all}
 use Rattle.domain_run.specs.Passing.{without_switches}
-use Rattle.call_book.specs.SectionView.{SectionView}
-use Rattle.call_book.specs.Book.{IsLegal}
+use Rattle.calls_text.specs.SectionView.{SectionView}
+use Rattle.calls_text.specs.Histories.{IsLegal}
 use Rattle.switch_text.specs.Names.{named}
 use Rattle.calls_trace.specs.Told.{domain_of, names_in, summary_view}
 use Rattle.calls_trace.specs.Heard.{heard_of}

@@ -1,7 +1,7 @@
 use Rattle.std.proofs.Common.{map, sym, ap, subst, ◌∙◌, arith}
 use Rattle.std.proofs.lemmas.List.{length_push, take_all}
-use Rattle.call_book.specs.SectionView.{SectionView}
-use Rattle.call_book.specs.Book.{IsLegal}
+use Rattle.calls_text.specs.SectionView.{SectionView}
+use Rattle.calls_text.specs.Histories.{IsLegal}
 use Rattle.switch_text.specs.Names.{named}
 use Rattle.calls_trace.specs.Told.{names_in}
 use Rattle.calls_trace.proofs.Texts.{views_more}

@@ -1,11 +1,11 @@
 use Rattle.std.proofs.Common.{[], ◌∷◌, ◌++◌, List, Option, Ok, refl, sym, ap, subst, ◌∙◌}
 use Rattle.domain_run.specs.declared.call.Call.{Call}
 use Rattle.std.specs.Prelude.{IfSome}
-use Rattle.call_book.specs.Limits.{IsCall}
-use Rattle.call_book.specs.Reader.{begun, with_entries}
-use Rattle.call_book.specs.KeptCall.{IsNextCall, IsNextKept, call_of}
-use Rattle.call_book.specs.declared.kept_call.Kept.{Kept}
-use Rattle.call_book.proofs.CallerLemmas.{section_within}
+use Rattle.calls_text.specs.Limits.{IsCall}
+use Rattle.calls_text.specs.Reader.{begun, with_entries}
+use Rattle.calls_text.specs.KeptCall.{IsNextCall, IsNextKept, call_of}
+use Rattle.calls_text.specs.declared.kept_call.Kept.{Kept}
+use Rattle.calls_text.proofs.CallerLemmas.{section_within}
 use Rattle.calls_trace.specs.Replay.{calls_of}
 use Rattle.calls_trace.proofs.ReadRuns.{calls_push}
 use Rattle.calls_trace.proofs.kept_section.section_read.Goals as goal

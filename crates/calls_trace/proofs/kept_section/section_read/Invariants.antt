@@ -1,6 +1,6 @@
 use Rattle.std.proofs.Common.{ℕ, List}
-use Rattle.call_book.specs.SectionView.{SectionView}
-use Rattle.call_book.specs.Reader.{IsWithin, begun, left}
+use Rattle.calls_text.specs.SectionView.{SectionView}
+use Rattle.calls_text.specs.Reader.{IsWithin, begun, left}
 use Rattle.calls_trace.specs.private.Kept.{IsKeptSoFar}
 use Rattle.calls_trace.proofs.kept_section.section_read.Given as goal
 

@@ -1,6 +1,6 @@
 use Rattle.std.proofs.Common.{◌≡◌, List, ◌+◌, ◌∷◌, drop, sym, ap, ◌∙◌}
 use Rattle.std.proofs.lemmas.List.{drop_more}
-use Rattle.call_book.specs.declared.section.Entry.{Entry}
+use Rattle.calls_text.specs.declared.section.Entry.{Entry}
 use Rattle.switch_text.specs.Names.{named}
 use Rattle.calls_trace.specs.private.Recorded.{given_by, given_by_all}
 use Rattle.calls_trace.proofs.named_run.names_given.Goals as goal

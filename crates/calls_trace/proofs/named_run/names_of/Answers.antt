@@ -1,5 +1,5 @@
 use Rattle.std.proofs.Common.{◌≡◌, ap, ◌∙◌}
-use Rattle.call_book.specs.SectionView.{SectionView}
+use Rattle.calls_text.specs.SectionView.{SectionView}
 use Rattle.calls_trace.proofs.Recorded.{history_names}
 use Rattle.calls_trace.proofs.named_run.names_of.Goals as goal
 

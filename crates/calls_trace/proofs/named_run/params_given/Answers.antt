@@ -1,6 +1,6 @@
 use Rattle.std.proofs.Common.{◌≡◌, List, ◌+◌, ◌∷◌, drop, sym, ap, ◌∙◌}
 use Rattle.std.proofs.lemmas.List.{drop_more}
-use Rattle.call_book.specs.declared.section.Entry.{Entry}
+use Rattle.calls_text.specs.declared.section.Entry.{Entry}
 use Rattle.calls_trace.specs.private.Replaying.{given_in}
 use Rattle.calls_trace.specs.private.Recorded.{params_given_by, params_given_by_all}
 use Rattle.calls_trace.proofs.named_run.params_given.Goals as goal

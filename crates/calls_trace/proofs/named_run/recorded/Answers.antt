@@ -1,5 +1,5 @@
 use Rattle.std.proofs.Common.{◌≡◌, Bool, cond, ◌∙◌, ap, subst}
-use Rattle.call_book.specs.SectionView.{SectionView}
+use Rattle.calls_text.specs.SectionView.{SectionView}
 use Rattle.calls_trace.specs.Told.{no_params}
 use Rattle.calls_trace.specs.private.Recorded.{params_given_by_all}
 use Rattle.calls_trace.specs.private.Replaying.{GivesParams}

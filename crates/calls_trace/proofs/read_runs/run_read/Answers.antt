@@ -6,11 +6,11 @@ use Rattle.domain_run.specs.declared.call.Call.{Call}
 use Rattle.domain_run.specs.Calls.{after_call}
 use Rattle.domain_run.specs.Happened.{told_by_call}
 use Rattle.domain_run.specs.Log.{Tells}
-use Rattle.call_book.specs.Limits.{IsCall}
-use Rattle.call_book.specs.Reader.{begun, with_entries}
-use Rattle.call_book.specs.KeptCall.{IsNextCall, IsNextKept, call_of}
-use Rattle.call_book.specs.declared.kept_call.Kept.{Kept}
-use Rattle.call_book.proofs.CallerLemmas.{section_within}
+use Rattle.calls_text.specs.Limits.{IsCall}
+use Rattle.calls_text.specs.Reader.{begun, with_entries}
+use Rattle.calls_text.specs.KeptCall.{IsNextCall, IsNextKept, call_of}
+use Rattle.calls_text.specs.declared.kept_call.Kept.{Kept}
+use Rattle.calls_text.proofs.CallerLemmas.{section_within}
 use Rattle.switch_text.specs.Names.{named}
 use Rattle.calls_trace.specs.Replay.{names_after}
 use Rattle.calls_trace.specs.Told.{params_after}

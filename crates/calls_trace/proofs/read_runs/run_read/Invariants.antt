@@ -1,6 +1,6 @@
 use Rattle.std.proofs.Common.{ℕ, ◌≤◌, List}
-use Rattle.call_book.specs.SectionView.{SectionView}
-use Rattle.call_book.specs.Reader.{IsWithin, begun, left}
+use Rattle.calls_text.specs.SectionView.{SectionView}
+use Rattle.calls_text.specs.Reader.{IsWithin, begun, left}
 use Rattle.calls_trace.specs.private.ReadRuns.{IsMade}
 use Rattle.calls_trace.proofs.read_runs.run_read.Given as goal
 

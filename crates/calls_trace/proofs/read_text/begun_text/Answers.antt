@@ -1,7 +1,7 @@
 use Rattle.std.proofs.Common.{ℕ, [], ◌∷◌, Option, Ok, subst}
 use Rattle.std.proofs.lemmas.Result.{err_from_is_err_and}
-use Rattle.call_book.specs.Reader.{IsWithin, IsNextDomain, begun}
-use Rattle.call_book.proofs.CallerLemmas.{whole_none}
+use Rattle.calls_text.specs.Reader.{IsWithin, IsNextDomain, begun}
+use Rattle.calls_text.proofs.CallerLemmas.{whole_none}
 use Rattle.calls_trace.proofs.read_text.begun_text.Goals as goal
 
 pub first_two-requires : goal.first_two-requires

@@ -1,6 +1,6 @@
 use Rattle.std.proofs.Common.{[], ◌∷◌, false, sym, arith}
-use Rattle.call_book.specs.Reader.{begun}
-use Rattle.call_book.proofs.CallerLemmas.{section_within}
+use Rattle.calls_text.specs.Reader.{begun}
+use Rattle.calls_text.proofs.CallerLemmas.{section_within}
 use Rattle.calls_trace.proofs.read_text.first_two.Goals as goal
 
 pub put-requires-clause-few : goal.put-requires-clause-few

@@ -2,8 +2,8 @@ use Rattle.std.proofs.Common.{ℕ, [], length, map, Option, Ok, sym, ap, subst, 
 use Rattle.std.specs.Prelude.{All}
 use Rattle.std.proofs.lemmas.List.Elements.{All-nil}
 use Rattle.std.proofs.lemmas.Result.{err_from_is_err_and}
-use Rattle.call_book.specs.Reader.{IsNextDomain}
-use Rattle.call_book.proofs.CallerLemmas.{whole_none}
+use Rattle.calls_text.specs.Reader.{IsNextDomain}
+use Rattle.calls_text.proofs.CallerLemmas.{whole_none}
 use Rattle.calls_trace.specs.private.Replaying.{IsPlaced, view_of}
 use Rattle.calls_trace.proofs.read_text.read_text.Goals as goal
 

@@ -1,6 +1,6 @@
 use Rattle.std.proofs.Common.{◌≡◌, ℕ, List, sym, subst, ◌∙◌}
 use Rattle.std.specs.Prelude.{IfErr, OnOk}
-use Rattle.call_book.specs.SectionView.{SectionView}
+use Rattle.calls_text.specs.SectionView.{SectionView}
 use Rattle.counted_io.specs.Sides.{Side, side}
 use Rattle.calls_trace.specs.Answer.{replayed}
 use Rattle.calls_trace.specs.private.Replayed.{IsReplayed, IsUnreplayed}

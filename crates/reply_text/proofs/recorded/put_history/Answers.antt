@@ -1,8 +1,8 @@
 use Rattle.std.proofs.Common.{◌≡◌, ◌++◌, ◌∙◌, ◌∷◌, [], List, ℕ, ap, refl, subst}
 use Rattle.std.specs.Prelude.{OnOk}
 use Rattle.domain_run.specs.Domain.{opened}
-use Rattle.call_book.specs.Spelling.{text_of}
-use Rattle.call_book.specs.SectionView.{SectionView}
+use Rattle.calls_text.specs.Spelling.{text_of}
+use Rattle.calls_text.specs.SectionView.{SectionView}
 use Rattle.reply_text.specs.Replies.{answered_lines, section_replies}
 use Rattle.reply_text.specs.private.Recorded.{recorded_lines}
 use Rattle.reply_text.proofs.Answered.{headed, recorded_is}

@@ -1,6 +1,6 @@
 use Rattle.std.proofs.Common.{◌≡◌, ◌∷◌, length, ap, arith}
 use Rattle.std.proofs.lemmas.List.Elements.{All-rest}
-use Rattle.call_book.specs.Limits.{IsEntry}
+use Rattle.calls_text.specs.Limits.{IsEntry}
 use Rattle.reply_text.proofs.Answered.{made_more}
 use Rattle.reply_text.proofs.writing.put_all_made.Goals as goal
 

@@ -1,7 +1,7 @@
 use Rattle.std.proofs.Common.{◌≡◌, ◌+◌, ◌*◌, ◌≤◌, ◌^◌, ◌++◌, length}
 use Rattle.std.specs.Prelude.{All}
-use Rattle.call_book.specs.Limits.{IsEntry}
-use Rattle.call_book.specs.Spelling.{text_of}
+use Rattle.calls_text.specs.Limits.{IsEntry}
+use Rattle.calls_text.specs.Spelling.{text_of}
 use Rattle.reply_text.specs.Replies.{answered_lines}
 use Rattle.reply_text.proofs.writing.put_all_made.Given as goal
 

@@ -1,7 +1,7 @@
 use Rattle.std.proofs.Common.{◌≡◌, List, ℕ, ap, subst, ◌∙◌}
 use Rattle.std.specs.Prelude.{OnOk}
 use Rattle.domain_run.specs.Domain.{opened}
-use Rattle.call_book.specs.SectionView.{SectionView}
+use Rattle.calls_text.specs.SectionView.{SectionView}
 use Rattle.reply_text.proofs.Answered.{section_put}
 use Rattle.reply_text.proofs.writing.put_section.Goals as goal
 

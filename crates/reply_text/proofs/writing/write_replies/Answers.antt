@@ -1,6 +1,6 @@
 use Rattle.std.proofs.Common.{◌≡◌, ◌∷◌}
 use Rattle.std.proofs.lemmas.List.Elements.{All-rest}
-use Rattle.call_book.specs.Limits.{IsSection}
+use Rattle.calls_text.specs.Limits.{IsSection}
 use Rattle.reply_text.proofs.Answered.{section_more}
 use Rattle.reply_text.proofs.writing.write_replies.Goals as goal
 

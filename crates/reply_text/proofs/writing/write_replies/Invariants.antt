@@ -1,6 +1,6 @@
 use Rattle.std.proofs.Common.{◌≡◌, ◌++◌, length}
 use Rattle.std.specs.Prelude.{All}
-use Rattle.call_book.specs.Limits.{IsSection}
+use Rattle.calls_text.specs.Limits.{IsSection}
 use Rattle.reply_text.specs.Replies.{replies_of}
 use Rattle.reply_text.proofs.writing.write_replies.Given as goal
 

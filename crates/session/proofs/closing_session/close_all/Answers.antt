@@ -4,7 +4,7 @@ use Rattle.std.proofs.lemmas.List.{length_push, length-map, get_or-map}
 use Rattle.bw_gate.specs.Pieces.{sum_of}
 use Rattle.domain_run.specs.Domain.{Domain}
 use Rattle.call_book.specs.Ending.{EndingView}
-use Rattle.call_book.specs.SectionView.{SectionView}
+use Rattle.calls_text.specs.SectionView.{SectionView}
 use Rattle.session.specs.Asks.{ClientView}
 use Rattle.session.specs.Report.{IsHistoryOf, sum_left}
 use Rattle.session.specs.private.Ending.{books_of}

@@ -6,7 +6,7 @@ use Rattle.domain_run.specs.declared.call.Call.{Call}
 use Rattle.domain_run.specs.Domain.{Domain, opened}
 use Rattle.domain_run.specs.Run.{after_calls}
 use Rattle.domain_run.specs.Sound.{IsAdmitted}
-use Rattle.call_book.specs.Limits.{IsCall}
+use Rattle.calls_text.specs.Limits.{IsCall}
 use Rattle.switch_text.specs.Names.{named}
 use Rattle.calls_trace.specs.Replay.{names_of, no_names, calls_of}
 use Rattle.calls_trace.specs.Told.{names_in, params_after}

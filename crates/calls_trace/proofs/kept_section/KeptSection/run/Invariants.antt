@@ -1,7 +1,7 @@
 use Rattle.std.proofs.Common.{◌≡◌, ◌≤◌, ◌+◌, ◌*◌, ◌^◌, false, length}
 use Rattle.std.specs.Prelude.{All}
-use Rattle.call_book.specs.SectionView.{SectionView}
-use Rattle.call_book.specs.Limits.{IsCall}
+use Rattle.calls_text.specs.SectionView.{SectionView}
+use Rattle.calls_text.specs.Limits.{IsCall}
 use Rattle.calls_trace.specs.private.Kept.{IsKeptSection, IsMadeUpTo}
 use Rattle.calls_trace.specs.Told.{no_params}
 use Rattle.calls_trace.specs.private.Replaying.{AreNamed, GivesParams}

@@ -4,7 +4,7 @@ use Rattle.std.proofs.lemmas.List.{length-map}
 use Rattle.std.proofs.lemmas.List.Elements.{All-weaker}
 use Rattle.domain_run.specs.declared.call.Call.{Call}
 use Rattle.domain_run.specs.Domain.{Domain, opened}
-use Rattle.call_book.specs.Limits.{IsCall}
+use Rattle.calls_text.specs.Limits.{IsCall}
 use Rattle.switch_text.specs.Names.{named}
 use Rattle.calls_trace.specs.Replay.{names_of, no_names, calls_of}
 use Rattle.calls_trace.specs.private.Calls.{IsReady}

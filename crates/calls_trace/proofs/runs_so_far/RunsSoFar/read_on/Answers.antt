@@ -1,7 +1,7 @@
 use Rattle.std.proofs.Common.{ℕ, Option, Ok, subst, arith}
 use Rattle.std.proofs.lemmas.Result.{err_from_is_err_and}
-use Rattle.call_book.specs.Reader.{IsWithin, IsNextDomain, begun}
-use Rattle.call_book.proofs.CallerLemmas.{section_within, whole_none}
+use Rattle.calls_text.specs.Reader.{IsWithin, IsNextDomain, begun}
+use Rattle.calls_text.proofs.CallerLemmas.{section_within, whole_none}
 use Rattle.calls_trace.proofs.runs_so_far.RunsSoFar.read_on.Goals as goal
 
 -- the reader has begun the section

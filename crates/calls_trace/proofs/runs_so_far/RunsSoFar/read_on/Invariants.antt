@@ -1,5 +1,5 @@
 use Rattle.std.proofs.Common.{ℕ, List}
-use Rattle.call_book.specs.Reader.{left}
+use Rattle.calls_text.specs.Reader.{left}
 use Rattle.calls_trace.specs.private.ReadRuns.{ArePlacedSoFar}
 use Rattle.calls_trace.proofs.runs_so_far.RunsSoFar.read_on.Given as goal
 

@@ -2,7 +2,7 @@ use Rattle.std.proofs.Common.{◌≡◌, ◌<◌, List, length, get_or, sym, ref
 use Rattle.std.proofs.lemmas.List.{length-map}
 use Rattle.std.proofs.Math.Seq.{map-set_same}
 use Rattle.pass_seats.specs.Lists.{PassView}
-use Rattle.call_book.specs.declared.section.Entry.{Entry}
+use Rattle.calls_text.specs.declared.section.Entry.{Entry}
 use Rattle.call_book.specs.Book.{IsFull}
 use Rattle.call_book.specs.BookAnswers.{IsNotAdvanced}
 use Rattle.session.specs.Asks.{ClientView}

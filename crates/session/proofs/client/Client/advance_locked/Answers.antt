@@ -1,6 +1,6 @@
 use Rattle.std.proofs.Common.{◌≡◌, ◌<◌, length, get_or, sym, refl, ap, subst, ◌∙◌, arith}
 use Rattle.pass_seats.specs.Lists.{PassView}
-use Rattle.call_book.specs.declared.section.Entry.{Entry}
+use Rattle.calls_text.specs.declared.section.Entry.{Entry}
 use Rattle.session.specs.Asks.{ClientView}
 use Rattle.session.specs.private.Entering.{pass_after}
 use Rattle.session.proofs.Asked.{makes_at, advanced_for}

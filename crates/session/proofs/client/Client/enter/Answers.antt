@@ -2,7 +2,7 @@ use Rattle.std.proofs.Common.{◌≡◌, ◌<◌, length, map, set, get_or, Opti
 use Rattle.std.specs.Prelude.{IfSome}
 use Rattle.pass_seats.specs.Lists.{PassView}
 use Rattle.bw_gate.specs.Pieces.{BlankView}
-use Rattle.call_book.specs.declared.section.Entry.{Entry}
+use Rattle.calls_text.specs.declared.section.Entry.{Entry}
 use Rattle.session.specs.Asks.{ClientView}
 use Rattle.session.specs.private.Entering.{pass_after, NoneIsKept, IsDone}
 use Rattle.session.proofs.Asked.{none_kept, done_anyhow, makes_at, done_for}

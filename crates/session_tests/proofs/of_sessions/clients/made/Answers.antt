@@ -1,7 +1,7 @@
 use Rattle.std.proofs.Common.{length, Some, ap, arith}
 use Rattle.std.proofs.lemmas.List.{length_push}
 use Rattle.std.proofs.lemmas.List.Elements.{All-pop}
-use Rattle.call_book.specs.Limits.{IsEntry}
+use Rattle.calls_text.specs.Limits.{IsEntry}
 use Rattle.session_tests.proofs.of_sessions.clients.made.Goals as goal
 
 pub loop-entry-preserved : goal.loop-entry-preserved

@@ -1,5 +1,5 @@
 use Rattle.std.proofs.Common.{All}
-use Rattle.call_book.specs.Limits.{IsEntry}
+use Rattle.calls_text.specs.Limits.{IsEntry}
 use Rattle.session_tests.proofs.of_sessions.storm.play.Given as goal
 
 abbrev pub invariant-loop-entry : goal.invariant-loop-entry

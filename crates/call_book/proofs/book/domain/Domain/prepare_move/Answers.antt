@@ -13,10 +13,10 @@ use Rattle.domain_run.specs.declared.call.Reply.TheVariants as Reply
 use Rattle.domain_run.specs.Domain.{Domain}
 use Rattle.domain_run.specs.Calls.{depart_reply, task_of, reply_to}
 use Rattle.domain_run.specs.Views.{Moving, moving_of, moving_in}
-use Rattle.call_book.specs.Limits.{IsChecked}
+use Rattle.calls_text.specs.Limits.{IsChecked}
 use Rattle.call_book.specs.Book.{BookView, AdmissionView, state_of}
 use Rattle.call_book.specs.MoveAnswers.{moving_as}
-use Rattle.call_book.proofs.Attributes.{attr_at, times_of}
+use Rattle.calls_text.proofs.CallerLemmas.{attr_at, times_of}
 use Rattle.call_book.proofs.Moves.{may_depart}
 use Rattle.call_book.proofs.book.domain.Domain.prepare_move.Goals as goal
 

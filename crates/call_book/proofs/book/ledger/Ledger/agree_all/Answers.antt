@@ -2,7 +2,7 @@
 use Rattle.std.proofs.Common.{◌≡◌, Some, All, refl, sym, ap, ◌∙◌, subst}
 use Rattle.std.proofs.lemmas.List.Elements.{All-pop, All-push}
 use Rattle.pass_seats.specs.Lists.{PassView}
-use Rattle.call_book.specs.declared.section.Entry.{Entry}
+use Rattle.calls_text.specs.declared.section.Entry.{Entry}
 use Rattle.call_book.specs.Book.{own_entries}
 use Rattle.call_book.specs.private.Ledger.{LedgerView}
 use Rattle.call_book.proofs.book.ledger.Ledger.agree_all.Goals as goal

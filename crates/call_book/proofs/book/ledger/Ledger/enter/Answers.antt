@@ -1,7 +1,7 @@
 use Rattle.std.proofs.Common.{◌≡◌, ℕ, ◌<◌, Some, length, map, sym, ap, ◌∙◌, subst, arith}
 use Rattle.pass_seats.specs.Lists.{SpineView, PassView, own}
-use Rattle.call_book.specs.declared.section.Entry.{Entry}
-use Rattle.call_book.specs.OwnCalls.{made_by}
+use Rattle.calls_text.specs.declared.section.Entry.{Entry}
+use Rattle.calls_text.specs.OwnCalls.{made_by}
 use Rattle.call_book.specs.Book.{keyed, IsMember}
 use Rattle.call_book.specs.private.Ledger.{LedgerView, IsHistory}
 use Rattle.call_book.proofs.Histories.{length-own, made_by_most, history_push, log_push}

@@ -11,7 +11,7 @@ use Rattle.domain_run.specs.Domain.{Domain}
 use Rattle.domain_run.specs.Calls.{admit_reply, reply_to, after_call, is_refusal}
 use Rattle.domain_run.specs.Tick.{sum_of}
 use Rattle.domain_run.specs.Busy.{IfBusy, LacksRoomFor}
-use Rattle.call_book.specs.Limits.{IsAdmission}
+use Rattle.calls_text.specs.Limits.{IsAdmission}
 use Rattle.call_book.specs.Book.{AdmissionView, admission}
 use Rattle.call_book.specs.private.Listing.{Says, IsCallOf}
 use Rattle.call_book.proofs.book.prepared.Prepared.list.Goals as goal

@@ -3,7 +3,7 @@ use Rattle.std.proofs.lemmas.List.{length-map}
 use Rattle.std.proofs.lemmas.List.Elements.{All-map}
 use Rattle.bw_gate.specs.Pieces.{GateId, TicketView, BlankView, sum_of, cpus_of}
 use Rattle.pass_seats.specs.Lists.{PassView}
-use Rattle.call_book.specs.declared.section.Entry.{Entry}
+use Rattle.calls_text.specs.declared.section.Entry.{Entry}
 use Rattle.call_book.specs.declared.book.stock.Held.{Held}
 use Rattle.call_book.specs.Pieces.{IsTicketOf, HoldsTickets}
 use Rattle.call_book.specs.Book.{BookView, own_entries, HasItsLimit, IsBookHistory}

@@ -1,7 +1,0 @@
-use Rattle.std.proofs.Common.{◌≡◌, ◌∷◌, ◌++◌, take}
-use Rattle.std.specs.List.{flat_map}
-use Rattle.call_book.specs.Spelling.{event_text}
-use Rattle.call_book.proofs.writing.put_events.Given as goal
-
-abbrev pub invariant-loop-event : goal.invariant-loop-event
-invariant-loop-event l = l.out.items ≡ l.initial.out.items ++ flat_map (λ e. 44 ∷ event_text e) (take l.event-index l.others)

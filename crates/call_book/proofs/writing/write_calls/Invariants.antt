@@ -1,7 +1,0 @@
-use Rattle.std.proofs.Common.{◌≡◌, ◌∷◌, take}
-use Rattle.std.specs.List.{flat_map}
-use Rattle.call_book.specs.Spelling.{section_lines, has_later, header_line, text_of}
-use Rattle.call_book.proofs.writing.write_calls.Given as goal
-
-abbrev pub invariant-loop-section : goal.invariant-loop-section
-invariant-loop-section l = l.out.items ≡ text_of (header_line (has_later l.sections) ∷ flat_map section_lines (take l.section-index l.sections))

@@ -1,0 +1,7 @@
+use Rattle.std.proofs.Common.{◌≡◌, ◌++◌, take}
+use Rattle.std.specs.List.{flat_map}
+use Rattle.calls_text.specs.Spelling.{phase_text}
+use Rattle.calls_text.proofs.writing.put_phases.Given as goal
+
+abbrev pub invariant-loop-phase : goal.invariant-loop-phase
+invariant-loop-phase l = l.out.items ≡ l.initial.out.items ++ flat_map phase_text (take l.phase-index l.phases)

@@ -1,0 +1,33 @@
+-- Calls in little room, as a reader gives them (own).
+use Rattle.std.specs.Prelude.{◌≡◌, ℕ, List, [], ◌∷◌, ◌++◌, Option, Some, None, Result, Ok, Err}
+use Rattle.domain_run.specs.declared.call.Call.{Call}
+use Rattle.domain_run.specs.declared.call.Call.TheVariants as calls
+use Rattle.calls_text.specs.declared.fault.CallsFault.{CallsFault}
+use Rattle.calls_text.specs.declared.kept_call.Kept.{Kept}
+use Rattle.calls_text.specs.declared.kept_call.Kept.TheVariants.{Wake, Leave, Depart, Advance, Long}
+use Rattle.calls_text.specs.declared.section.Entry.{Entry}
+use Rattle.calls_text.specs.SectionView.{SectionView}
+use Rattle.calls_text.specs.Reader.{ReaderView, IsBehind, IsWithin, with_entries}
+
+-- the call that is kept
+abbrev pub call_of : Kept → Call
+call_of (Wake number) = calls.Wake number
+call_of (Leave number) = calls.Leave number
+call_of (Depart number) = calls.Depart number
+call_of (Advance ticks) = calls.Advance ticks
+call_of (Long spelled) = spelled.value.call
+
+-- the entry that is read next has this call
+pub record IsNextCall (text : List ℕ) (before : List SectionView) (s : SectionView) (r : ReaderView)
+    (kept : Kept) : Type 0 where
+  pub entry : Entry
+  pub same : entry.call ≡ call_of kept
+  pub within : IsWithin text before (with_entries s (entry ∷ [])) r
+
+-- within a section: the call of its next entry, or it is read to its end; where memory ran out, all
+-- is as before
+abbrev pub IsNextKept : List ℕ → List SectionView → SectionView → ReaderView
+    → Result (Option Kept) CallsFault → Type 0
+IsNextKept text before s r (Ok (Some kept)) = IsNextCall text before s r kept
+IsNextKept text before s r (Ok None) = IsBehind text (before ++ s ∷ []) r
+IsNextKept text before s r (Err e) = IsWithin text before s r

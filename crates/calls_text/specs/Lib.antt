@@ -1,0 +1,14 @@
+pub mod SectionView
+pub mod Spelling
+pub mod OwnCalls
+pub mod Limits
+pub mod BadLine
+pub mod ReadSoFar
+pub mod Reader
+pub mod NameGiven
+pub mod KeptCall
+pub mod RoundTrip
+pub mod FaultText
+pub mod Histories
+pub mod Examples
+pub mod private

@@ -1,0 +1,4 @@
+pub mod Reading
+pub mod Numbered
+pub mod Counting
+pub mod Writing

@@ -1,0 +1,168 @@
+ghost use Rattle.std.specs.Prelude.{◌≡◌, ℕ, List, [], ◌∷◌, ◌++◌, IfOk, IfErr, MatchResult};
+ghost use Rattle.std.specs.Option.{option_map};
+ghost use Rattle.calls_text.specs.declared.fault.PartFault.TheVariants as PartFault;
+ghost use Rattle.task_script.specs.script.Segments.{rounds_of, IsLoops};
+ghost use Rattle.calls_text.specs.private.Reading.{Gives, NoDigit, IsFirstEvent, event_first_at, events_at, phase_at, phase_first_at, phases_at, rounds_at, script_at};
+
+use crate::cut::cut;
+use crate::fault::PartFault;
+use crate::number::{number_first, number_within};
+use domain_run::{Event, Phase, Script};
+use std::alloc::Global;
+
+/// The most microseconds of an event, the most repetitions of a phase, and the most rounds of a
+/// script.
+const MOST: u64 = 1_000_000_000;
+/// The most events of a phase, and the most phases of a script.
+const MOST_ITEMS: u64 = 64;
+/// Room for so many events, and so many phases, is taken at first where there are more than one:
+/// most have no more.
+const ROOM: usize = 2;
+
+/// `rN`, `sN`, `tN` or `w` at the front of a text, and what follows.
+#[inline(always)]
+fn event_of(text: &[u8]) -> Result<(Event, &[u8]), PartFault>
+    ensures spelled { IfOk result (λ p. IsFirstEvent text.now p.0 p.1.now) }
+    ensures found { (e : Event) (rest : List ℕ) → IsFirstEvent text.now e rest → NoDigit rest
+        → MatchResult result (λ p. (p.0 ≡ e) × (p.1.now ≡ rest)) (λ _. ⊥) }
+{
+    let [letter, after @ ..] = text else {
+        return Err(PartFault::Bad);
+    };
+    if *letter == b'w' {
+        return Ok((Event::Wait, after));
+    }
+    let (n, rest) = number_first(after, 1, MOST)?;
+    match *letter {
+        b'r' => Ok((Event::Run(n), rest)),
+        b's' => Ok((Event::Sleep(n), rest)),
+        b't' => Ok((Event::Timer(n), rest)),
+        _ => Err(PartFault::Bad),
+    }
+}
+
+/// An event, and what follows the comma after it.
+fn event_first(text: &[u8]) -> Result<(Event, Option<&[u8]>), PartFault>
+    ensures { Gives (λ p. (p.0, option_map (λ r. r.now) p.1)) result (event_first_at text.now) }
+{
+    match event_of(text)? {
+        (event, []) => Ok((event, None)),
+        (event, [b',', after @ ..]) => Ok((event, Some(after))),
+        _ => Err(PartFault::Bad),
+    }
+}
+
+/// One item more; of one alone the list takes no more memory than for it.
+#[inline(always)]
+fn add<T: Drop>(items: &mut Vec<T>, item: T, is_last: bool) -> Result<(), PartFault>
+    ensures items { IfOk result (λ _. items.new.items ≡ items.old.items ++ item ∷ []) }
+    ensures fault { IfErr result (λ e. e ≡ PartFault.Memory) }
+{
+    if items.is_empty() {
+        items.try_reserve_exact(if is_last { 1 } else { ROOM })?;
+    }
+    items.push(item)?;
+    Ok(())
+}
+
+/// 1 to 64 events, with commas between them.
+fn events_of(alloc: Global, text: &[u8]) -> Result<Vec<Event>, PartFault>
+    ensures { Gives (λ v. v.items) result (events_at text.now) }
+{
+    let mut events = Vec::new(alloc);
+    let mut rest = text;
+    for _ in 0..MOST_ITEMS {
+        let (event, after) = event_first(rest)?;
+        add(&mut events, event, after.is_none())?;
+        match after {
+            None => return Ok(events),
+            Some(after) => rest = after,
+        }
+    }
+    Err(PartFault::Bad)
+}
+
+/// A count and its events, without the brace at the end.
+#[tactic(auto, unfolding(crate::specs::private::Reading::phase_at))]
+fn phase_of(alloc: Global, text: &[u8]) -> Result<Phase, PartFault>
+    ensures { Gives (λ p. p) result (phase_at text.now) }
+{
+    let Some((count, events)) = cut(text, b'{') else {
+        return Err(PartFault::Bad);
+    };
+    let count = number_within(count, 1, MOST)?;
+    let events = events_of(alloc, events)?;
+    Ok(Phase { count, events })
+}
+
+/// A phase, and what follows the brace after it.
+#[tactic(auto, unfolding(crate::specs::private::Reading::phase_first_at))]
+fn phase_first(alloc: Global, text: &[u8]) -> Result<(Phase, Option<&[u8]>), PartFault>
+    ensures { Gives (λ p. (p.0, option_map (λ r. r.now) p.1)) result (phase_first_at text.now) }
+{
+    let Some((phase, after)) = cut(text, b'}') else {
+        return Err(PartFault::Bad);
+    };
+    let phase = phase_of(alloc, phase)?;
+    if after.is_empty() {
+        Ok((phase, None))
+    } else {
+        Ok((phase, Some(after)))
+    }
+}
+
+/// 1 to 64 phases, each with a brace at its end.
+fn phases_of(alloc: Global, text: &[u8]) -> Result<Vec<Phase>, PartFault>
+    ensures { Gives (λ v. v.items) result (phases_at text.now) }
+{
+    let mut phases = Vec::new(alloc);
+    let mut rest = text;
+    for _ in 0..MOST_ITEMS {
+        // What is let go of goes by one call, not written out with all that is inside.
+        let (phase, after) = match phase_first(alloc, rest) {
+            Ok(found) => found,
+            Err(e) => {
+                drop(phases);
+                return Err(e);
+            }
+        };
+        if let Err(e) = add(&mut phases, phase, after.is_none()) {
+            drop(phases);
+            return Err(e);
+        }
+        match after {
+            None => return Ok(phases),
+            Some(after) => rest = after,
+        }
+    }
+    drop(phases);
+    Err(PartFault::Bad)
+}
+
+/// The loop count of a script: -1, or 1 to 10^9.
+#[tactic(auto, unfolding(crate::specs::private::Reading::rounds_at))]
+fn loops_of(text: &[u8]) -> Result<i64, PartFault>
+    ensures gives { Gives rounds_of result (rounds_at text.now) }
+    ensures within { IfOk result IsLoops }
+{
+    if text == b"-1".as_slice() {
+        return Ok(-1);
+    }
+    Ok(number_within(text, 1, MOST)? as i64)
+}
+
+/// The script that a text spells.
+#[tactic(auto, unfolding(crate::specs::private::Reading::script_at))]
+pub(crate) fn script_of(alloc: Global, text: &[u8]) -> Result<Script, PartFault>
+    ensures { Gives (λ s. s) result (script_at text.now) }
+{
+    let Some((loops, phases)) = cut(text, b':') else {
+        return Err(PartFault::Bad);
+    };
+    let loops = loops_of(loops)?;
+    let phases = phases_of(alloc, phases)?;
+    match Script::new(loops, phases) {
+        Ok(script) => Ok(script),
+        Err(_) => Err(PartFault::Bad),
+    }
+}
