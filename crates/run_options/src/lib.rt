@@ -1,10 +1,10 @@
 //! What is asked of a run: its options, what is written of it, and the words of a command line that
 //! mean them.
 //!
-//! [`Options`] meet the definition "Options" (`specs/Options.antt`), within which a scenario is run;
+//! Which [`Options`] a scenario may be run with is `AreOptions` (`specs/Options.antt`).
 //! [`read_options`] meets the definition "Options of a run" (`specs/Words.antt`). To the crates
-//! above it promises that words which mean options give them, and that each fault is the words'.
-//! Nothing here knows of a session or a run, so that who reads words need not wait for either.
+//! above it promises that the options are those that the words mean, and that each fault is theirs.
+//! Nothing here knows of a session or of a run, so that who reads words need not wait for either.
 #![tactic(auto)]
 
 mod options;
