@@ -14,7 +14,7 @@ use std::io::{Read, Write};
 use switch_text::{Counted, ReadFault};
 
 /// What is written of a replay.
-#[derive(Clone, Copy, Debug, PartialEq, Eq)]
+#[derive(Clone, Copy)]
 pub enum ReplayPrint {
     /// The trace: a sched_switch line for each switch.
     Trace,
