@@ -1,7 +1,7 @@
 /// The attributes that a caller asks for, with the fields of the kernel's `struct sched_attr` that
 /// are read here (sched_setattr(2)). Size, nice value, priority and the utilisation clamps are not
 /// read.
-#[derive(Clone, Copy, Debug, PartialEq, Eq)]
+#[derive(Clone, Copy, Debug)]
 pub struct SchedAttr {
     /// 6 for SCHED_DEADLINE; every other policy is refused.
     pub policy: u32,

@@ -3,7 +3,7 @@ use std::fmt;
 
 /// Why attributes are refused. Each is EINVAL 22 in sched_setattr(2); the number of a kind is its
 /// place in the order of the tests, from 1. It prints as its name.
-#[derive(Clone, Copy, Debug, PartialEq, Eq)]
+#[derive(Clone, Copy, Debug)]
 pub enum AttrRefusal {
     /// 1: the policy is not SCHED_DEADLINE.
     NotDeadline,

@@ -69,7 +69,7 @@ pub enum Limit {
 }
 
 /// The two parts of the words of a closed gate.
-#[derive(Clone, Copy, Debug, PartialEq, Eq)]
+#[derive(Clone, Copy)]
 pub struct Words {
     /// How many domains the gate had.
     pub count: usize,

@@ -9,7 +9,7 @@ pub(crate) const DOMAINS: usize = 8;
 
 /// What one domain of a gate has room for when the gate is opened: its CPUs, and what each of them
 /// gives to its tasks.
-#[derive(Clone, Copy, Debug, PartialEq, Eq)]
+#[derive(Clone, Copy)]
 pub struct Room {
     /// How many CPUs, 1 to 64.
     pub cpus: u64,

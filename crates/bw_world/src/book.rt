@@ -1,6 +1,6 @@
 /// One change of a domain's book, which tells the admitted tasks. Bandwidths are in 1/2^20 of a
 /// CPU.
-#[derive(Clone, Copy, Debug, PartialEq, Eq)]
+#[derive(Clone, Copy)]
 pub enum Change {
     /// A task is admitted.
     Entered {

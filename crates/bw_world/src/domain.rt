@@ -13,7 +13,7 @@ use std::alloc::Global;
 use std::marker::Model;
 
 /// One root domain of a world.
-#[derive(Debug, Drop)]
+#[derive(Drop)]
 pub(crate) struct Domain {
     cap: u64,
     used: u64,

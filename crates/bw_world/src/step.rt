@@ -17,7 +17,7 @@ pub struct Word {
 /// A step of a world. A domain is named by its index, a ticket by its id, which the caller chooses,
 /// and a task by its number. Bandwidths and words are in 1/2^20 of a CPU. A step that does not fit
 /// is answered [`Outcome::Not`].
-#[derive(Clone, Copy, Debug, PartialEq, Eq)]
+#[derive(Clone, Copy)]
 pub enum Step {
     /// Reads a domain's word. It fits where the domain exists.
     Load {

@@ -3,14 +3,14 @@ ghost use Rattle.std.specs.List.{list_any};
 ghost use Rattle.bw_world.specs.DomainStep.{with_bw, task_with_bw, without, without_task};
 
 /// A ticket in hand, with the bandwidth that it holds.
-#[derive(Clone, Copy, Debug, PartialEq, Eq)]
+#[derive(Clone, Copy)]
 pub(crate) struct Ticket {
     pub id: u64,
     pub bw: u64,
 }
 
 /// An admitted task, with its ticket and the bandwidth that it holds.
-#[derive(Clone, Copy, Debug, PartialEq, Eq)]
+#[derive(Clone, Copy)]
 pub(crate) struct Task {
     pub number: u32,
     pub ticket: u64,

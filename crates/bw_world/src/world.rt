@@ -8,7 +8,7 @@ use std::marker::Model;
 
 /// Up to eight root domains, each with its bandwidth word, tickets, admitted tasks and book. To a
 /// contract it is plain lists.
-#[derive(Debug, Drop)]
+#[derive(Drop)]
 pub struct World {
     domains: Vec<Domain>,
     applied: usize,

@@ -3,7 +3,7 @@ use std::error::Error;
 use std::fmt;
 
 /// Why a calls text was not read. Prints as `bad line 3` or `out of memory`.
-#[derive(Clone, Copy, Debug, PartialEq, Eq)]
+#[derive(Clone, Copy, Debug)]
 pub enum CallsFault {
     /// 30: line `n`, from 1, is the first at which the text stops being a front of whole lines of a
     /// text that is accepted.

@@ -2,7 +2,7 @@ use domain_run::{Call, Reply};
 use std::marker::Model;
 
 /// A call of a client on a domain, and the reply.
-#[derive(Debug, Drop)]
+#[derive(Drop)]
 pub struct Entry {
     /// Who called, 1 to 64.
     pub client: u32,
@@ -15,7 +15,7 @@ pub struct Entry {
 }
 
 /// One domain and the calls on it, in their order.
-#[derive(Debug, Drop)]
+#[derive(Drop)]
 pub struct Section {
     /// CPUs of the domain, 1 to 64.
     pub cpus: u32,

@@ -5,7 +5,7 @@ use domain_run::NoMemory;
 use thiserror::Error;
 
 /// Why a trace was not written, or not whole.
-#[derive(Clone, Copy, Debug, PartialEq, Eq, Error)]
+#[derive(Clone, Copy, Debug, Error)]
 pub enum TraceFault {
     /// The writer failed.
     #[error("write failed after {written}")]
@@ -20,7 +20,7 @@ pub enum TraceFault {
 
 /// Why a replay ended without its trace. Where it is not [`ReplayFault::Write`], nothing was
 /// written.
-#[derive(Clone, Copy, Debug, PartialEq, Eq, Error)]
+#[derive(Clone, Copy, Debug, Error)]
 pub enum ReplayFault {
     /// 30: the first line, from 1, at which the input stops being a front of whole lines of a calls
     /// text.

@@ -1,5 +1,5 @@
 /// The server of a task: its scheduling deadline and what is left of its budget.
-#[derive(Clone, Copy, Debug, PartialEq, Eq)]
+#[derive(Clone, Copy, PartialEq, Eq)]
 pub struct Server {
     /// Scheduling deadline, in microseconds; none before the first wake.
     pub deadline: Option<u64>,

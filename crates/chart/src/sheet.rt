@@ -8,7 +8,7 @@ ghost use Rattle.chart.specs.private.Sheets as sheets;
 use chart_pieces::Window;
 
 /// The sizes of a row, in pixels.
-#[derive(Clone, Copy, Debug, PartialEq, Eq)]
+#[derive(Clone, Copy)]
 pub struct RowSize {
     /// From one row to the next.
     pub height: u64,
@@ -22,7 +22,7 @@ pub struct RowSize {
 }
 
 /// What all parts of a chart need to know.
-#[derive(Clone, Copy, Debug, PartialEq, Eq)]
+#[derive(Clone, Copy)]
 pub struct Sheet {
     /// The part of the run that is drawn.
     pub window: Window,

@@ -3,7 +3,7 @@
 use std::marker::Model;
 
 /// A stay of a task on a CPU, from one time to another, in microseconds.
-#[derive(Clone, Copy, Debug, PartialEq, Eq)]
+#[derive(Clone, Copy)]
 pub struct Bar {
     /// The CPU of the domain, from 0.
     pub cpu: u16,
@@ -12,7 +12,7 @@ pub struct Bar {
 }
 
 /// A time between its bars, from one time to another, in microseconds.
-#[derive(Clone, Copy, Debug, PartialEq, Eq)]
+#[derive(Clone, Copy)]
 pub struct Gap {
     /// Whether the task is throttled then; else it wants a CPU.
     pub throttled: bool,
@@ -21,7 +21,7 @@ pub struct Gap {
 }
 
 /// What is marked at a time.
-#[derive(Clone, Copy, Debug, PartialEq, Eq)]
+#[derive(Clone, Copy)]
 pub enum Sign {
     /// A job is released.
     Released,
@@ -32,14 +32,14 @@ pub enum Sign {
 }
 
 /// A mark at a time, in microseconds.
-#[derive(Clone, Copy, Debug, PartialEq, Eq)]
+#[derive(Clone, Copy)]
 pub struct Mark {
     pub sign: Sign,
     pub time: u64,
 }
 
 /// What is drawn of a task.
-#[derive(Debug, Drop)]
+#[derive(Drop)]
 pub struct Row {
     /// The task's number.
     pub number: u32,

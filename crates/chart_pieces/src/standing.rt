@@ -6,7 +6,7 @@ ghost use Rattle.chart_pieces.specs.Standing as standings;
 use domain_run::{PrevState, What};
 
 /// What a moment is of a task.
-#[derive(Clone, Copy, Debug, PartialEq, Eq)]
+#[derive(Clone, Copy)]
 pub enum Turn {
     /// Something happens to it.
     Told(What),
@@ -17,7 +17,7 @@ pub enum Turn {
 }
 
 /// A moment of a task.
-#[derive(Clone, Copy, Debug, PartialEq, Eq)]
+#[derive(Clone, Copy)]
 pub struct Moment {
     /// When, in microseconds.
     pub time: u64,
@@ -27,7 +27,7 @@ pub struct Moment {
 }
 
 /// How a task stands.
-#[derive(Clone, Copy, Debug, PartialEq, Eq)]
+#[derive(Clone, Copy)]
 pub struct Standing {
     /// Whether a job of it is under way.
     pub works: bool,

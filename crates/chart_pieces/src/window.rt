@@ -5,7 +5,7 @@ ghost use Rattle.chart_pieces.specs.Window as windows;
 ghost use Rattle.chart_pieces.specs.Window.{IsWindow};
 
 /// The part of a run that is drawn. Times are in microseconds.
-#[derive(Clone, Copy, Debug, PartialEq, Eq)]
+#[derive(Clone, Copy)]
 pub struct Window {
     /// Where it begins.
     pub from: u64,
@@ -30,7 +30,7 @@ impl Window {
 }
 
 /// Which part of a run is asked for. Times are in microseconds.
-#[derive(Clone, Copy, Debug, PartialEq, Eq)]
+#[derive(Clone, Copy)]
 pub struct Span {
     /// Where it begins.
     pub from: u64,

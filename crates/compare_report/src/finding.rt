@@ -12,7 +12,7 @@ use std::alloc::{AllocError, Global};
 use trace_compare::{Matching, Run, TaskRuns, apart_in, missing_of, nearest_of, other_of};
 
 /// A run of the model that no recorded run matches.
-#[derive(Clone, Copy, Debug)]
+#[derive(Clone, Copy)]
 pub struct Missing<'a> {
     /// The run, by the model's clock.
     pub place: Place<'a>,
@@ -21,7 +21,7 @@ pub struct Missing<'a> {
 }
 
 /// What is told of a task.
-#[derive(Clone, Copy, Debug)]
+#[derive(Clone, Copy)]
 pub struct Finding<'a> {
     /// Its row.
     pub row: Row<'a>,

@@ -7,7 +7,7 @@ ghost use Rattle.compare_report.specs.Report.{asked_shift};
 use trace_compare::NO_SHIFT;
 
 /// What is asked of a comparison; times are in microseconds.
-#[derive(Clone, Copy, Debug, PartialEq, Eq)]
+#[derive(Clone, Copy)]
 pub struct CompareOptions {
     /// Two runs match where their starts and their ends are at most so far apart.
     pub within: u32,

@@ -1,5 +1,5 @@
 /// How far the recording's clock is from the model's.
-#[derive(Clone, Copy, Debug, PartialEq, Eq)]
+#[derive(Clone, Copy)]
 pub struct Shift {
     /// Whether it is behind.
     pub behind: bool,
@@ -8,7 +8,7 @@ pub struct Shift {
 }
 
 /// How far matched runs were apart, in microseconds.
-#[derive(Clone, Copy, Debug, PartialEq, Eq)]
+#[derive(Clone, Copy)]
 pub struct Spread {
     /// Half of them at most so far.
     pub half: u64,
@@ -20,7 +20,7 @@ pub struct Spread {
 
 /// A stretch of time, in microseconds: of the model's clock for a run of the model, of the
 /// recording's for a recorded one.
-#[derive(Clone, Copy, Debug, PartialEq, Eq)]
+#[derive(Clone, Copy)]
 pub struct Stretch {
     /// When it begins.
     pub start: u64,
@@ -29,7 +29,7 @@ pub struct Stretch {
 }
 
 /// What is told of a task.
-#[derive(Clone, Copy, Debug)]
+#[derive(Clone, Copy)]
 pub struct Row<'a> {
     /// The task's name.
     pub name: &'a [u8],
@@ -50,7 +50,7 @@ pub struct Row<'a> {
 }
 
 /// A run of a task.
-#[derive(Clone, Copy, Debug)]
+#[derive(Clone, Copy)]
 pub struct Place<'a> {
     /// The task's name.
     pub name: &'a [u8],

@@ -2,7 +2,7 @@ use std::error::Error;
 use std::fmt;
 
 /// Why not all could be read.
-#[derive(Clone, Copy, Debug, PartialEq, Eq)]
+#[derive(Clone, Copy, Debug)]
 pub enum ReadFault {
     /// A read failed, or 2^32 reads met no end.
     Failed,

@@ -9,7 +9,7 @@ use compare_report::{CompareFault, Input};
 use std::fmt;
 
 /// The names of two traces, as they are told: those of files, or `standard input`.
-#[derive(Clone, Copy, Debug)]
+#[derive(Clone, Copy)]
 pub struct TraceNames<'a> {
     pub model: &'a str,
     pub recorded: &'a str,

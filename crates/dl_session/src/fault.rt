@@ -173,7 +173,7 @@ impl fmt::Display for SessionFault {
 
 /// The line by which the program tells that a task was refused: `dlsim: task 4 EBUSY 16 seen
 /// 1572864`, without an LF.
-#[derive(Clone, Copy, Debug)]
+#[derive(Clone, Copy)]
 pub struct RefusedLine {
     /// The task's number, from 1.
     pub number: u32,

@@ -2,7 +2,7 @@ use attr_check::Params;
 use task_script::{Name, Script};
 
 /// A call on a domain, made at its time now, between two ticks.
-#[derive(Debug, Drop)]
+#[derive(Drop)]
 pub enum Call {
     /// Lists a new task, which starts after a delay.
     Admit {

@@ -5,7 +5,7 @@ ghost use Rattle.domain_run.specs.Happened as happened_spec;
 
 /// What happens to a task. Of what happens at one time, this is the order. A deadline is a time in
 /// microseconds.
-#[derive(Clone, Copy, Debug, PartialEq, Eq)]
+#[derive(Clone, Copy)]
 pub enum What {
     /// A tick ends with its job: at the end of its work its script was asked, and passed a sleep, a
     /// timer or a wait, or has ended.
@@ -44,7 +44,7 @@ impl What {
 }
 
 /// Something that happens to a task.
-#[derive(Clone, Copy, Debug, PartialEq, Eq)]
+#[derive(Clone, Copy)]
 pub struct Happened {
     /// When, in microseconds.
     pub time: u64,

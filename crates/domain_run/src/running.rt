@@ -7,7 +7,7 @@ use crate::task::Task;
 use attr_check::Params;
 
 /// A running task in the middle of a tick: what its rate depends on, and for how long it may run.
-#[derive(Clone, Copy, Debug, PartialEq, Eq)]
+#[derive(Clone, Copy)]
 pub struct Running {
     pub number: u32,
     pub params: Params,

@@ -12,7 +12,7 @@ const HIGHER: u64 = 1 << 32;
 
 /// What a task was doing when a switch took its CPU away: the event's prev_state. Idle is always
 /// [`PrevState::Running`].
-#[derive(Clone, Copy, Debug, PartialEq, Eq)]
+#[derive(Clone, Copy)]
 pub enum PrevState {
     /// `R`: idle left the CPU.
     Running,
@@ -26,7 +26,7 @@ pub enum PrevState {
 
 // In which state an occupant leaves a CPU, and whether a task comes there or idle. Idle to idle is
 // no switch.
-#[derive(Clone, Copy, Debug, PartialEq, Eq)]
+#[derive(Clone, Copy, PartialEq, Eq)]
 enum Handover {
     IdleToIdle,
     IdleToTask,
@@ -55,7 +55,7 @@ fn handover_of(state: PrevState, next: Option<u32>) -> Handover
 
 /// One switch of a CPU from one occupant to another (the event sched_switch), in 16 bytes. Contracts
 /// see it as what its calls tell.
-#[derive(Clone, Copy, Debug, PartialEq, Eq)]
+#[derive(Clone, Copy, PartialEq, Eq)]
 pub struct Switch {
     // The lower 32 bits of the time; `high` has the 16 above them.
     low: u32,

@@ -8,7 +8,7 @@ use cbs_rules::Server;
 use task_script::{Cursor, Name};
 
 /// What a task is doing.
-#[derive(Clone, Copy, Debug, PartialEq, Eq)]
+#[derive(Clone, Copy, PartialEq, Eq)]
 pub enum Condition {
     /// It contends for a CPU, with budget left.
     Ready,
@@ -65,7 +65,7 @@ impl Condition {
 
 /// A task of a domain. What an event reads stands in front, in few lines of the cache; the name,
 /// which none reads, at the end.
-#[derive(Debug, Drop)]
+#[derive(Drop)]
 pub struct Task {
     /// 1 to 65535.
     pub number: u32,
@@ -83,7 +83,7 @@ pub struct Task {
 }
 
 /// What a caller may see of a task.
-#[derive(Clone, Copy, Debug, PartialEq, Eq)]
+#[derive(Clone, Copy, PartialEq, Eq)]
 pub struct TaskView {
     pub server: Server,
     pub condition: Condition,

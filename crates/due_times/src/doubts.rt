@@ -8,7 +8,7 @@ use cpu_marks::{both, with, without};
 
 /// Which CPUs are in doubt: who stands there may not sit there rightly. The others are right for a
 /// sum of bandwidth and a limit, which are noted.
-#[derive(Clone, Copy, Debug, PartialEq, Eq)]
+#[derive(Clone, Copy)]
 pub struct Doubts {
     /// A word with a mark for each CPU that is in doubt.
     pub cpus: u64,

@@ -12,7 +12,7 @@ use std::alloc::{AllocError, Global};
 use std::marker::Model;
 
 /// What the rate of a task depends on beside its parameters.
-#[derive(Clone, Copy, Debug, PartialEq, Eq)]
+#[derive(Clone, Copy, PartialEq, Eq)]
 pub struct Basis {
     /// The bandwidth of the inactive tasks of its CPU, in 1/2^20 of a CPU.
     pub uinact: u64,
@@ -25,7 +25,7 @@ pub struct Basis {
 
 /// A task that runs on a CPU, and has not been charged since a time. Times are in microseconds of
 /// the clock of the seats.
-#[derive(Clone, Copy, Debug, PartialEq, Eq)]
+#[derive(Clone, Copy)]
 pub struct Seat {
     /// The task's number.
     pub number: u32,
@@ -41,7 +41,7 @@ pub struct Seat {
 
 /// At which rate a task is to run, and what that was worked out from; nothing where it is the same
 /// on every basis.
-#[derive(Clone, Copy, Debug, PartialEq, Eq)]
+#[derive(Clone, Copy)]
 pub struct Rating {
     /// What a tick takes of its budget, in 1/2^20 us.
     pub rate: u64,

@@ -1,5 +1,5 @@
 /// A ready task as the choice sees it.
-#[derive(Clone, Copy, Debug, PartialEq, Eq)]
+#[derive(Clone, Copy)]
 pub struct Candidate {
     /// Scheduling deadline, in microseconds from the beginning. The earliest goes first.
     pub deadline: u64,

@@ -14,7 +14,7 @@ use std::marker::Model;
 /// Each call tells it of one change of the list of tasks. So, of every list that the sums count, in
 /// whatever order, they count the list with that change afterwards. Sums with room for more or
 /// fewer than the CPUs cannot be built.
-#[derive(Debug, Drop)]
+#[derive(Drop)]
 pub struct Accounts {
     all: Vec<u64>,
     active: Vec<u64>,

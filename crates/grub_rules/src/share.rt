@@ -1,5 +1,5 @@
 /// A task as the sums of a CPU see it.
-#[derive(Clone, Copy, Debug, PartialEq, Eq)]
+#[derive(Clone, Copy, PartialEq, Eq)]
 pub struct Share {
     /// The CPU to which the task belongs.
     pub cpu: usize,

@@ -7,7 +7,7 @@ use std::error::Error;
 use std::fmt;
 
 /// What is wrong with an input. The kinds have the numbers 10 to 15, in this order.
-#[derive(Clone, Copy, Debug, PartialEq, Eq)]
+#[derive(Clone, Copy, Debug)]
 pub enum JsonKind {
     /// 10: a byte after which no accepted text goes on, and none of the kinds below.
     Syntax,
@@ -57,7 +57,7 @@ impl<T: Drop> From<AllocFailed<T>> for JsonKind {
 
 /// The fault of an input: its kind, and the place of the byte at which it shows, from 0. It prints
 /// as `json 13 at 14`.
-#[derive(Clone, Copy, Debug, PartialEq, Eq)]
+#[derive(Clone, Copy, Debug)]
 pub struct JsonFault {
     /// For Syntax, Depth, Duplicate and Utf8 the place of the faulting byte; for End the length of
     /// the input; for Memory 0.

@@ -1,5 +1,5 @@
 /// A JSON value (RFC 8259). Items and members keep the order of the text.
-#[derive(Debug, PartialEq, Eq, Drop)]
+#[derive(Debug, Drop)]
 pub enum Tree {
     /// `null`.
     Null,

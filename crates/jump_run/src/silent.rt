@@ -1,7 +1,7 @@
 use tick_split::Turn;
 
 /// A turn that does nothing.
-#[derive(Clone, Copy, Debug, PartialEq, Eq)]
+#[derive(Clone, Copy)]
 pub struct Silent;
 
 impl Turn for Silent {

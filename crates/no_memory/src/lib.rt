@@ -9,7 +9,7 @@ use std::fmt;
 
 /// ENOMEM 12: a growth was refused. What stands then is told by each call that answers it. It
 /// prints as `out of memory`.
-#[derive(Clone, Copy, Debug, PartialEq, Eq)]
+#[derive(Clone, Copy, Debug)]
 pub struct NoMemory;
 
 impl fmt::Display for NoMemory {

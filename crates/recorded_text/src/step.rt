@@ -1,5 +1,5 @@
 /// A switch of a recording, with the number of the task's name.
-#[derive(Clone, Copy, Debug, PartialEq, Eq)]
+#[derive(Clone, Copy)]
 pub struct Step {
     /// When, in microseconds of the recording's clock.
     pub time: u64,

@@ -8,7 +8,7 @@ use std::fmt;
 
 /// Why a JSON value is no scenario: the first test that it fails. Each fault has a number, 20 to 28
 /// in this order.
-#[derive(Debug, PartialEq, Eq, Drop)]
+#[derive(Debug, Drop)]
 pub enum ScenarioFault {
     /// 20: the root is no object with a member `tasks` that is an object with at least one member.
     NoTasks,

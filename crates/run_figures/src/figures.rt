@@ -2,7 +2,7 @@
 
 /// Of the jobs of a task that ended: how long they took from release to end, in microseconds, and
 /// how far the end was before the deadline.
-#[derive(Clone, Copy, Debug, PartialEq, Eq)]
+#[derive(Clone, Copy)]
 pub struct Responses {
     /// The least response.
     pub least: u64,
@@ -15,7 +15,7 @@ pub struct Responses {
 }
 
 /// The figures of a task. Times are in microseconds.
-#[derive(Clone, Copy, Debug, PartialEq, Eq)]
+#[derive(Clone, Copy)]
 pub struct TaskFigures {
     /// 1 to 65535.
     pub number: u32,
@@ -42,7 +42,7 @@ pub struct TaskFigures {
 }
 
 /// The figures of a CPU.
-#[derive(Clone, Copy, Debug, PartialEq, Eq)]
+#[derive(Clone, Copy)]
 pub struct CpuFigures {
     /// How long it had a task, in microseconds: less than 2^108.
     pub busy_us: u128,
@@ -51,7 +51,7 @@ pub struct CpuFigures {
 }
 
 /// The figures of a run.
-#[derive(Debug, Drop)]
+#[derive(Drop)]
 pub struct Summary {
     /// Of the tasks, in the order in which they were given.
     pub tasks: Vec<TaskFigures>,

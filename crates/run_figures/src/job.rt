@@ -7,7 +7,7 @@ ghost use Rattle.run_figures.specs.Jobs as jobs;
 use domain_run::{Happened, What};
 
 /// A job of a task. Times are in microseconds.
-#[derive(Clone, Copy, Debug, PartialEq, Eq)]
+#[derive(Clone, Copy)]
 pub struct Job {
     /// When it was released.
     pub release: u64,

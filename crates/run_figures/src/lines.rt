@@ -15,7 +15,7 @@ use std::alloc::Global;
 use std::marker::Model;
 
 /// The jobs of a task, in their order: the first is job 0.
-#[derive(Debug, Drop)]
+#[derive(Drop)]
 pub struct TaskJobs {
     /// The task's number.
     pub number: u32,

@@ -3,7 +3,7 @@
 use domain_run::{Happened, Switch};
 
 /// A task that was admitted, with its parameters as they are at the end.
-#[derive(Clone, Copy, Debug, PartialEq, Eq)]
+#[derive(Clone, Copy)]
 pub struct Admitted {
     /// 1 to 65535.
     pub number: u32,

@@ -4,7 +4,7 @@ ghost use Rattle.run_options.specs.Options.{tells};
 use chart_pieces::Span;
 
 /// What is written of a run.
-#[derive(Clone, Copy, Debug, PartialEq, Eq)]
+#[derive(Clone, Copy)]
 pub enum Print {
     /// The trace: a sched_switch line for each switch.
     Trace,
@@ -37,7 +37,7 @@ impl Print {
 
 /// With what a scenario is to be run. A session is opened from its domains, limit, clients, workers
 /// and history; a run reads `reclaim` and `print` too. No answer depends on `workers`.
-#[derive(Clone, Debug, Drop)]
+#[derive(Clone, Drop)]
 pub struct Options {
     /// How many CPUs each root domain has, 1 to 64; 1 to 8 domains. The first has the first CPUs of
     /// the machine, the second the next ones, and so on.

@@ -4,7 +4,7 @@ ghost use Rattle.run_options.specs.Options.{print_tells};
 use chart_pieces::Span;
 
 /// What is written of a replay.
-#[derive(Clone, Copy, Debug, PartialEq, Eq)]
+#[derive(Clone, Copy)]
 pub enum ReplayPrint {
     /// The trace: a sched_switch line for each switch.
     Trace,

@@ -25,7 +25,7 @@ const HISTORY: usize = 1024;
 const LAST_MOMENT: u64 = 1 << 42;
 
 /// The words that say how a scenario is run, as a command line has them.
-#[derive(Clone, Copy, Debug)]
+#[derive(Clone, Copy)]
 pub struct Words<'a> {
     /// The list of root domains: the number of CPUs of each, 1 to 64, in decimal without leading
     /// zeros; 1 to 8 of them, with commas between them and no spaces.
@@ -47,7 +47,7 @@ pub struct Words<'a> {
 
 /// The words that say which part of a run a chart shows, as a command line has them. Times are in
 /// microseconds.
-#[derive(Clone, Copy, Debug, PartialEq, Eq)]
+#[derive(Clone, Copy)]
 pub struct SpanWords {
     /// Where the part begins, if that is said.
     pub from: Option<u64>,
@@ -56,7 +56,7 @@ pub struct SpanWords {
 }
 
 /// Why words give no options.
-#[derive(Clone, Copy, Debug, PartialEq, Eq)]
+#[derive(Clone, Copy, Debug)]
 pub enum WordsFault {
     /// The part of the run that a chart is to show does not begin before it ends.
     Window,

@@ -4,7 +4,7 @@ use call_book::NoMemory;
 use thiserror::Error;
 
 /// Why the clients of a session could not admit their tasks.
-#[derive(Clone, Copy, Debug, PartialEq, Eq, Error)]
+#[derive(Clone, Copy, Debug, Error)]
 pub enum AdmitFault {
     /// The system started no thread for a client.
     #[error("no thread")]
@@ -41,7 +41,7 @@ impl From<NoMemory> for AdmitFault {
 }
 
 /// Why a run in a session did not come to its end.
-#[derive(Clone, Copy, Debug, PartialEq, Eq, Error)]
+#[derive(Clone, Copy, Debug, Error)]
 pub enum EndFault {
     /// 40: the history of a domain had no room for the advance at the end.
     #[error("book full")]

@@ -5,7 +5,7 @@ use std::fmt;
 /// Why a call of a client stands in no book, or an admission was answered EBUSY there. The client
 /// holds no ticket then. [`Refusal::Esrch`], [`Refusal::Stale`] and [`Refusal::SameDomain`] are
 /// answers to a move alone.
-#[derive(Clone, Copy, Debug, PartialEq, Eq)]
+#[derive(Clone, Copy, Debug)]
 pub enum Refusal {
     /// EINVAL 22: the task's attributes are not accepted (sched_setattr(2)).
     Einval(AttrRefusal),

@@ -4,7 +4,7 @@ use domain_run::{Log, State};
 use run_figures::Accounting;
 
 /// What a session left.
-#[derive(Debug, Drop)]
+#[derive(Drop)]
 pub struct Report {
     /// The history of each domain, with its CPUs and its limit, in the order of domains.
     pub histories: Vec<Section>,
@@ -21,7 +21,7 @@ pub struct Report {
 }
 
 /// What is wanted of a run, beside its histories.
-#[derive(Clone, Copy, Debug, PartialEq, Eq)]
+#[derive(Clone, Copy)]
 pub enum Wanted {
     /// The states, with their switches.
     Switches,

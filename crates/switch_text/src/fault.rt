@@ -2,7 +2,7 @@ use std::error::Error;
 use std::fmt;
 
 /// Why not all could be written: the writer failed.
-#[derive(Clone, Copy, Debug, PartialEq, Eq)]
+#[derive(Clone, Copy, Debug)]
 pub struct WriteFault {
     /// How many bytes the writer took before its fault.
     pub written: u64,

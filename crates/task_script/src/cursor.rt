@@ -9,7 +9,6 @@ ghost use Rattle.task_script.specs.private.Progress.{passed, at_reference};
 use crate::progress;
 use crate::progress::Progress;
 use crate::script::{Event, Script, Segment};
-use std::fmt;
 use std::marker::Model;
 
 /// A script, how far it has come in it, and its timer reference. In a script without end it stays
@@ -21,17 +20,6 @@ pub struct Cursor {
     reference: u64,
     progress: Progress,
     script: Script,
-}
-
-// The event that comes is left out: it follows from the rest.
-impl fmt::Debug for Cursor {
-    fn fmt<W: fmt::Write>(&self, f: &mut fmt::Formatter<W>) -> fmt::Result {
-        f.debug_struct("Cursor")
-            .field("script", &self.script)
-            .field("progress", &self.progress)
-            .field("reference", &self.reference)
-            .finish()
-    }
 }
 
 impl Model for Cursor {

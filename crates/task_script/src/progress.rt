@@ -11,7 +11,7 @@ use crate::script::{Event, Phase, Script};
 use crate::steps::{event_of_step, laps_of, laps_of_step};
 
 /// What is behind a cursor.
-#[derive(Clone, Copy, Debug)]
+#[derive(Clone, Copy)]
 pub(crate) struct Progress {
     /// Rounds; of a script without end none, as each is like the first.
     round: u32,

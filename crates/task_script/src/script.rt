@@ -75,7 +75,7 @@ impl Model for Script {
 }
 
 /// What a script answers when it is asked.
-#[derive(Clone, Copy, Debug, PartialEq, Eq)]
+#[derive(Clone, Copy)]
 pub enum Segment {
     /// So much work, in microseconds.
     Run(u64),

@@ -5,7 +5,7 @@ use std::thread::SpawnError;
 
 /// A worker was not started, or a growth was refused. What the call worked on is as before, and the
 /// caller can do it with one worker, which needs neither. It prints as `no worker`.
-#[derive(Clone, Copy, Debug, PartialEq, Eq)]
+#[derive(Clone, Copy, Debug)]
 pub struct StartFault;
 
 impl fmt::Display for StartFault {

@@ -1,5 +1,5 @@
 /// A stretch of a task on a CPU.
-#[derive(Clone, Copy, Debug, PartialEq, Eq)]
+#[derive(Clone, Copy)]
 pub struct Run {
     /// When it began, in microseconds.
     pub start: u64,

@@ -124,7 +124,7 @@ pub enum Limit {
 }
 
 /// 40: the history is full. Nothing has changed. It prints as `the history is full`.
-#[derive(Clone, Copy, Debug, PartialEq, Eq)]
+#[derive(Clone, Copy, Debug)]
 pub struct Full;
 
 impl fmt::Display for Full {
@@ -141,7 +141,7 @@ impl Error for Full {}
 
 /// Why [`Domain::advance`] made no tick. Nothing has changed. It prints as `the history is full` or
 /// `out of memory`.
-#[derive(Clone, Copy, Debug, PartialEq, Eq)]
+#[derive(Clone, Copy, Debug)]
 pub enum AdvanceError {
     /// 40: the history is full.
     Full,

@@ -16,7 +16,7 @@ use std::marker::Model;
 
 /// A task that is ready to be admitted, with its own copies of name and script, one for the domain
 /// and one for the history.
-#[derive(Debug, Drop)]
+#[derive(Drop)]
 pub struct Prepared {
     number: u32,
     params: Params,

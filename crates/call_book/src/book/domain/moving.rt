@@ -76,7 +76,7 @@ pub enum Move {
 
 /// Why [`Domain::prepare_move`] prepares nothing. Nothing has changed. It prints as `no such task`
 /// or `out of memory`.
-#[derive(Clone, Copy, Debug, PartialEq, Eq)]
+#[derive(Clone, Copy, Debug)]
 pub enum MoveFault {
     /// ESRCH 3: no task of this number is listed, or it has ended.
     NotListed,
