@@ -1,5 +1,5 @@
 -- What a comparison answers, by what it met.
-use Rattle.std.proofs.Common.{◌≡◌, ℕ, List, [], ◌∷◌, length, take, map, Option, Some, None, refl, sym, ap, ◌∙◌, subst, arith}
+use Rattle.std.proofs.Common.{◌≡◌, ℕ, ◌≤◌, List, [], ◌∷◌, length, take, map, Option, Some, None, refl, sym, ap, ◌∙◌, subst, arith}
 use Rattle.std.specs.Prelude.{IfSome}
 use Rattle.std.proofs.Math.Seq.{take-append_seam}
 use Rattle.std.proofs.lemmas.List.{length-append}
@@ -71,11 +71,15 @@ of_recorded asked s Memory h order unwritten = record { model = order.no_fault; 
 first_names : (old new : List (List ℕ)) → Grows old new → take (length old) new ≡ old
 first_names old new g = ap (λ names. take (length old) names) g.behind ∙ take-append_seam old g.more
 
+-- the model's names are among all
+pub within_names : (old new : List (List ℕ)) (many : ℕ) → many ≡ length old → Grows old new → many ≤ length new
+within_names old new many is g = omega (arith, is, ap length g.behind, length-append old g.more)
+
 pub are_pair : (one other : Option (List ℕ)) (old new : List (List ℕ)) (many : ℕ) (model recorded : List Step) → many ≡ length old → Grows old new → AreReadFrom one [] old model → AreReadFrom other old new recorded → ArePair one other (pair new many model recorded)
 are_pair one other old new many model recorded is g m r =
     let firsts : take many new ≡ old = ap (λ (n : ℕ). take n new) is ∙ first_names old new g in
     record {
-      few = omega (arith, is, ap length g.behind, length-append old g.more);
+      few = within_names old new many is g;
       model = subst (λ (names : List (List ℕ)). AreReadFrom one [] names model) (sym firsts) m;
       recorded = subst (λ (names : List (List ℕ)). AreReadFrom other names new recorded) (sym firsts) r;
     }
