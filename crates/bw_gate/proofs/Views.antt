@@ -4,14 +4,17 @@ use Rattle.std.specs.Prelude.{MatchBool}
 use Rattle.std.specs.List.{sum_by}
 use Rattle.std.proofs.lemmas.Bool.Decides.{when_true, when_false}
 use Rattle.atomic_table.specs.Table.{Me}
-use Rattle.std.proofs.lemmas.List.{length-append}
+use Rattle.std.proofs.lemmas.List.{length-append, append_assoc}
 use Rattle.std.proofs.lemmas.List.Sums.{sum_by-cons, sum_by-append}
 use mathlib.Core.Option.{some, some-injective, some-ne-none}
 use lib.ListN.{get_elem?}
 use Rattle.bw_gate.specs.declared.view.Piece.{Piece}
 use Rattle.bw_gate.specs.declared.view.Piece.TheVariants.{Ticket}
 use Rattle.bw_gate.specs.declared.view.View.{View}
-use Rattle.bw_gate.specs.Pieces.{last_of}
+use Rattle.atomic_table.specs.Seated.{TableId}
+use Rattle.bw_gate.specs.Terms.{TermsView}
+use Rattle.bw_gate.specs.Answers.{blank_found}
+use Rattle.bw_gate.specs.Pieces.{BlankView, last_of}
 use Rattle.bw_gate.specs.Table.{held, held_by, held_by_all, pieces_of_all}
 use Rattle.bw_gate.specs.Kinds.{gathered}
 
@@ -105,6 +108,28 @@ seat_after S me after w p found n none e one more = (
   ap (λ (m : Me S View). m.0.pieces) e ∙ one,
   sym (ap (λ (m : Me S View). last_of m.0.found) e ∙ ap last_of more ∙ last_of_more found n),
 )
+
+-- what a contract sees of a blank, after a step that found more words, and after two that found one each
+abbrev seen_as : TableId → TermsView → List ℕ → BlankView
+seen_as table terms found = record { gate = record { table = table; terms = terms }; found = found }
+
+pub shown_after : (S : Type 0) (b : BlankView) (table now : TableId) (me after : Me S View) (w : View) (words : List ℕ)
+    → seen_as table me.0.terms me.0.found ≡ b → now ≡ table → after ≡ (w, me.1) → w.terms ≡ me.0.terms → w.found ≡ me.0.found ++ words
+    → seen_as now after.0.terms after.0.found ≡ blank_found b words
+shown_after S b table now me after w words view same step terms found =
+    ap (λ (t : TableId). seen_as t after.0.terms after.0.found) same
+    ∙ ap (λ (m : Me S View). seen_as table m.0.terms m.0.found) step
+    ∙ ap (λ (ts : TermsView). seen_as table ts w.found) terms
+    ∙ ap (λ (ns : List ℕ). seen_as table me.0.terms ns) found
+    ∙ ap (λ (x : BlankView). blank_found x words) view
+
+pub shown_twice : (S : Type 0) (b : BlankView) (table now later : TableId) (me mid after : Me S View) (v w : View) (n m k : ℕ)
+    → seen_as table me.0.terms me.0.found ≡ b → now ≡ table → mid ≡ (v, me.1) → v.terms ≡ me.0.terms → v.found ≡ me.0.found ++ n ∷ []
+    → later ≡ now → after ≡ (w, mid.1) → w.terms ≡ mid.0.terms → w.found ≡ mid.0.found ++ m ∷ [] → m ≡ k
+    → seen_as later after.0.terms after.0.found ≡ blank_found b (n ∷ k ∷ [])
+shown_twice S b table now later me mid after v w n m k view same step terms found same_again next kept more is =
+    shown_after S (blank_found b (n ∷ [])) now later mid after w (m ∷ []) (shown_after S b table now me mid v (n ∷ []) view same step terms found) same_again next kept more
+    ∙ ap (λ (ns : List ℕ). seen_as b.gate.table b.gate.terms ns) (append_assoc b.found (n ∷ []) (m ∷ []) ∙ ap (λ (j : ℕ). b.found ++ n ∷ j ∷ []) is)
 
 -- what an exchange tells, where it found the word that it expected, and where it did not
 pub took : (n old : ℕ) (P Q : Type 0) → n ≡ old → MatchBool (n == old) P Q → P

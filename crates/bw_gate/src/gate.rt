@@ -162,7 +162,6 @@ impl Gate {
     /// on for as long as other clients come between. The piece has then found the two words of each
     /// raced try, what the last try found and nothing else: meanwhile nothing was taken, and no
     /// refusal was passed over.
-    #[tactic(auto, using(crate::proofs::Races::not_yet_raced, crate::proofs::Races::take_decided))]
     pub fn take<R: Wait>(&self, rt: &R, mut blank: Blank, domain: usize, bw: u64) -> Take
         requires own { blank.gate ≡ self.now }
         requires inside { domain < length self.now.terms.cpus }
@@ -217,7 +216,6 @@ impl Gate {
     /// Repeats [`Gate::try_regrade`] until it is not raced, and answers as its last try. It may so
     /// go on for as long as other clients come between. The ticket has then found the two words of
     /// each raced try, what the last try found and nothing else.
-    #[tactic(auto, using(crate::proofs::Races::not_yet_changed, crate::proofs::Races::regrade_decided))]
     pub fn regrade<R: Wait>(&self, rt: &R, mut ticket: Ticket, bw: u64) -> Regrade
         requires own { ticket.gate ≡ self.now }
         requires one_cpu { bw ≤ unit }

@@ -1,5 +1,5 @@
 -- A step within one domain, told of the whole list.
-use Rattle.std.proofs.Common.{◌≡◌, ◌<◌, ◌≤◌, ℕ, Bool, true, false, List, length, get_or, Some, None, Result, sym, ap, ◌∙◌, subst, arith, nat_le}
+use Rattle.std.proofs.Common.{◌≡◌, ◌<◌, ◌≤◌, ◌^◌, ℕ, Bool, true, false, List, length, get_or, Some, None, Result, sym, ap, ◌∙◌, subst, arith, nat_le}
 use Rattle.std.specs.Prelude.{position, slice_set, IfOk, OnOk, OnErr}
 use Rattle.std.proofs.lemmas.Bool.Decides.{nat_tests}
 use Rattle.std.proofs.lemmas.List.{set-get_or}
@@ -8,9 +8,9 @@ use Rattle.std.proofs.lemmas.Result.{on_ok_weaker, on_err_weaker}
 use Rattle.no_memory.specs.declared.NoMemory.{NoMemory}
 use Rattle.bw_world.specs.declared.step.Outcome.{Outcome}
 use Rattle.bw_world.specs.declared.step.Word.{Word}
-use Rattle.bw_world.specs.declared.step.Step.TheVariants.{Take}
+use Rattle.bw_world.specs.declared.step.Step.TheVariants.{Take, Limit}
 use Rattle.bw_world.specs.WorldView.{DomainView}
-use Rattle.bw_world.specs.DomainStep.{DomainStep, is_live_in, taken}
+use Rattle.bw_world.specs.DomainStep.{DomainStep, is_live_in, limited, taken}
 use Rattle.bw_world.specs.WorldStep.{WorldStep, misfit, unit, is_live, at_found, at_place, at_home, at_domain, stepped}
 
 -- what a step of a domain makes of the list
@@ -48,3 +48,9 @@ take_is ds seen k id bw expected d live few same told fresh_id within here =
     let fresh : is_live id ds ≡ false = ap (is_live id) (sym same) ∙ sym told ∙ fresh_id in
     let small : nat_le bw unit ≡ true = grind (arith, nat_tests) in
     rw small (rw fresh (at_domain_is ds k d (taken id bw expected) within here))
+
+-- a cap that a word may carry
+pub limit_is : (ds : List DomainView) (k cap : ℕ) (expected : Word) (d : DomainView) → cap ≤ 2 ^ 26 → k < length ds → d ≡ get_or ds k d → stepped (Limit k cap expected) ds ≡ written ds k (limited cap expected d)
+limit_is ds k cap expected d few within here =
+    let small : nat_le cap (2 ^ 26) ≡ true = grind (arith, nat_tests) in
+    rw small (at_domain_is ds k d (limited cap expected) within here)

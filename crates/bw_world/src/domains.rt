@@ -27,7 +27,6 @@ fn home_of(domains: &[Domain], id: u64) -> Option<usize>
 }
 
 // Load, which changes nothing.
-#[tactic(auto, using(crate::proofs::WorldLaw::load_changes_nothing))]
 fn load(domains: &[Domain], domain: usize) -> Outcome
     ensures outcome { result ≡ (stepped (Load domain) domains.now).outcome }
     ensures unchanged { (stepped (Load domain) domains.now).domains ≡ domains.now }

@@ -1,5 +1,5 @@
 -- What a comparison answers, by what it met.
-use Rattle.std.proofs.Common.{◌≡◌, ℕ, List, [], ◌∷◌, length, take, map, Option, Some, None, refl, sym, ap, ◌∙◌, subst, arith}
+use Rattle.std.proofs.Common.{◌≡◌, ℕ, ◌≤◌, List, [], ◌∷◌, length, take, map, Option, Some, None, refl, sym, ap, ◌∙◌, subst, arith, Err}
 use Rattle.std.specs.Prelude.{IfSome}
 use Rattle.std.proofs.Math.Seq.{take-append_seam}
 use Rattle.std.proofs.lemmas.List.{length-append}
@@ -7,7 +7,9 @@ use Rattle.std.specs.Io.KnownBytes.{Keeps}
 use Rattle.recorded_text.specs.declared.step.Step.{Step}
 use Rattle.recorded_text.specs.Steps.{step_view}
 use Rattle.recorded_text.specs.Names.{Grows}
-use Rattle.recorded_text.specs.Text.{IsRead, first_bad, switches_in}
+use Rattle.recorded_text.specs.declared.fault.RecordedFault.{RecordedFault}
+use Rattle.recorded_text.specs.declared.fault.RecordedFault.TheVariants as recorded
+use Rattle.recorded_text.specs.Text.{IsRead, IsFault, faults_after, first_bad, switches_in}
 use Rattle.counted_io.specs.Sides.{Side, HasNoFault, HasOneFault}
 use Rattle.compare_report.specs.declared.fault.CompareFault.{CompareFault}
 use Rattle.compare_report.specs.declared.fault.CompareFault.TheVariants.{BadLine, NoSwitch, Read, Endless, Write, Memory}
@@ -17,7 +19,7 @@ use Rattle.compare_report.specs.declared.options.CompareOptions.{CompareOptions}
 use Rattle.compare_report.specs.Reading.{AreReadFrom, pair, ArePair}
 use Rattle.compare_report.specs.Answer.{Streams, IsUntouched, IsWell, HasBadLine, HasNoSwitch, StopsAt, IsFaultOf, IsReportOf}
 use Rattle.compare_report.specs.Report.{IsReport}
-use Rattle.compare_report.specs.private.Met.{IsTextFault}
+use Rattle.compare_report.specs.private.Met.{IsTextFault, told_of}
 
 keeps : (o : Option (List ℕ)) → Keeps o o
 keeps None = tt
@@ -50,6 +52,13 @@ no_switch s names steps none h fine =
       no_fault = fine;
     }
 
+-- the fault of a reader, told as one of its text
+pub fault_told : (input : Input) (s : Side) (e : RecordedFault) → IfSome s.before.bytes (λ text. IsFault text e) → s.after.faults ≡ faults_after {T = Unit {0}} s.before.faults (Err e) → IsTextFault input s (told_of input e)
+fault_told input s (recorded.BadLine n) h faults = (refl, record { bad = h; no_fault = faults })
+fault_told input s recorded.Read h faults = (refl, faults)
+fault_told input s recorded.Endless h faults = (refl, faults)
+fault_told input s recorded.Memory h faults = faults
+
 -- a fault of the model's text, and one of the recorded one
 pub of_model : (asked : CompareOptions) (s : Streams) (e : CompareFault) → IsTextFault Model s.model e → IsUntouched s.recorded → IsUntouched s.writer → IsFaultOf asked s e
 of_model asked s (BadLine i n) h order unwritten = subst (λ (j : Input). StopsAt j (HasBadLine n) s) (sym h.0) (record { here = h.1; order = order; unwritten = unwritten })
@@ -71,11 +80,15 @@ of_recorded asked s Memory h order unwritten = record { model = order.no_fault; 
 first_names : (old new : List (List ℕ)) → Grows old new → take (length old) new ≡ old
 first_names old new g = ap (λ names. take (length old) names) g.behind ∙ take-append_seam old g.more
 
+-- the model's names are among all
+pub within_names : (old new : List (List ℕ)) (many : ℕ) → many ≡ length old → Grows old new → many ≤ length new
+within_names old new many is g = omega (arith, is, ap length g.behind, length-append old g.more)
+
 pub are_pair : (one other : Option (List ℕ)) (old new : List (List ℕ)) (many : ℕ) (model recorded : List Step) → many ≡ length old → Grows old new → AreReadFrom one [] old model → AreReadFrom other old new recorded → ArePair one other (pair new many model recorded)
 are_pair one other old new many model recorded is g m r =
     let firsts : take many new ≡ old = ap (λ (n : ℕ). take n new) is ∙ first_names old new g in
     record {
-      few = omega (arith, is, ap length g.behind, length-append old g.more);
+      few = within_names old new many is g;
       model = subst (λ (names : List (List ℕ)). AreReadFrom one [] names model) (sym firsts) m;
       recorded = subst (λ (names : List (List ℕ)). AreReadFrom other names new recorded) (sym firsts) r;
     }

@@ -3,3 +3,4 @@ mod OneMore
 mod Lengths
 mod Reports
 mod Answering
+mod Texts

@@ -88,10 +88,17 @@ fn end_line(
     if rest.is_empty() {
         return take_line(alloc, front, names, steps);
     }
-    rest.extend_from_slice(front)?;
-    take_line(alloc, rest.as_slice(), names, steps)?;
-    rest.clear();
-    Ok(())
+    match rest.extend_from_slice(front) {
+        Ok(()) => {}
+        Err(_) => return Err(LineFault::Memory),
+    }
+    match take_line(alloc, rest.as_slice(), names, steps) {
+        Ok(()) => {
+            rest.clear();
+            Ok(())
+        }
+        Err(fault) => Err(fault),
+    }
 }
 
 /// Takes the lines that end in a piece, and keeps what is behind them.

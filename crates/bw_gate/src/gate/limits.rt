@@ -54,7 +54,6 @@ impl Gate {
     /// Repeats [`Gate::try_limit`] until it is not raced, and answers as its last try. It may so go
     /// on for as long as other clients come between. The blank has then found the two words of each
     /// raced try, what the last try found and nothing else.
-    #[tactic(auto, using(crate::proofs::Races::not_yet_set, crate::proofs::Races::limit_decided))]
     pub fn limit<R: Wait>(&self, rt: &R, mut blank: Blank, domain: usize, limit: u64) -> Limit
         requires own { blank.gate ≡ self.now }
         requires inside { domain < length self.now.terms.cpus }

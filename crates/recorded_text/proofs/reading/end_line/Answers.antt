@@ -1,35 +1,64 @@
-use Rattle.std.proofs.Common.{◌≡◌, ◌∙◌, ◌++◌, ◌==◌, List, [], ◌∷◌, ℕ, true, false, refl, arith, length, map, subst}
+use Rattle.std.proofs.Common.{◌≡◌, ◌∙◌, ◌++◌, ◌==◌, List, [], ◌∷◌, ℕ, true, false, refl, arith, length, map, subst, sym, append-nil, Result, Ok, Err}
+use Rattle.std.specs.Prelude.{OnOk}
 use Rattle.std.proofs.lemmas.Bool.Decides.{nat_tests}
 use Rattle.recorded_text.specs.Names.{names_on}
 use Rattle.recorded_text.specs.Steps.{step_view}
 use Rattle.recorded_text.specs.Text.{is_bad_line, told}
+use Rattle.recorded_text.specs.private.SoFar.{Fails}
 use Rattle.recorded_text.proofs.reading.end_line.Goals as goal
 
 no_rest : (rest : List ℕ) (n : ℕ) → n ≡ length rest → true ≡ (n == 0) → rest ≡ []
 no_rest [] n e h = refl
 no_rest (x ∷ rest) n e h = grind (arith, nat_tests)
 
-pub returns-then-is_empty-clause-shown : goal.returns-then-is_empty-clause-shown
-returns-then-is_empty-clause-shown c = rw (no_rest c.args.rest.now.items c.args.rest.now.len (omega (arith, c.args.rest.now.ok.0)) c.if-is_empty.ensures) c.take_line.ensures.shown
+nothing : {T E : Type 0} {rest : List ℕ} (r : Result T E) → rest ≡ [] → OnOk r (rest ≡ [])
+nothing (Ok t) e = e
+nothing (Err f) e = tt
 
-pub returns-then-is_empty-clause-called : goal.returns-then-is_empty-clause-called
-returns-then-is_empty-clause-called c = rw (no_rest c.args.rest.now.items c.args.rest.now.len (omega (arith, c.args.rest.now.ok.0)) c.if-is_empty.ensures) c.take_line.ensures.called
+pub take_line-requires : goal.take_line-requires
+take_line-requires c = c.requires
 
-pub returns-then-is_empty-clause-good : goal.returns-then-is_empty-clause-good
-returns-then-is_empty-clause-good c = rw (no_rest c.args.rest.now.items c.args.rest.now.len (omega (arith, c.args.rest.now.ok.0)) c.if-is_empty.ensures) c.take_line.ensures.good
+pub returns-then-is_empty : goal.returns-then-is_empty
+returns-then-is_empty c =
+    let none = no_rest c.args.rest.now.items c.args.rest.now.len (omega (arith, c.args.rest.now.ok.0)) c.if-is_empty.ensures in
+    let e = c.take_line.ensures in
+    record {
+      shown = rw none e.shown;
+      called = rw none e.called;
+      good = rw none e.good;
+      empty = nothing c.take_line.result none;
+      named = e.named;
+      bad = rw none e.bad;
+      grows = e.grows;
+    }
 
-pub returns-then-is_empty-clause-bad : goal.returns-then-is_empty-clause-bad
-returns-then-is_empty-clause-bad c = rw (no_rest c.args.rest.now.items c.args.rest.now.len (omega (arith, c.args.rest.now.ok.0)) c.if-is_empty.ensures) c.take_line.ensures.bad
+pub returns-in-Err : goal.returns-in-Err
+returns-in-Err c = record { shown = tt; called = tt; good = tt; empty = tt; named = tt; bad = tt; grows = record { more = []; behind = sym (append-nil _) } }
 
-pub returns-clause-shown : goal.returns-clause-shown
-returns-clause-shown c =
-    subst (λ (t : List ℕ). map (step_view c.take_line-2.new.names) c.take_line-2.new.steps.items ≡ map (step_view c.args.names.now) c.args.steps.now.items ++ told t)
-    (c.as_slice.ensures.value ∙ c.in_ok-extend_from_slice.ensures.items) c.in_ok-take_line.ensures.shown
+pub take_line-requires-2 : goal.take_line-requires-2
+take_line-requires-2 c = c.requires
 
-pub returns-clause-called : goal.returns-clause-called
-returns-clause-called c =
-    subst (λ (t : List ℕ). c.take_line-2.new.names ≡ names_on c.args.names.now (told t)) (c.as_slice.ensures.value ∙ c.in_ok-extend_from_slice.ensures.items) c.in_ok-take_line.ensures.called
+pub returns-in-Err-take_line : goal.returns-in-Err-take_line
+returns-in-Err-take_line c = record {
+  shown = tt;
+  called = tt;
+  good = tt;
+  empty = tt;
+  named = tt;
+  bad = subst (λ (t : List ℕ). Fails c.in-Err-take_line.fault t) (c.as_slice.ensures.value ∙ c.in-Ok.ensures.items) c.in-Err-take_line.ensures.bad;
+  grows = c.in-Err-take_line.ensures.grows;
+}
 
-pub returns-clause-good : goal.returns-clause-good
-returns-clause-good c =
-    subst (λ (t : List ℕ). is_bad_line t ≡ false) (c.as_slice.ensures.value ∙ c.in_ok-extend_from_slice.ensures.items) c.in_ok-take_line.ensures.good
+pub returns-in-Ok-take_line : goal.returns-in-Ok-take_line
+returns-in-Ok-take_line c =
+    let e = c.in-Ok-take_line.ensures in
+    let line = c.as_slice.ensures.value ∙ c.in-Ok.ensures.items in
+    record {
+      shown = subst (λ (t : List ℕ). map (step_view c.take_line-2.new.names) c.take_line-2.new.steps.items ≡ map (step_view c.args.names.now) c.args.steps.now.items ++ told t) line e.shown;
+      called = subst (λ (t : List ℕ). c.take_line-2.new.names ≡ names_on c.args.names.now (told t)) line e.called;
+      good = subst (λ (t : List ℕ). is_bad_line t ≡ false) line e.good;
+      empty = c.clear.ensures.items;
+      named = e.named;
+      bad = tt;
+      grows = e.grows;
+    }

@@ -103,3 +103,39 @@ take_piece-requires-clause-few g c = few_ahead c.loop.lines c.loop.counter c.in-
 
 pub slice_bounds-take_piece-end : goal.slice_bounds-take_piece-end
 slice_bounds-take_piece-end g c = sym (length-take-le c.in-Some.n c.read.new.buf c.in-Some.ensures.count)
+
+pub take_line-requires : goal.take_line-requires
+take_line-requires g c = c.loop.invariant.named
+
+pub returns-in-Ok-clause-fault : goal.returns-in-Ok-clause-fault
+returns-in-Ok-clause-fault g c = tt
+
+pub returns-in-Err-Bad-clause-read : goal.returns-in-Err-Bad-clause-read
+returns-in-Err-Bad-clause-read g c = tt
+
+pub returns-in-Err-Bad-clause-named : goal.returns-in-Err-Bad-clause-named
+returns-in-Err-Bad-clause-named g c = tt
+
+pub returns-in-Err-Bad-clause-called : goal.returns-in-Err-Bad-clause-called
+returns-in-Err-Bad-clause-called g c = tt
+
+pub returns-in-Err-Bad-clause-small : goal.returns-in-Err-Bad-clause-small
+returns-in-Err-Bad-clause-small g c = tt
+
+pub take_piece-requires-clause-named : goal.take_piece-requires-clause-named
+take_piece-requires-clause-named g c = c.loop.invariant.named
+
+pub take_piece-requires-clause-rest : goal.take_piece-requires-clause-rest
+take_piece-requires-clause-rest g c = c.loop.invariant.lacks
+
+pub returns-in-Err-clause-read : goal.returns-in-Err-clause-read
+returns-in-Err-clause-read g c = tt
+
+pub returns-in-Err-clause-named : goal.returns-in-Err-clause-named
+returns-in-Err-clause-named g c = tt
+
+pub returns-in-Err-clause-called : goal.returns-in-Err-clause-called
+returns-in-Err-clause-called g c = tt
+
+pub returns-in-Err-clause-small : goal.returns-in-Err-clause-small
+returns-in-Err-clause-small g c = tt

@@ -1,5 +1,5 @@
-use Rattle.std.proofs.Common.{sym, ap}
-use Rattle.recorded_text.specs.Text.{is_bad}
+use Rattle.std.proofs.Common.{◌≡◌, [], append-nil, refl, sym, ap, rules}
+use Rattle.recorded_text.specs.Text.{is_bad, told}
 use Rattle.recorded_text.specs.Views.{switch_view}
 use Rattle.recorded_text.proofs.Stepping.{view_more, line_brings, named_more}
 use Rattle.recorded_text.proofs.reading.take_line.Goals as goal
@@ -18,3 +18,27 @@ returns-in_ok-push-in-Seen-clause-named c =
 
 pub returns-in_ok-push-in-Seen-clause-good : goal.returns-in_ok-push-in-Seen-clause-good
 returns-in_ok-push-in-Seen-clause-good c = ap is_bad (sym c.in-Seen.ensures.value)
+
+pub step_of-requires : goal.step_of-requires
+step_of-requires c = c.in-Seen.ensures.small
+
+pub returns-in-Other : goal.returns-in-Other
+returns-in-Other c =
+    let nothing : told c.args.line.now ≡ [] = search rules in
+    record {
+      shown = rw nothing (sym (append-nil _));
+      called = rw nothing refl;
+      good = ap is_bad (sym c.in-Other.ensures.value);
+      named = c.requires;
+      bad = tt;
+      grows = record { more = []; behind = sym (append-nil _) };
+    }
+
+pub returns-in-Bad : goal.returns-in-Bad
+returns-in-Bad c = record { shown = tt; called = tt; good = tt; named = tt; bad = ap is_bad (sym c.in-Bad.ensures.value); grows = record { more = []; behind = sym (append-nil _) } }
+
+pub returns-in_ok-push-in-Seen-clause-bad : goal.returns-in_ok-push-in-Seen-clause-bad
+returns-in_ok-push-in-Seen-clause-bad c = tt
+
+pub returns-in_ok-push-in-Seen-clause-grows : goal.returns-in_ok-push-in-Seen-clause-grows
+returns-in_ok-push-in-Seen-clause-grows c = c.step_of.ensures.grows

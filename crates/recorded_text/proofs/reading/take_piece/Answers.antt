@@ -1,4 +1,4 @@
-use Rattle.std.proofs.Common.{◌+◌, List, ℕ, ◌++◌, map, take, drop, sym, subst, arith}
+use Rattle.std.proofs.Common.{◌+◌, List, ℕ, ◌++◌, [], append-nil, map, take, drop, refl, sym, subst, arith}
 use Rattle.std.proofs.lemmas.List.{length-drop}
 use Rattle.recorded_text.specs.Steps.{step_view}
 use Rattle.recorded_text.specs.Text.{told}
@@ -37,6 +37,51 @@ loop-i-preserved c =
       grows = grows_on _ _ _ c.loop-i.invariant.grows c.end_line.ensures.grows;
     }
 
-pub returns-in-Ok-extend_from_slice-clause-rest : goal.returns-in-Ok-extend_from_slice-clause-rest
-returns-in-Ok-extend_from_slice-clause-rest c =
-    subst (Lacks 10) (sym c.in-Ok-extend_from_slice.ensures.items) (Lacks-append 10 c.loop-i.rest.items c.loop-i.left.now c.loop-i.invariant.lacks (no_line_from c.loop-i.left.now c.memchr.result c.memchr.ensures c.in_default.not-Some))
+pub loop-i-init : goal.loop-i-init
+loop-i-init c = record { so_far = λ whole after h. h; called = λ first h. h; lacks = c.requires.rest; named = c.requires.named; few = omega arith; grows = record { more = []; behind = sym (append-nil _) } }
+
+pub end_line-requires : goal.end_line-requires
+end_line-requires c = c.loop-i.invariant.named
+
+pub returns-in-Err-Bad-clause-so_far : goal.returns-in-Err-Bad-clause-so_far
+returns-in-Err-Bad-clause-so_far c = tt
+
+pub returns-in-Err-Bad-clause-called : goal.returns-in-Err-Bad-clause-called
+returns-in-Err-Bad-clause-called c = tt
+
+pub returns-in-Err-Bad-clause-not_read : goal.returns-in-Err-Bad-clause-not_read
+returns-in-Err-Bad-clause-not_read c = refl
+
+pub returns-in-Err-Bad-clause-rest : goal.returns-in-Err-Bad-clause-rest
+returns-in-Err-Bad-clause-rest c = tt
+
+pub returns-in-Err-Bad-clause-named : goal.returns-in-Err-Bad-clause-named
+returns-in-Err-Bad-clause-named c = tt
+
+pub returns-in-Err-Bad-clause-few : goal.returns-in-Err-Bad-clause-few
+returns-in-Err-Bad-clause-few c = tt
+
+pub returns-in-Err-Bad-clause-grows : goal.returns-in-Err-Bad-clause-grows
+returns-in-Err-Bad-clause-grows c = grows_on _ _ _ c.loop-i.invariant.grows c.end_line.ensures.grows
+
+pub returns-in-Err-Memory : goal.returns-in-Err-Memory
+returns-in-Err-Memory c = record { so_far = tt; bad = λ whole after h. tt; called = tt; not_read = refl; rest = tt; named = tt; few = tt; grows = grows_on _ _ _ c.loop-i.invariant.grows c.end_line.ensures.grows }
+
+pub returns-in-Ok-extend_from_slice : goal.returns-in-Ok-extend_from_slice
+returns-in-Ok-extend_from_slice c =
+    let was = c.loop-i.invariant in
+    let items = c.in-Ok-extend_from_slice.ensures.items in
+    let found = map (step_view c.loop-i.names) c.loop-i.steps.items in
+    record {
+      so_far = λ whole after h. subst (λ (t : List ℕ). IsSoFar whole (t ++ after) c.loop-i.lines found) (sym items) (was.so_far whole after h);
+      bad = tt;
+      called = was.called;
+      not_read = tt;
+      rest = subst (Lacks 10) (sym items) (Lacks-append 10 c.loop-i.rest.items c.loop-i.left.now was.lacks (no_line_from c.loop-i.left.now c.memchr.result c.memchr.ensures c.in_default.not-Some));
+      named = was.named;
+      few = omega (arith, was.few);
+      grows = was.grows;
+    }
+
+pub returns-in-Err : goal.returns-in-Err
+returns-in-Err c = record { so_far = tt; bad = λ whole after h. tt; called = tt; not_read = refl; rest = tt; named = tt; few = tt; grows = c.loop-i.invariant.grows }

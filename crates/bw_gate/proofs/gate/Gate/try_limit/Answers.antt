@@ -1,11 +1,11 @@
-use Rattle.std.proofs.Common.{◌≡◌, ◌<◌, ◌≤◌, ◌*◌, ◌∷◌, [], length, refl, sym, ap, ◌∙◌, subst, arith}
+use Rattle.std.proofs.Common.{◌≡◌, ℕ, ◌<◌, ◌≤◌, ◌*◌, ◌∷◌, [], length, refl, sym, ap, ◌∙◌, subst, arith}
 use Rattle.bw_gate.specs.declared.view.Piece.TheVariants.{Blank}
-use Rattle.bw_gate.specs.Pieces.{GateId}
+use Rattle.bw_gate.specs.Pieces.{GateId, BlankView, cpus_of}
 use Rattle.bw_gate.specs.Terms.{TermsView, cpus_in}
-use Rattle.bw_gate.specs.Word.{IsWord, word_of}
+use Rattle.bw_gate.specs.Word.{IsWord, word_of, used_of as used_part}
 use Rattle.bw_gate.specs.Kinds.{told}
 use Rattle.bw_gate.proofs.Parts.{of_parts, new_cap}
-use Rattle.bw_gate.proofs.Views.{seat_after, took, missed}
+use Rattle.bw_gate.proofs.Views.{seat_after, shown_after, shown_twice, took, missed}
 use Rattle.bw_gate.proofs.Steps.{loads, limits}
 use Rattle.bw_gate.proofs.gate.Gate.try_limit.Goals as goal
 
@@ -68,3 +68,55 @@ invariant_of-blank-2 c =
     let told_me = c.load-seen.ensures.2.1 in
     let step = missed found c.load-seen.result _ _ c.if-found-seen.false c.compare_exchange-found.ensures.2.1 in
     seat_after _ seat.me c.compare_exchange-found.new.seat.me (told found seat.me.0) Blank seat.me.0.found found (ap (λ (m : _). m.1) told_me ∙ c.blank.invariant.0) step (ap (λ (m : _). m.0.pieces) told_me ∙ c.blank.invariant.1) refl
+
+pub returns-then-used-cap : goal.returns-then-used-cap
+returns-then-used-cap c =
+    let seat = c.blank.inside.seat in
+    let seen = c.load-seen.result in
+    let step = c.load-seen.ensures in
+    let cpus : c.cpus.result ≡ cpus_of c.args.blank.gate c.args.domain = c.cpus.ensures.cpus ∙ ap (λ (g : GateId). cpus_of g c.args.domain) (sym c.requires.own) in
+    record {
+      word = subst (λ (b : BlankView). IsWord (cpus_of b.gate c.args.domain) seen) c.blank.view_is step.2.0.0.word;
+      over = subst (λ (n : ℕ). n * c.args.limit < used_part seen) cpus (subst (λ (u : ℕ). c.cpus.result * c.args.limit < u) c.used_of-used.ensures c.if-used-cap.true);
+      blank = shown_after _ c.args.blank seat.table_id c.load-seen.new.seat.table_id seat.me c.load-seen.new.seat.me (told seen seat.me.0) (seen ∷ []) c.blank.view_is step.0 step.2.1 refl refl;
+    }
+
+pub returns-then-found-seen : goal.returns-then-found-seen
+returns-then-found-seen c =
+    let seat = c.blank.inside.seat in
+    let mid = c.load-seen.new.seat in
+    let after = c.compare_exchange-found.new.seat in
+    let seen = c.load-seen.result in
+    let used = c.used_of-used.result in
+    let new = word_of (c.cpus.result * c.args.limit) used in
+    let step = c.load-seen.ensures in
+    let next = took c.compare_exchange-found.result seen _ _ c.if-found-seen.true c.compare_exchange-found.ensures.2.1 in
+    let cpus : c.cpus.result ≡ cpus_of c.args.blank.gate c.args.domain = c.cpus.ensures.cpus ∙ ap (λ (g : GateId). cpus_of g c.args.domain) (sym c.requires.own) in
+    let is : new ≡ word_of (cpus_of c.args.blank.gate c.args.domain * c.args.limit) (used_part seen) = ap (λ (n : ℕ). word_of (n * c.args.limit) used) cpus ∙ ap (λ (u : ℕ). word_of (cpus_of c.args.blank.gate c.args.domain * c.args.limit) u) c.used_of-used.ensures in
+    record {
+      seen = seen;
+      word = subst (λ (b : BlankView). IsWord (cpus_of b.gate c.args.domain) seen) c.blank.view_is step.2.0.0.word;
+      room = subst (λ (n : ℕ). used_part seen ≤ n * c.args.limit) cpus (subst (λ (u : ℕ). u ≤ c.cpus.result * c.args.limit) c.used_of-used.ensures c.if-used-cap.false);
+      blank = shown_twice _ c.args.blank seat.table_id mid.table_id after.table_id seat.me mid.me after.me (told seen seat.me.0) (told new mid.me.0) seen new _
+          c.blank.view_is step.0 step.2.1 refl refl c.compare_exchange-found.ensures.0 next refl refl is;
+    }
+
+pub returns : goal.returns
+returns c =
+    let seat = c.blank.inside.seat in
+    let mid = c.load-seen.new.seat in
+    let after = c.compare_exchange-found.new.seat in
+    let seen = c.load-seen.result in
+    let found = c.compare_exchange-found.result in
+    let step = c.load-seen.ensures in
+    let next = missed found seen _ _ c.if-found-seen.false c.compare_exchange-found.ensures.2.1 in
+    let cpus : c.cpus.result ≡ cpus_of c.args.blank.gate c.args.domain = c.cpus.ensures.cpus ∙ ap (λ (g : GateId). cpus_of g c.args.domain) (sym c.requires.own) in
+    record {
+      raced = record {
+        word = subst (λ (b : BlankView). IsWord (cpus_of b.gate c.args.domain) seen) c.blank.view_is step.2.0.0.word;
+        room = subst (λ (n : ℕ). used_part seen ≤ n * c.args.limit) cpus (subst (λ (u : ℕ). u ≤ c.cpus.result * c.args.limit) c.used_of-used.ensures c.if-used-cap.false);
+        other = c.if-found-seen.false;
+      };
+      blank = shown_twice _ c.args.blank seat.table_id mid.table_id after.table_id seat.me mid.me after.me (told seen seat.me.0) (told found mid.me.0) seen found found
+          c.blank.view_is step.0 step.2.1 refl refl c.compare_exchange-found.ensures.0 next refl refl refl;
+    }

@@ -1,11 +1,11 @@
 use Rattle.std.proofs.Common.{◌≡◌, ◌<◌, ◌≤◌, ◌+◌, ◌-◌, ◌∷◌, [], length, refl, sym, ap, ◌∙◌, subst, arith}
 use Rattle.bw_gate.specs.declared.view.Piece.TheVariants.{Blank, Ticket}
-use Rattle.bw_gate.specs.Pieces.{GateId}
+use Rattle.bw_gate.specs.Pieces.{GateId, BlankView, cpus_of}
 use Rattle.bw_gate.specs.Terms.{TermsView, cpus_in}
 use Rattle.bw_gate.specs.Word.{IsWord, used_of as used_part, cap_of as cap_part}
 use Rattle.bw_gate.proofs.Parts.{more_used, same_cap}
 use Rattle.bw_gate.specs.Kinds.{told, made}
-use Rattle.bw_gate.proofs.Views.{seat_after, took, missed}
+use Rattle.bw_gate.proofs.Views.{seat_after, shown_after, shown_twice, took, missed}
 use Rattle.bw_gate.proofs.Steps.{loads, takes}
 use Rattle.bw_gate.proofs.gate.Gate.try_take.Goals as goal
 
@@ -71,3 +71,53 @@ invariant_of-blank-2 c =
     let told_me = c.load-seen.ensures.2.1 in
     let step = missed found c.load-seen.result _ _ c.if-found-seen.false c.compare_exchange-found.ensures.2.1 in
     seat_after _ seat.me c.compare_exchange-found.new.seat.me (told found seat.me.0) Blank seat.me.0.found found (ap (λ (m : _). m.1) told_me ∙ c.blank.invariant.0) step (ap (λ (m : _). m.0.pieces) told_me ∙ c.blank.invariant.1) refl
+
+pub returns-then-used_of-bw : goal.returns-then-used_of-bw
+returns-then-used_of-bw c =
+    let seat = c.blank.inside.seat in
+    let seen = c.load-seen.result in
+    let step = c.load-seen.ensures in
+    record {
+      word = subst (λ (b : BlankView). IsWord (cpus_of b.gate c.args.domain) seen) c.blank.view_is step.2.0.0.word;
+      over = omega (arith, c.used_of.ensures, c.cap_of.ensures, c.if-used_of-bw.true);
+      blank = shown_after _ c.args.blank seat.table_id c.load-seen.new.seat.table_id seat.me c.load-seen.new.seat.me (told seen seat.me.0) (seen ∷ []) c.blank.view_is step.0 step.2.1 refl refl;
+    }
+
+pub returns-then-found-seen : goal.returns-then-found-seen
+returns-then-found-seen c =
+    let seat = c.blank.inside.seat in
+    let mid = c.load-seen.new.seat in
+    let after = c.compare_exchange-found.new.seat in
+    let seen = c.load-seen.result in
+    let found = c.compare_exchange-found.result in
+    let d = c.args.domain in
+    let bw = c.args.bw in
+    let step = c.load-seen.ensures in
+    let next = took found seen _ _ c.if-found-seen.true c.compare_exchange-found.ensures.2.1 in
+    record {
+      seen = seen;
+      word = subst (λ (b : BlankView). IsWord (cpus_of b.gate d) seen) c.blank.view_is step.2.0.0.word;
+      room = omega (arith, c.used_of.ensures, c.cap_of.ensures, c.if-used_of-bw.false);
+      ticket = ap (λ (b : BlankView). record { gate = b.gate; domain = d; bw = bw; found = b.found })
+          (shown_twice _ c.args.blank seat.table_id mid.table_id after.table_id seat.me mid.me after.me (told seen seat.me.0) (made (Ticket d ((seen + bw) - seen)) found mid.me.0) seen found seen
+          c.blank.view_is step.0 step.2.1 refl refl c.compare_exchange-found.ensures.0 next refl refl c.if-found-seen.true);
+    }
+
+pub returns : goal.returns
+returns c =
+    let seat = c.blank.inside.seat in
+    let mid = c.load-seen.new.seat in
+    let after = c.compare_exchange-found.new.seat in
+    let seen = c.load-seen.result in
+    let found = c.compare_exchange-found.result in
+    let step = c.load-seen.ensures in
+    let next = missed found seen _ _ c.if-found-seen.false c.compare_exchange-found.ensures.2.1 in
+    record {
+      raced = record {
+        word = subst (λ (b : BlankView). IsWord (cpus_of b.gate c.args.domain) seen) c.blank.view_is step.2.0.0.word;
+        room = omega (arith, c.used_of.ensures, c.cap_of.ensures, c.if-used_of-bw.false);
+        other = c.if-found-seen.false;
+      };
+      blank = shown_twice _ c.args.blank seat.table_id mid.table_id after.table_id seat.me mid.me after.me (told seen seat.me.0) (told found mid.me.0) seen found found
+          c.blank.view_is step.0 step.2.1 refl refl c.compare_exchange-found.ensures.0 next refl refl refl;
+    }

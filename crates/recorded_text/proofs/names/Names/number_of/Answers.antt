@@ -1,4 +1,4 @@
-use Rattle.std.proofs.Common.{◌≡◌, ℕ, List, Some, sym, subst}
+use Rattle.std.proofs.Common.{◌≡◌, ℕ, List, [], Some, append-nil, sym, subst}
 use Rattle.std.specs.Prelude.{slice_get}
 use Rattle.recorded_text.specs.Names.{with_name}
 use Rattle.recorded_text.proofs.Naming.{found_named, stored_named, kept_differ, known_called, new_called, texts}
@@ -25,3 +25,12 @@ returns-in_ok-number-in-None-clause-called c =
     let new = texts c.insert_full.new.self.keys in
     subst (λ (names : List (List ℕ)). new ≡ with_name names c.args.name.now) c.self.view_is
     (new_called c.self.inside.set.keys c.insert_full.new.self.keys c.args.name.now c.in_ok-name-in-None.name (sym c.in-None.ensures.found) c.in_ok-name-in-None.ensures.items c.in_ok-number-in-None.ensures.keys)
+
+pub returns-in-Some-clause-grows : goal.returns-in-Some-clause-grows
+returns-in-Some-clause-grows c = record { more = []; behind = sym (append-nil _) }
+
+pub returns-in-Some-clause-err : goal.returns-in-Some-clause-err
+returns-in-Some-clause-err c = tt
+
+pub returns-in_ok-number-in-None-clause-err : goal.returns-in_ok-number-in-None-clause-err
+returns-in_ok-number-in-None-clause-err c = tt
