@@ -13,7 +13,7 @@ use Rattle.domain_run.specs.declared.call.Call.TheVariants.{Admit}
 use Rattle.domain_run.specs.declared.call.Reply.{Reply}
 use Rattle.domain_run.specs.Domain.{Domain, opened}
 use Rattle.domain_run.specs.Calls.{reply_to}
-use Rattle.domain_run.specs.Run.{replies_to, run_of}
+use Rattle.domain_run.specs.Run.{run_of}
 use Rattle.calls_text.specs.declared.section.Entry.{Entry}
 use Rattle.calls_text.specs.Limits.{IsEntry}
 use Rattle.calls_text.specs.OwnCalls.{IsNumbered}

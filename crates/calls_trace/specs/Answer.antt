@@ -1,5 +1,5 @@
 -- What a replay answers, and what it leaves.
-use Rattle.std.specs.Prelude.{ℕ, ◌≡◌, Bool, true, false, List, IfSome}
+use Rattle.std.specs.Prelude.{ℕ, ◌≡◌, List, IfSome}
 use Rattle.std.specs.Io.KnownBytes.{Appends, Keeps}
 use Rattle.calls_text.specs.SectionView.{SectionView}
 use Rattle.calls_text.specs.Spelling.{spelling}
