@@ -57,6 +57,13 @@ marked_movers places f (x ∷ xs) same =
       | false ↦ ap (λ (ys : List Candidate). x ∷ ys) rest
     ])
 
+-- each mark of a mover is that of a task
+pub mover_within : (places : Places) (xs : List Candidate) (marks : ℕ) → AreMovers xs places marks → (i : ℕ) → bit_at marks i ≡ 1 → i < length xs
+mover_within places xs marks are i e = elim (cases_lt i (length xs)) [
+  | inl within ↦ within
+  | inr past ↦ let none : bit_at marks i ≡ 0 = are i ∙ ap (moves places) (slice_get_past xs i past) in absurd (omega arith)
+]
+
 -- without one mark
 abbrev pub cleared_mark : (ℕ → ℕ) → ℕ → ℕ → ℕ
 cleared_mark f i j = cond (eqb j i) 0 (f j)

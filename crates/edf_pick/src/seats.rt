@@ -32,7 +32,7 @@ pub(crate) fn is_at_home(places: &[Option<u32>], c: &Candidate) -> bool
 fn is_free(places: &[Option<u32>], cpu: usize) -> bool
     ensures { result ≡ spec.is_free (slice_get places.now cpu) }
 {
-    matches!(places.get(cpu), Some(None))
+    cpu < places.len() && places[cpu].is_none()
 }
 
 fn lowest_free(places: &[Option<u32>], taken: u64) -> Option<usize>

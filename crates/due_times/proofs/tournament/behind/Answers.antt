@@ -1,4 +1,5 @@
 use Rattle.std.proofs.Common.{arith}
+use Rattle.std.proofs.lemmas.Grind.{common_steps}
 use Rattle.due_times.proofs.Climbing.{covers_fours, climbs_low, climbs_high, climbs_short}
 use Rattle.due_times.proofs.tournament.behind.Goals as goal
 
@@ -19,3 +20,15 @@ returns-clause-others c = λ node from before within.
     let i = c.loop-at.invariant in
     let below = (i.covers c.loop-at.at i.one).each node (omega (arith, i.low, from)) before within in
     omega (arith, below, i.later)
+
+pub loop-at-init : goal.loop-at-init
+loop-at-init c = grind (arith, common_steps)
+
+pub offset_bounds-nodes-at : goal.offset_bounds-nodes-at
+offset_bounds-nodes-at c = grind (arith, common_steps)
+
+pub bounds-nodes-at : goal.bounds-nodes-at
+bounds-nodes-at c = grind (arith, common_steps)
+
+pub overflow_add-result : goal.overflow_add-result
+overflow_add-result c = grind (arith, common_steps)

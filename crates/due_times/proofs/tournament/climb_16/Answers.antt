@@ -1,4 +1,5 @@
 use Rattle.std.proofs.Common.{◌∙◌, arith}
+use Rattle.std.proofs.lemmas.Grind.{common_steps}
 use Rattle.due_times.proofs.Carrying.{tree_above, tree_whole, low_64}
 use Rattle.due_times.proofs.Descending.{not_16}
 use Rattle.due_times.proofs.tournament.climb_16.Goals as goal
@@ -18,3 +19,15 @@ climb_64-requires-clause-low c = low_64 c.args.half c.args.at c.requires.size c.
 
 pub returns-clause-leaves : goal.returns-clause-leaves
 returns-clause-leaves c = c.climb_64.ensures.leaves ∙ c.carry_on.ensures.leaves
+
+pub carry_on-requires-clause-tree : goal.carry_on-requires-clause-tree
+carry_on-requires-clause-tree c = grind (arith, common_steps)
+
+pub returns-in_default-clause-tree : goal.returns-in_default-clause-tree
+returns-in_default-clause-tree c = grind (arith, common_steps)
+
+pub climb_64-requires-clause-time : goal.climb_64-requires-clause-time
+climb_64-requires-clause-time c = grind (arith, common_steps)
+
+pub returns-clause-tree : goal.returns-clause-tree
+returns-clause-tree c = grind (arith, common_steps)

@@ -1,4 +1,5 @@
 use Rattle.std.proofs.Common.{◌/◌, ◌∙◌, arith}
+use Rattle.std.proofs.lemmas.Grind.{common_steps}
 use Rattle.due_times.proofs.Carrying.{tree_above, tree_whole}
 use Rattle.due_times.proofs.Descending.{not_64}
 use Rattle.due_times.proofs.tournament.climb_64.Goals as goal
@@ -22,3 +23,12 @@ returns-clause-tree c =
 
 pub returns-clause-leaves : goal.returns-clause-leaves
 returns-clause-leaves c = c.carry.ensures.leaves ∙ c.carry_on.ensures.leaves
+
+pub carry_on-requires-clause-tree : goal.carry_on-requires-clause-tree
+carry_on-requires-clause-tree c = grind (arith, common_steps)
+
+pub returns-in_default-clause-tree : goal.returns-in_default-clause-tree
+returns-in_default-clause-tree c = grind (arith, common_steps)
+
+pub carry-requires-clause-time : goal.carry-requires-clause-time
+carry-requires-clause-time c = grind (arith, common_steps)

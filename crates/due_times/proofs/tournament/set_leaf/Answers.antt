@@ -1,5 +1,6 @@
 use Rattle.std.proofs.Common.{◌≡◌, ◌+◌, ◌/◌, ℕ, List, length, ap, sym, subst, ◌∙◌, arith}
 use Rattle.std.proofs.lemmas.List.{length-set, get_or-set_same}
+use Rattle.std.proofs.lemmas.Grind.{common_steps}
 use Rattle.due_times.specs.Timers.{IsSize}
 use Rattle.due_times.proofs.Carrying.{leaf_changed, leaf_within, leaves_set, tree_above, tree_whole, low_16}
 use Rattle.due_times.proofs.Descending.{most_256, not_four, some_four}
@@ -93,3 +94,9 @@ pub returns-in_default-clause-leaves : goal.returns-in_default-clause-leaves
 returns-in_default-clause-leaves c =
     let half = c.half_of-half.ensures ∙ ap (λ (ns : List ℕ). length ns / 2) c.deref.ensures.value in
     c.carry_on.ensures.leaves ∙ leaves_set c.args.nodes.now.items c.half_of-half.result c.args.leaf c.args.time half
+
+pub index_mut-requires : goal.index_mut-requires
+index_mut-requires c = grind (arith, common_steps)
+
+pub returns-clause-tree : goal.returns-clause-tree
+returns-clause-tree c = grind (arith, common_steps)

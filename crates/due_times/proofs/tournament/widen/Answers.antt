@@ -19,3 +19,15 @@ returns-clause-leaves c =
     c.build.ensures.leaves ∙ ap (λ n. drop n new) place
     ∙ widened old c.add_never.new.nodes.items new half two c.add_never.ensures.nodes eight c.copy_leaves.ensures.copied
     ∙ ap (λ n. drop n old ++ replicate (3 * half) (2 ^ 64 - 1)) half_is ∙ ap (λ n. leaves old ++ replicate (3 * n) (2 ^ 64 - 1)) count
+
+pub copy_leaves-requires : goal.copy_leaves-requires
+copy_leaves-requires c = grind (arith, common_steps)
+
+pub build-requires-clause-fours : goal.build-requires-clause-fours
+build-requires-clause-fours c = grind (arith, common_steps)
+
+pub returns-clause-tree : goal.returns-clause-tree
+returns-clause-tree c = grind (arith, common_steps)
+
+pub returns-clause-length : goal.returns-clause-length
+returns-clause-length c = grind (arith, common_steps)

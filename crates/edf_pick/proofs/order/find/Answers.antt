@@ -1,5 +1,6 @@
 use Rattle.std.proofs.Common.{◌≡◌, ℕ, true, false, get_or, sym, ◌∙◌, ap, arith}
 use Rattle.std.specs.List.{remove}
+use Rattle.std.proofs.lemmas.Grind.{common_steps}
 use Rattle.edf_pick.specs.declared.candidate.Candidate.{Candidate}
 use Rattle.edf_pick.specs.Order.{has_candidate, is_same}
 use Rattle.edf_pick.proofs.Rising.{place, without_place, absent_place, without_absent}
@@ -36,3 +37,9 @@ returns-clause-there c = sym (absent c)
 
 pub returns-clause-nowhere : goal.returns-clause-nowhere
 returns-clause-nowhere c = without_absent c.args.c.now c.args.queue.now (absent c)
+
+pub place_of-place-requires : goal.place_of-place-requires
+place_of-place-requires c = grind (arith, common_steps)
+
+pub returns-then-is_same-clause-there : goal.returns-then-is_same-clause-there
+returns-then-is_same-clause-there c = grind (arith, common_steps)

@@ -2,6 +2,7 @@ use Rattle.std.proofs.Common.{◌≡◌, ◌<◌, ◌∙◌, ℕ, true, false, c
 use Rattle.std.specs.Int.{bit_at}
 use Rattle.std.proofs.lemmas.Bool.{cases_eq}
 use Rattle.std.proofs.lemmas.List.{get_or_default}
+use Rattle.std.proofs.lemmas.Grind.{common_steps}
 use Rattle.edf_pick.specs.declared.candidate.Candidate.{Candidate}
 use Rattle.edf_pick.specs.private.First.{is_home}
 use Rattle.edf_pick.proofs.Marked.{nobody, homes_more, homes_seen, seen_more, all_seen}
@@ -56,3 +57,6 @@ returns-clause-homes c = λ k d h home.
     let chosen = c.args.chosen.now in
     let same : get_or chosen k nobody ≡ get_or chosen k d = get_or_default chosen k nobody d h in
     subst (λ (x : Candidate). bit_at c.loop-i.homes x.home ≡ 1) same (c.loop-i.invariant.homes k (omega arith) (ap (λ (x : Candidate). is_home c.args.places.now x) same ∙ home))
+
+pub with-homes-requires : goal.with-homes-requires
+with-homes-requires c = grind (arith, common_steps)

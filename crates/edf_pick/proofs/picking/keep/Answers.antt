@@ -3,6 +3,7 @@ use Rattle.std.specs.Int.{bit_at}
 use Rattle.std.proofs.lemmas.Bool.{cases_eq}
 use Rattle.std.proofs.lemmas.List.{get_or-set_same, get_or-set_other}
 use Rattle.std.proofs.lemmas.Nat.Bits.{bit_at-zero}
+use Rattle.std.proofs.lemmas.Grind.{common_steps}
 use Rattle.edf_pick.specs.Places.{Places}
 use Rattle.edf_pick.specs.private.First.{staying, marked}
 use Rattle.edf_pick.proofs.Marked.{kept_all}
@@ -43,3 +44,9 @@ returns-clause-places c =
     let done : c.cpus.ahead ≡ 0 = omega arith in
     kept_all c.args.chosen.now c.args.places.now.items c.cpus.places.items (omega (arith, c.cpus.invariant.len))
     (λ cpu. c.cpus.invariant.kept cpu (ap (λ (m : ℕ). bit_at m cpu) done ∙ bit_at-zero cpu))
+
+pub keep_at-marks-requires-clause-within : goal.keep_at-marks-requires-clause-within
+keep_at-marks-requires-clause-within c = grind (arith, common_steps)
+
+pub keep_at-marks-requires-clause-movers : goal.keep_at-marks-requires-clause-movers
+keep_at-marks-requires-clause-movers c = grind (arith, common_steps)

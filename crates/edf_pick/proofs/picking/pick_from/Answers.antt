@@ -2,8 +2,8 @@ use Rattle.std.proofs.Common.{◌≡◌, ◌∙◌, ℕ, List, map, take, vec_le
 use Rattle.std.specs.Int.{bit_at}
 use Rattle.edf_pick.specs.declared.candidate.Candidate.{Candidate}
 use Rattle.edf_pick.specs.Places.{Places, AreSingle}
-use Rattle.edf_pick.specs.private.First.{staying, marked, seated_all, AreLeaving}
-use Rattle.edf_pick.proofs.Marked.{moved, single_kept, single_all}
+use Rattle.edf_pick.specs.private.First.{staying, marked, seated_all, AreMovers, AreLeaving}
+use Rattle.edf_pick.proofs.Marked.{moved, mover_within, single_kept, single_all}
 use Rattle.edf_pick.proofs.picking.pick_from.Goals as goal
 
 pub keep-kept-requires-clause-leaving : goal.keep-kept-requires-clause-leaving
@@ -30,3 +30,15 @@ returns-clause-single c =
     subst (λ (ps : Places). AreSingle ps) (sym c.keep-kept.ensures.places) (single_kept chosen c.args.places.now.items c.requires.single) in
     subst (λ (ps : Places). AreSingle ps) (sym c.seat_marked-now.ensures.places)
     (single_all (marked (bit_at c.args.marks.movers) chosen) c.keep-kept.new.places.items kept)
+
+pub keep-kept-requires-clause-movers : goal.keep-kept-requires-clause-movers
+keep-kept-requires-clause-movers c =
+    let first = c.first_of-chosen.ensures ∙ ap (λ (k : ℕ). take k c.args.queue.now) c.len.ensures in
+    mover_within c.args.places.now.items c.first_of-chosen.result.now c.args.marks.movers
+    (subst (λ (xs : List Candidate). AreMovers xs c.args.places.now.items c.args.marks.movers) (sym first) c.requires.movers)
+
+pub seat_marked-now-requires-clause-within : goal.seat_marked-now-requires-clause-within
+seat_marked-now-requires-clause-within c =
+    let first = c.first_of-chosen.ensures ∙ ap (λ (k : ℕ). take k c.args.queue.now) c.len.ensures in
+    mover_within c.args.places.now.items c.first_of-chosen.result.now c.args.marks.movers
+    (subst (λ (xs : List Candidate). AreMovers xs c.args.places.now.items c.args.marks.movers) (sym first) c.requires.movers)

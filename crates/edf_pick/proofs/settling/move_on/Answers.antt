@@ -1,6 +1,7 @@
 use Rattle.std.proofs.Common.{◌≡◌, ◌∙◌, None, false, get_or, sym, ap, subst, arith, inl, inr}
 use Rattle.std.specs.Prelude.{All}
 use Rattle.std.specs.Int.{bit_at}
+use Rattle.std.proofs.lemmas.Grind.{common_steps}
 use Rattle.edf_pick.specs.Places.{Places, AreSingle, stands, taken}
 use Rattle.edf_pick.specs.private.Waiting.{staying_on, AreOn}
 use Rattle.edf_pick.proofs.Marked.{single_all}
@@ -56,3 +57,6 @@ returns-clause-differ c = λ cpu e.
       | inl went ↦ inl (sym (c.requires.taken cpu) ∙ c.beyond-2.ensures.here cpu went)
       | inr came ↦ inr (sym (c.seat_all-now.ensures.taken cpu) ∙ c.beyond-3.ensures.here cpu came)
     ])
+
+pub clear-kept-requires-clause-within : goal.clear-kept-requires-clause-within
+clear-kept-requires-clause-within c = grind (arith, common_steps)

@@ -1,5 +1,6 @@
 use Rattle.std.proofs.Common.{◌≡◌, length, take, sym, ap, ◌∙◌, arith}
 use Rattle.std.proofs.lemmas.List.{length-take}
+use Rattle.std.proofs.lemmas.Grind.{common_steps}
 use Rattle.due_times.specs.Timers.{least}
 use Rattle.due_times.proofs.Leaves.{least_later, least_first, first_within}
 use Rattle.due_times.proofs.timers.Timers.next_due.Goals as goal
@@ -21,3 +22,12 @@ returns-then-first-from-clause-most c =
     let within = first_within t count c.args.time first.result c.self.invariant.never first.ensures.others first.ensures.within first.ensures.come in
     let long : length (take count t) ≡ length c.args.self.now = ap length c.self.view_is in
     omega (arith, within, c.self.invariant.fits, long, length-take count t)
+
+pub least-requires : goal.least-requires
+least-requires c = grind (arith, common_steps)
+
+pub returns-then-first-from-clause-others : goal.returns-then-first-from-clause-others
+returns-then-first-from-clause-others c = grind (arith, common_steps)
+
+pub returns-then-first-from-clause-due : goal.returns-then-first-from-clause-due
+returns-then-first-from-clause-due c = grind (arith, common_steps)
