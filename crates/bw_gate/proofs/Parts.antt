@@ -37,3 +37,10 @@ new_cap cpus limit used few h le =
       within = omega (arith, p.0, p.1, le);
       cap = record { limit = limit; a_limit = h; product = p.1 };
     }
+
+-- room in the place of what is held, and want of it, under other names of the same numbers
+pub room_in : (u v c d was held bw : ℕ) → u ≡ v → c ≡ d → was ≡ held → u - was + bw ≤ c → v - held + bw ≤ d
+room_in u v c d was held bw used cap same h = subst (λ n. v - n + bw ≤ d) same (subst (λ n. n - was + bw ≤ d) used (subst (λ n. u - was + bw ≤ n) cap h))
+
+pub over_in : (u v c d was held bw : ℕ) → u ≡ v → c ≡ d → was ≡ held → c < u - was + bw → d < v - held + bw
+over_in u v c d was held bw used cap same h = subst (λ n. d < v - n + bw) same (subst (λ n. d < n - was + bw) used (subst (λ n. n < u - was + bw) cap h))

@@ -13,8 +13,8 @@ use Rattle.bw_gate.specs.declared.view.Piece.TheVariants.{Ticket}
 use Rattle.bw_gate.specs.declared.view.View.{View}
 use Rattle.atomic_table.specs.Seated.{TableId}
 use Rattle.bw_gate.specs.Terms.{TermsView}
-use Rattle.bw_gate.specs.Answers.{blank_found}
-use Rattle.bw_gate.specs.Pieces.{BlankView, last_of}
+use Rattle.bw_gate.specs.Answers.{blank_found, ticket_found}
+use Rattle.bw_gate.specs.Pieces.{BlankView, TicketView, last_of}
 use Rattle.bw_gate.specs.Table.{held, held_by, held_by_all, pieces_of_all}
 use Rattle.bw_gate.specs.Kinds.{gathered}
 
@@ -130,6 +130,26 @@ pub shown_twice : (S : Type 0) (b : BlankView) (table now later : TableId) (me m
 shown_twice S b table now later me mid after v w n m k view same step terms found same_again next kept more is =
     shown_after S (blank_found b (n ∷ [])) now later mid after w (m ∷ []) (shown_after S b table now me mid v (n ∷ []) view same step terms found) same_again next kept more
     ∙ ap (λ (ns : List ℕ). seen_as b.gate.table b.gate.terms ns) (append_assoc b.found (n ∷ []) (m ∷ []) ∙ ap (λ (j : ℕ). b.found ++ n ∷ j ∷ []) is)
+
+-- what a contract sees of a ticket, after a load and an exchange
+abbrev pub blank_of : TicketView → BlankView
+blank_of t = record { gate = t.gate; found = t.found }
+
+abbrev pub as_ticket : BlankView → ℕ → ℕ → TicketView
+as_ticket b d bw = record { gate = b.gate; domain = d; bw = bw; found = b.found }
+
+pub ticket_shown : (S : Type 0) (t u : TicketView) (d bw own : ℕ) (table now : TableId) (me after : Me S View) (w : View) (n m k : ℕ)
+    → seen_as table me.0.terms me.0.found ≡ blank_of u → u ≡ ticket_found t (n ∷ []) → d ≡ u.domain → bw ≡ own
+    → now ≡ table → after ≡ (w, me.1) → w.terms ≡ me.0.terms → w.found ≡ me.0.found ++ m ∷ [] → m ≡ k
+    → as_ticket (seen_as now after.0.terms after.0.found) d bw ≡ as_ticket (blank_found (blank_of t) (n ∷ k ∷ [])) t.domain own
+ticket_shown S t u d bw own table now me after w n m k view is domain held same step terms found known =
+    let first : seen_as table me.0.terms me.0.found ≡ blank_found (blank_of t) (n ∷ []) = view ∙ ap blank_of is in
+    let both : seen_as now after.0.terms after.0.found ≡ blank_found (blank_of t) (n ∷ k ∷ []) =
+    shown_after S (blank_found (blank_of t) (n ∷ [])) table now me after w (m ∷ []) first same step terms found
+    ∙ ap (λ (ns : List ℕ). seen_as t.gate.table t.gate.terms ns) (append_assoc t.found (n ∷ []) (m ∷ []) ∙ ap (λ (j : ℕ). t.found ++ n ∷ j ∷ []) known) in
+    ap (λ (b : BlankView). as_ticket b d bw) both
+    ∙ ap (λ (e : ℕ). as_ticket (blank_found (blank_of t) (n ∷ k ∷ [])) e bw) (domain ∙ ap (λ (x : TicketView). x.domain) is)
+    ∙ ap (λ (e : ℕ). as_ticket (blank_found (blank_of t) (n ∷ k ∷ [])) t.domain e) held
 
 -- what an exchange tells, where it found the word that it expected, and where it did not
 pub took : (n old : ℕ) (P Q : Type 0) → n ≡ old → MatchBool (n == old) P Q → P

@@ -1,5 +1,5 @@
 -- A text of parts that were put one behind another.
-use Rattle.std.proofs.Common.{◌≡◌, ℕ, List, ◌++◌, append_assoc, refl, ap, ◌∙◌, Result, Ok, Err}
+use Rattle.std.proofs.Common.{◌≡◌, ℕ, List, ◌++◌, append_assoc, ap, ◌∙◌, Result, Ok, Err}
 use Rattle.std.specs.Prelude.{OnOk}
 
 -- one more part in front of those that follow

@@ -3,10 +3,10 @@ use Rattle.bw_gate.specs.declared.view.Piece.TheVariants.{Ticket}
 use Rattle.bw_gate.specs.Pieces.{GateId, TicketView}
 use Rattle.bw_gate.specs.Terms.{TermsView, cpus_in}
 use Rattle.bw_gate.specs.Word.{IsWord, used_of as used_part, cap_of as cap_part}
-use Rattle.bw_gate.proofs.Parts.{other_used, same_cap}
+use Rattle.bw_gate.proofs.Parts.{other_used, over_in, room_in, same_cap}
 use Rattle.bw_gate.specs.Table.{held_by}
 use Rattle.bw_gate.specs.Kinds.{told, made}
-use Rattle.bw_gate.proofs.Views.{seat_after, took, missed, held_one, held_here}
+use Rattle.bw_gate.proofs.Views.{seat_after, blank_of, ticket_shown, took, missed, held_one, held_here}
 use Rattle.bw_gate.proofs.Steps.{regrades}
 use Rattle.bw_gate.proofs.gate.Gate.try_regrade.Goals as goal
 
@@ -55,3 +55,49 @@ invariant_of-ticket-else-found-seen c =
     let step = missed found c.load-seen.result _ _ c.if-found-seen.false c.compare_exchange-found.ensures.2.1 in
     let s = seat_after _ seat.me c.compare_exchange-found.new.seat.me (told found seat.me.0) (Ticket d c.ticket.inside.bw) seat.me.0.found found c.ticket.invariant.0 step c.ticket.invariant.1 refl in
     (s.0, s.1, s.2, subst (λ (t : TermsView). d < length t.cpus) (sym (ap (λ (m : _). m.0.terms) step)) c.ticket.invariant.3, c.ticket.invariant.4)
+
+pub returns-then-used_of-ticket : goal.returns-then-used_of-ticket
+returns-then-used_of-ticket c =
+    let load = c.load-seen.ensures.load in
+    let held : c.ticket.inside.bw ≡ c.args.ticket.bw = ap (λ (t : TicketView). t.bw) c.ticket.view_is ∙ ap (λ (t : TicketView). t.bw) load.ticket in
+    record { held = load.room; word = load.word; over = over_in _ _ _ _ _ _ c.args.bw c.used_of.ensures c.cap_of.ensures held c.if-used_of-ticket.true; ticket = load.ticket }
+
+pub returns-then-found-seen : goal.returns-then-found-seen
+returns-then-found-seen c =
+    let seat = c.ticket.inside.seat in
+    let after = c.compare_exchange-found.new.seat in
+    let d = c.ticket.inside.domain in
+    let was = c.ticket.inside.bw in
+    let seen = c.load-seen.result in
+    let found = c.compare_exchange-found.result in
+    let load = c.load-seen.ensures.load in
+    let held : c.ticket.inside.bw ≡ c.args.ticket.bw = ap (λ (t : TicketView). t.bw) c.ticket.view_is ∙ ap (λ (t : TicketView). t.bw) load.ticket in
+    let step = took found seen _ _ c.if-found-seen.true c.compare_exchange-found.ensures.2.1 in
+    record {
+      seen = seen;
+      word = load.word;
+      held = load.room;
+      room = room_in _ _ _ _ _ _ c.args.bw c.used_of.ensures c.cap_of.ensures held c.if-used_of-ticket.false;
+      ticket = ticket_shown _ c.args.ticket c.load-seen.new.ticket d c.args.bw c.args.bw seat.table_id after.table_id seat.me after.me (made (Ticket d ((seen - was + c.args.bw) + held_by d seat.me.0 - seen)) found seat.me.0) seen found seen
+          (ap blank_of c.ticket.view_is) load.ticket (ap (λ (t : TicketView). t.domain) c.ticket.view_is) refl c.compare_exchange-found.ensures.0 step refl refl c.if-found-seen.true;
+    }
+
+pub returns : goal.returns
+returns c =
+    let seat = c.ticket.inside.seat in
+    let after = c.compare_exchange-found.new.seat in
+    let seen = c.load-seen.result in
+    let found = c.compare_exchange-found.result in
+    let load = c.load-seen.ensures.load in
+    let held : c.ticket.inside.bw ≡ c.args.ticket.bw = ap (λ (t : TicketView). t.bw) c.ticket.view_is ∙ ap (λ (t : TicketView). t.bw) load.ticket in
+    let step = missed found seen _ _ c.if-found-seen.false c.compare_exchange-found.ensures.2.1 in
+    record {
+      raced = record {
+        word = load.word;
+        held = load.room;
+        room = room_in _ _ _ _ _ _ c.args.bw c.used_of.ensures c.cap_of.ensures held c.if-used_of-ticket.false;
+        other = c.if-found-seen.false;
+      };
+      ticket = ticket_shown _ c.args.ticket c.load-seen.new.ticket c.ticket.inside.domain c.ticket.inside.bw c.args.ticket.bw seat.table_id after.table_id seat.me after.me (told found seat.me.0) seen found found
+          (ap blank_of c.ticket.view_is) load.ticket (ap (λ (t : TicketView). t.domain) c.ticket.view_is) held c.compare_exchange-found.ensures.0 step refl refl refl;
+    }

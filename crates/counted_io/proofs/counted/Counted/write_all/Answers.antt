@@ -1,4 +1,4 @@
-use Rattle.std.proofs.Common.{◌≡◌, ◌≤◌, ◌<◌, ◌+◌, ◌^◌, ℕ, length, arith, ap, ◌∙◌, subst, sym}
+use Rattle.std.proofs.Common.{◌≡◌, ◌<◌, ◌+◌, ◌^◌, ℕ, length, arith, ap, ◌∙◌, subst, sym}
 use Rattle.counted_io.specs.Calls.{IsWriting}
 use Rattle.counted_io.proofs.Known.{Appends-next, Appends-all, Appends-kept, rest_length}
 use Rattle.counted_io.proofs.Asked.{write_on, write_stop}
