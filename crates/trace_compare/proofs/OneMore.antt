@@ -1,8 +1,10 @@
 -- One more element of a list that is looked at, or made.
 use borrow.Author.Count.{below_more}
-use Rattle.std.proofs.Common.{ℕ, ◌≡◌, ◌+◌, ◌<◌, ◌≤◌, List, [], ◌∷◌, ◌++◌, length, reverse, get_or, All, length-append, refl, sym, ap, ◌∙◌, subst, arith}
+use Rattle.std.proofs.Common.{ℕ, ◌≡◌, ◌+◌, ◌<◌, ◌≤◌, List, [], ◌∷◌, ◌++◌, length, reverse, get_or, All, length-append, append-nil, take, refl, sym, ap, ◌∙◌, subst, arith}
 use Rattle.std.proofs.Math.ListN.{get_or-append}
-use Rattle.std.proofs.lemmas.List.{get_or_default, get_or_push}
+use Rattle.std.proofs.lemmas.List.{get_or_default, get_or_push, take_more}
+use Rattle.std.proofs.lemmas.Grind.{flat_map-append}
+use Rattle.std.specs.List.{flat_map}
 use Rattle.std.proofs.lemmas.List.Elements.{All-push}
 use Rattle.std.specs.declared.vec.Vec.{Vec}
 use Rattle.std.specs.Global.{Global}
@@ -56,3 +58,9 @@ least_moves f xs n i here least j d h = let a = here d in let b = least j d h in
 
 pub least_here : (f : Run → ℕ) (xs : List Run) (i : ℕ) → ((j : ℕ) (d : Run) → j < i → f (get_or xs i d) < f (get_or xs j d)) → (j : ℕ) (d : Run) → j < i + 1 → f (get_or xs i d) ≤ f (get_or xs j d)
 least_here f xs i first j d h = below_more (λ k. f (get_or xs i d) ≤ f (get_or xs k d)) i (λ k b. let a = first k d b in omega (arith, a)) (omega arith) j h
+
+-- what each element gives, one after the other
+pub flat_told : {A : Type 0} (f : A → List ℕ) (before after : List ℕ) (xs : List A) (i : ℕ) (x : A) → i < length xs → x ≡ get_or xs i x → before ≡ flat_map f (take i xs) → after ≡ before ++ f x → after ≡ flat_map f (take (i + 1) xs)
+flat_told f before after xs i x within here b a =
+    a ∙ ap (λ ys. ys ++ f x) b ∙ ap (λ ys. flat_map f (take i xs) ++ ys) (sym (append-nil (f x))) ∙ sym (flat_map-append f (take i xs) (x ∷ []))
+    ∙ ap (λ (y : _). flat_map f (take i xs ++ y ∷ [])) here ∙ ap (flat_map f) (sym (take_more xs i x within))
