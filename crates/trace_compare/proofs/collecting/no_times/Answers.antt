@@ -1,14 +1,12 @@
-use Rattle.std.proofs.Common.{◌≡◌, None, All, refl, sym, subst, arith}
+use Rattle.std.proofs.Common.{◌≡◌, ◌+◌, ◌∙◌, None, All, refl, sym, ap, subst}
 use Rattle.std.proofs.lemmas.List.Elements.{All-push}
 use Rattle.trace_compare.proofs.collecting.no_times.Goals as goal
 
 pub loop-preserved : goal.loop-preserved
 loop-preserved c =
     let v = c.loop.invariant in
-    let many = v.many in
-    let more = c.in_ok-push.ensures.len in
     record {
-      many = omega (arith, many, more);
+      many = c.in_ok-push.ensures.len ∙ ap (λ n. n + 1) v.many;
       none = subst (All (λ t. t ≡ None)) (sym c.in_ok-push.ensures.items) (All-push (λ t. t ≡ None) c.loop.times.items None v.none refl);
     }
 

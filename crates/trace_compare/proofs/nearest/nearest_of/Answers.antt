@@ -20,9 +20,9 @@ loop-i-preserved c =
     let there : (d : Run) → c.far.result ≡ far_from c.args.shift c.args.m.now (get_or rs i d) = λ d. c.far.ensures ∙ ap f (get_or_default rs i _ d (omega arith)) in
     let here : (d : Run) → c.far-in-loop-i.result ≡ far_from c.args.shift c.args.m.now (get_or rs n d) = λ d. c.far-in-loop-i.ensures ∙ ap f (get_or_default rs n _ d (omega arith)) in
     elim c.if-far.branch [
-      then-far w ↦
+      | then-far w ↦
           let first = least_moves f rs n i (λ d. let a = there d in let b = here d in omega (arith, a, b, w.if-far.true)) v.least in
           rw w.nearest-is (record { within = omega arith; least = least_here f rs i first; first = first })
-    | else-far w ↦
+      | else-far w ↦
           rw w.nearest-is (record { within = omega arith; least = least_stays f rs n i (λ d. let a = there d in let b = here d in omega (arith, a, b, w.if-far.false)) v.least; first = v.first })
     ]
