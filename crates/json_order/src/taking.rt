@@ -185,7 +185,9 @@ pub(crate) fn behind_char<'a>(c: char, rest: &'a str) -> Option<&'a str>
     ensures { IfSome result (λ after. rest.now ≡ encode_utf8 c ++ after.now) }
 {
     let mut chars = rest.chars();
-    let first = chars.next()?;
+    let Some(first) = chars.next() else {
+        return None;
+    };
     if first != c {
         return None;
     }

@@ -1,5 +1,5 @@
 -- Which of the shifts is the best.
-use Rattle.std.proofs.Common.{◌≡◌, ℕ, ◌+◌, ◌<◌, ◌≤◌, ⊎_elim, List, [], ◌∷◌, ◌++◌, length, get_or, take, sym, ap, ◌∙◌, arith, subst, map, append_assoc, All, Contains}
+use Rattle.std.proofs.Common.{◌≡◌, ℕ, ◌+◌, ◌^◌, ◌<◌, ◌≤◌, ⊎_elim, List, [], ◌∷◌, ◌++◌, length, get_or, take, sym, ap, ◌∙◌, arith, subst, map, append_assoc, All, Contains}
 use Rattle.std.proofs.lemmas.Bool.{cases_lt}
 use Rattle.std.proofs.lemmas.Grind.{get_or_default_zero}
 use Rattle.std.proofs.lemmas.List.{take_more, map-append}
@@ -29,6 +29,9 @@ better_step f xs i a b r l h here score better =
           (λ last. let at : get_or xs k 0 ≡ b.shift = sym (here ∙ ap (λ (n : ℕ). get_or xs n 0) (omega (arith, last, lt))) in let same : f (get_or xs k 0) ≡ f b.shift = ap f at in let one = better.least_b (omega (arith, same, score, e)) in omega (arith, one, at))
           (cases_lt k i);
     }
+
+pub better_small : (a b r : Choice) → IsBetter a b r → a.shift < 2 ^ 62 → b.shift < 2 ^ 62 → r.shift < 2 ^ 62
+better_small a b r better first second = ⊎_elim (λ e. subst (λ (c : Choice). c.shift < 2 ^ 62) (sym e) first) (λ e. subst (λ (c : Choice). c.shift < 2 ^ 62) (sym e) second) better.one
 
 pub best_in_all : (f : ℕ → ℕ) (xs : List ℕ) (i : ℕ) (best : Choice) → length xs ≤ i → IsBestSoFar f xs i best → IsBestOf f xs best.shift
 best_in_all f xs i best l h =

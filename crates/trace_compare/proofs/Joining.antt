@@ -99,6 +99,12 @@ none_turn runs e = subst InTurn (sym e) none_in_turn
 pub short_later : (raw : List Run) (first : Run) (later : List Run) (i : ℕ) (d : Run) → raw ≡ first ∷ later → All IsShort raw → i < length later → IsShort (get_or later i d)
 short_later raw first later i d e all l = let here : All IsShort (first ∷ later) = subst (All IsShort) e all in here (suc i) d (omega (arith, l))
 
+pub short_first : (raw : List Run) (first : Run) (later : List Run) → raw ≡ first ∷ later → All IsShort raw → IsShort first
+short_first raw first later e all = let here : All IsShort (first ∷ later) = subst (All IsShort) e all in here 0 first (omega arith)
+
+pub none_short : (runs : List Run) → runs ≡ [] → All IsShort runs
+none_short runs e = subst (All IsShort) (sym e) (λ i d h. absurd (omega (arith, h)))
+
 -- all runs were taken, and the last one is closed
 pub all_told : (noise : ℕ) (raw runs after : List Run) (current first : Run) (later : List Run) (i : ℕ) → raw ≡ first ∷ later → length later ≤ i → after ≡ runs ++ kept noise (current ∷ []) → runs ++ kept noise (joined_on noise current (drop i later)) ≡ kept noise (joined_on noise first later) → after ≡ runs_of noise raw
 all_told noise raw runs after current first later i e l closed told =

@@ -6,3 +6,4 @@ mod SideBySide
 mod Pairing
 mod Reaching
 mod Walking
+pub mod OneMore

@@ -1,4 +1,6 @@
-use Rattle.std.proofs.Common.{arith, ◌∙◌, ◌++◌, sym, ap, append-nil, Some, None}
+use Rattle.std.proofs.Common.{arith, ◌∙◌, ◌++◌, All, drop, sym, ap, subst, append-nil, Some, None}
+use Rattle.std.proofs.lemmas.List.Elements.{All-append, All-drop}
+use Rattle.trace_compare.specs.Runs.{IsShort}
 use Rattle.trace_compare.specs.Pairs.{fits}
 use Rattle.trace_compare.proofs.Walking.{turn_more, walk_fit, walk_early, walk_late, left_of_fit, left_of_early, left_of_late, partners_one, left_one, partners_model_end, left_model_end, told_pushed, told_same, rest_of, partner_pushed, run_pushed}
 use Rattle.trace_compare.proofs.pairs.match_runs.Goals as goal
@@ -68,3 +70,12 @@ pub returns-clause-left : goal.returns-clause-left
 returns-clause-left c =
     let all = left_model_end (fits c.args.within c.args.shift) c.args.ms.now c.args.rs.now c.rest.i c.loop-i.j c.rest-test.false in
     c.in_ok-extend_from_slice.ensures.items ∙ ap (λ rs. c.loop-i.left.items ++ rs) (rest_of c.loop-i.j c.args.rs.now ∙ sym all) ∙ c.rest.invariant.left
+
+pub returns-clause-sound : goal.returns-clause-sound
+returns-clause-sound c =
+    let v = c.rest.invariant in
+    record {
+      partners = v.short;
+      left = subst (All IsShort) (sym (c.in_ok-extend_from_slice.ensures.items ∙ ap (λ rs. c.loop-i.left.items ++ rs) (rest_of c.loop-i.j c.args.rs.now)))
+          (All-append IsShort c.loop-i.left.items (drop c.loop-i.j c.args.rs.now) v.left_short (All-drop IsShort c.loop-i.j c.args.rs.now c.requires.recorded));
+    }

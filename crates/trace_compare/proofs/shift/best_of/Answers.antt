@@ -1,7 +1,23 @@
 use Rattle.std.specs.Prelude.{sum_by}
+use Rattle.std.proofs.Common.{get_or, refl}
+use Rattle.trace_compare.specs.declared.shift.Choice.{Choice}
 use Rattle.trace_compare.specs.Shift.{task_score}
-use Rattle.trace_compare.proofs.Choosing.{best_in_all}
+use Rattle.trace_compare.proofs.Choosing.{better_step, better_small, best_in_all}
 use Rattle.trace_compare.proofs.shift.best_of.Goals as goal
 
 pub returns-clause-best : goal.returns-clause-best
 returns-clause-best c = best_in_all (λ s. sum_by (task_score c.args.within c.args.share s) c.args.tasks.now) c.args.shifts.now c.loop-shift.shift-index c.loop-shift.best c.loop-shift-test.false c.loop-shift.invariant.best
+
+pub loop-shift-preserved : goal.loop-shift-preserved
+loop-shift-preserved c =
+    let v = c.loop-shift.invariant in
+    let xs = c.args.shifts.now in
+    let i = c.loop-shift.shift-index in
+    let next : Choice = record { shift = get_or xs i 0; score = c.score_of-in-loop-shift.result } in
+    record {
+      best = better_step (λ s. sum_by (task_score c.args.within c.args.share s) c.args.tasks.now) xs i c.loop-shift.best next c.better-best.result c.loop-shift-test.true v.best refl c.score_of-in-loop-shift.ensures c.better-best.ensures;
+      small = better_small c.loop-shift.best next c.better-best.result c.better-best.ensures v.small (c.requires.small i 0 c.loop-shift-test.true);
+    }
+
+pub returns-clause-small : goal.returns-clause-small
+returns-clause-small c = c.loop-shift.invariant.small
