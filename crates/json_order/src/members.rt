@@ -134,28 +134,15 @@ pub(crate) fn add_last_member(
     add_member(list, 1, key, value)
 }
 
-/// One set, of the keys of these members.
-fn one_set(list: &Vec<(String, Tree)>) -> Result<Vec<KeySet>, JsonKind>
-    ensures some { IfOk result (λ sets. 0 < length sets.items) }
-    ensures ok { IfOk result (λ sets. (d : KeySet)
-        → HasKeys (slice_index_or sets.items 0 d) (keys_of list.now.items)) }
-    ensures err { IfErr result (λ k. k ≡ Memory) }
-{
-    let alloc = *list.allocator();
-    let mut sets = Vec::with_capacity(alloc, 1)?;
-    sets.push(set_of(alloc, list)?)?;
-    Ok(sets)
-}
-
 /// The members of a list, with a set of their keys.
 fn with_set(list: Vec<(String, Tree)>) -> Result<Members, JsonKind>
     ensures ok { IfOk result (λ m. m.list.items ≡ list.items) }
     ensures err { IfErr result (λ k. k ≡ Memory) }
 {
-    match one_set(&list) {
-        Ok(sets) => Ok(Members { list, sets }),
-        Err(kind) => Err(kind),
-    }
+    let alloc = *list.allocator();
+    let mut sets = Vec::with_capacity(alloc, 1)?;
+    sets.push(set_of(alloc, &list)?)?;
+    Ok(Members { list, sets })
 }
 
 /// The members with one more behind them, where their keys stand in a set.
