@@ -1,9 +1,11 @@
 //! The command, as clap wants it.
 
-ghost use Rattle.std.specs.Prelude.{◌≡◌, ◌^◌, neg_ℤ, pos, IfOk, Some, codes, false};
+ghost use Rattle.std.specs.Prelude.{◌≡◌, ◌<◌, ◌+◌, ◌^◌, List, [], ◌∷◌, neg_ℤ, pos, IfOk, OnOk, Some, codes, false, fold, vec_capacity, vec_len};
 ghost use Rattle.clap.specs.declared.builder.value_parser.ValueParser.TheVariants.{Signed, Unsigned};
-ghost use Rattle.clap.specs.Words.{rule_of};
-ghost use Rattle.command_line.specs.Commands.{AreTexts, HeldNames, IsCompare, IsProgram, IsReplay, IsRun, counted, file, flag, moment, option, print_option, replay_texts, run_texts, tested};
+ghost use Rattle.clap.specs.declared.builder.command.Command.{Command};
+ghost use Rattle.clap.specs.Words.{Rule, new_app, rule_of, with_rule};
+ghost use Rattle.command_line.specs.Commands.{AreTexts, HeldNames, IsCompare, IsProgram, IsReplay, IsRun, compare_options, counted, file, flag, moment, option, print_option, replay_options, replay_texts, run_options, run_texts, tested};
+ghost use Rattle.command_line.specs.private.Made.{Adds, AreInTurn, IsMade, IsOption};
 
 use crate::texts::{
     ABOUT, ABOUT_END, CLIENTS_HELP, COMPARE_ABOUT, COMPARE_END, CPUS_HELP, DOMAINS_HELP, FROM_HELP,
@@ -156,65 +158,106 @@ fn shift<'a>(alloc: Global) -> Arg<'a>
     tested(alloc, "shift", test, SHIFT_HELP)
 }
 
-/// The command that runs a scenario. An option is made where it is added, so that none has to be
-/// let go where memory runs out.
-fn run_command<'a>(alloc: Global) -> Result<Command<'a>, AllocError>
-    ensures { IfOk result IsRun }
+/// The options of `run`, in the order of the help.
+fn run_options<'a>(alloc: Global) -> Result<Vec<Arg<'a>>, AllocError>
+    ensures { IfOk result (λ made. (names : HeldNames) × AreTexts run_texts names
+        × AreInTurn IsOption made.items (run_options names)) }
 {
-    Command::new(alloc, "run")
-        .about(RUN_ABOUT)
-        .after_help(RUN_END)
-        .arg(option(alloc, "domains", "LIST", "1", DOMAINS_HELP))?
-        .arg(counted(alloc, "rt-runtime", MOST_TIME, "950000", RUNTIME_HELP))?
-        .arg(counted(alloc, "rt-period", MOST_TIME, "1000000", PERIOD_HELP))?
-        .arg(counted(alloc, "clients", MOST_CLIENTS, "1", CLIENTS_HELP))?
-        .arg(counted(alloc, "workers", MOST_WORKERS, "1", WORKERS_HELP))?
-        .arg(flag(alloc, "reclaim", RECLAIM_HELP))?
-        .arg(print_run(alloc))?
-        .arg(moment(alloc, "from", FROM_HELP))?
-        .arg(moment(alloc, "to", TO_HELP))
+    let mut options = Vec::with_capacity(alloc, 9)?;
+    options.push_reserved(option(alloc, "domains", "LIST", "1", DOMAINS_HELP));
+    options.push_reserved(counted(alloc, "rt-runtime", MOST_TIME, "950000", RUNTIME_HELP));
+    options.push_reserved(counted(alloc, "rt-period", MOST_TIME, "1000000", PERIOD_HELP));
+    options.push_reserved(counted(alloc, "clients", MOST_CLIENTS, "1", CLIENTS_HELP));
+    options.push_reserved(counted(alloc, "workers", MOST_WORKERS, "1", WORKERS_HELP));
+    options.push_reserved(flag(alloc, "reclaim", RECLAIM_HELP));
+    options.push_reserved(print_run(alloc));
+    options.push_reserved(moment(alloc, "from", FROM_HELP));
+    options.push_reserved(moment(alloc, "to", TO_HELP));
+    Ok(options)
 }
 
-/// The command that replays recorded calls.
-fn replay_command<'a>(alloc: Global) -> Result<Command<'a>, AllocError>
-    ensures { IfOk result IsReplay }
+/// The options of `replay`, in the order of the help.
+fn replay_options<'a>(alloc: Global) -> Result<Vec<Arg<'a>>, AllocError>
+    ensures { IfOk result (λ made. (names : HeldNames) × AreTexts replay_texts names
+        × AreInTurn IsOption made.items (replay_options names)) }
 {
-    Command::new(alloc, "replay")
-        .about(REPLAY_ABOUT)
-        .after_help(REPLAY_END)
-        .arg(print_replay(alloc))?
-        .arg(moment(alloc, "from", FROM_HELP))?
-        .arg(moment(alloc, "to", TO_HELP))
+    let mut options = Vec::with_capacity(alloc, 3)?;
+    options.push_reserved(print_replay(alloc));
+    options.push_reserved(moment(alloc, "from", FROM_HELP));
+    options.push_reserved(moment(alloc, "to", TO_HELP));
+    Ok(options)
 }
 
-/// The command that compares two traces.
-fn compare_command<'a>(alloc: Global) -> Result<Command<'a>, AllocError>
-    ensures { IfOk result IsCompare }
+/// The files and the options of `compare`, in the order of the help.
+fn compare_options<'a>(alloc: Global) -> Result<Vec<Arg<'a>>, AllocError>
+    ensures { IfOk result (λ made. AreInTurn IsOption made.items compare_options) }
 {
-    Command::new(alloc, "compare")
-        .about(COMPARE_ABOUT)
-        .after_help(COMPARE_END)
-        .arg(file(alloc, "MODEL", MODEL_HELP))?
-        .arg(file(alloc, "RECORDED", RECORDED_HELP))?
-        .arg(within(alloc))?
-        .arg(noise(alloc))?
-        .arg(shift(alloc))?
-        .arg(flag(alloc, "cpus", CPUS_HELP))
+    let mut options = Vec::with_capacity(alloc, 6)?;
+    options.push_reserved(file(alloc, "MODEL", MODEL_HELP));
+    options.push_reserved(file(alloc, "RECORDED", RECORDED_HELP));
+    options.push_reserved(within(alloc));
+    options.push_reserved(noise(alloc));
+    options.push_reserved(shift(alloc));
+    options.push_reserved(flag(alloc, "cpus", CPUS_HELP));
+    Ok(options)
+}
+
+/// Adds a command with what help says of it, and with its options.
+fn add_command<'a>(
+    alloc: Global,
+    commands: &mut Vec<Command<'a>>,
+    name: &'a str,
+    about: &'a str,
+    end: &'a str,
+    options: Vec<Arg<'a>>,
+) -> Result<(), AllocError>
+    requires room { vec_len commands.old < vec_capacity commands.old }
+    ensures added { OnOk result ((rules : List Rule)
+        → AreInTurn IsOption options.entry.items rules
+        → Adds (λ made. IsMade made (fold with_rule (new_app name.now) rules))
+        commands.old.items commands.new.items) }
+    ensures len { OnOk result (vec_len commands.new ≡ vec_len commands.old + 1) }
+    ensures capacity { vec_capacity commands.new ≡ vec_capacity commands.old }
+{
+    let command = Command::new(alloc, name)
+        .about(about)
+        .after_help(end)
+        .args(options)?;
+    commands.push_reserved(command);
+    Ok(())
+}
+
+/// The three commands, in the order of the help.
+fn subcommands<'a>(alloc: Global) -> Result<Vec<Command<'a>>, AllocError>
+    ensures { IfOk result (λ made. (run replay compare : Command) × IsRun run × IsReplay replay
+        × IsCompare compare × (made.items ≡ run ∷ replay ∷ compare ∷ [])) }
+{
+    let mut all = Vec::with_capacity(alloc, 3)?;
+    let options = run_options(alloc)?;
+    add_command(alloc, &mut all, "run", RUN_ABOUT, RUN_END, options)?;
+    let options = replay_options(alloc)?;
+    add_command(alloc, &mut all, "replay", REPLAY_ABOUT, REPLAY_END, options)?;
+    let options = compare_options(alloc)?;
+    add_command(
+        alloc,
+        &mut all,
+        "compare",
+        COMPARE_ABOUT,
+        COMPARE_END,
+        options,
+    )?;
+    Ok(all)
 }
 
 /// The whole command. It is finished before anything is asked of it, as clap wants it.
 pub(crate) fn program<'a>(alloc: Global) -> Result<Command<'a>, AllocError>
     ensures { IfOk result IsProgram }
 {
-    let run = run_command(alloc)?;
-    let replay = replay_command(alloc)?;
-    let compare = compare_command(alloc)?;
+    let commands = subcommands(alloc)?;
     Command::new(alloc, "dlsim")
         .about(ABOUT)
         .after_help(ABOUT_END)
         .subcommand_required(true)
-        .subcommand(run)?
-        .subcommand(replay)?
-        .subcommand(compare)?
+        .subcommands(commands)?
         .bin_name("dlsim")
 }
