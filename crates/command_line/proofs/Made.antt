@@ -1,12 +1,14 @@
 -- How a command is put together: what clap reads of it after each step, while no argument is global.
-use Rattle.std.proofs.Common.{◌≡◌, ◌∙◌, ◌||◌, List, [], ◌∷◌, ◌++◌, false, fold, ap, ap₂, subst, sym}
+use Rattle.std.proofs.Common.{◌≡◌, ◌∙◌, ◌||◌, ◌+◌, ◌<◌, ℕ, List, [], ◌∷◌, ◌++◌, length, map, take, get_or, false, fold, ap, ap₂, subst, sym}
+use Rattle.std.proofs.lemmas.List.{map-append, take_more}
 use Rattle.clap.specs.Words.{AddsArg, AddsInTurn, AddsSubcommand, App, Rule, app_of, rule_of, with_rule, with_subcommand}
 use Rattle.clap.specs.Simple.{app_of_fields}
 use Rattle.clap.specs.declared.builder.arg.Arg.{Arg}
 use Rattle.clap.specs.declared.builder.command.Command.{Command}
 use Rattle.clap.specs.declared.builder.command.Command.TheOpen.{Command-F}
 use Rattle.clap.specs.declared.builder.command.Command.TheViews.{out-Command}
-use Rattle.command_line.specs.private.Made.{AreInTurn, IsMade, IsOption}
+use Rattle.command_line.specs.private.Made.{AreInTurn, IsMade, IsOption, of_choice}
+use Rattle.command_line.specs.declared.command.Choice.{Choice}
 
 -- one more at the end of both lists
 pub one_more : {X Y : Type 0} (is : X → Y → Type 0) (xs : List X) (ys : List Y) (x : X) (y : Y) → AreInTurn is xs ys → is x y
@@ -16,11 +18,14 @@ one_more is [] (other ∷ ys) x y all one = absurd all
 one_more is (other ∷ xs) [] x y all one = absurd all
 one_more is (first ∷ xs) (second ∷ ys) x y all one = (all.0, one_more is xs ys x y all.1 one)
 
--- one more in the list of options
-pub listed : (old new : List Arg) (rules : List Rule) (arg : Arg) (rule : Rule) → AreInTurn IsOption old rules → rule_of arg ≡ rule → arg.global ≡ false
-    → new ≡ old ++ arg ∷ [] → AreInTurn IsOption new (rules ++ rule ∷ [])
-listed old new rules arg rule all is local items =
-    subst (λ args. AreInTurn IsOption args (rules ++ rule ∷ [])) (sym items) (one_more IsOption old rules arg rule all (record { is = is; local = local }))
+-- one more choice made
+pub choices_more : (made : List Arg) (one : Arg) (choices : List Choice) (i : ℕ) (default : Choice) → i < length choices
+    → IsOption one (of_choice (get_or choices i default)) → AreInTurn IsOption made (map of_choice (take i choices))
+    → AreInTurn IsOption (made ++ one ∷ []) (map of_choice (take (i + 1) choices))
+choices_more made one choices i default inside option so_far =
+    let last = get_or choices i default in
+    let same = sym (map-append of_choice (take i choices) (last ∷ [])) ∙ ap (map of_choice) (sym (take_more choices i default inside)) in
+    subst (AreInTurn IsOption (made ++ one ∷ [])) same (one_more IsOption made (map of_choice (take i choices)) one (of_choice last) so_far option)
 
 -- a setting that clap reads as `now`
 pub changed : (old new : Command) (fields : Command-F Command) (app now : App) → out-Command new ≡ fields → app_of_fields fields ≡ now
