@@ -1,9 +1,10 @@
 //! The command, as clap wants it.
 
-ghost use Rattle.std.specs.Prelude.{◌≡◌, ◌^◌, neg_ℤ, pos, IfOk, Some, codes, false};
-ghost use Rattle.clap.specs.declared.builder.value_parser.ValueParser.TheVariants.{Signed, Unsigned};
-ghost use Rattle.clap.specs.Words.{rule_of};
-ghost use Rattle.command_line.specs.Commands.{AreTexts, HeldNames, IsCompare, IsProgram, IsReplay, IsRun, counted, file, flag, moment, option, print_option, replay_texts, run_texts, tested};
+ghost use Rattle.std.specs.Prelude.{◌≡◌, ◌<◌, ◌+◌, [], ◌∷◌, IfOk, OnOk, Some, false, fold, map, vec_capacity, vec_len};
+ghost use Rattle.clap.specs.declared.builder.command.Command.{Command};
+ghost use Rattle.clap.specs.Words.{new_app, rule_of, with_rule};
+ghost use Rattle.command_line.specs.Commands.{AreTexts, IsCompare, IsProgram, IsReplay, IsRun, compare_options, file, flag, option, replay_options, replay_texts, run_options, run_texts, tested};
+ghost use Rattle.command_line.specs.private.Made.{Adds, AreInTurn, IsMade, IsOption, names_in, of_choice};
 
 use crate::texts::{
     ABOUT, ABOUT_END, CLIENTS_HELP, COMPARE_ABOUT, COMPARE_END, CPUS_HELP, DOMAINS_HELP, FROM_HELP,
@@ -38,6 +39,88 @@ const RUN_TEXTS: [&str; 7] = [
 
 const REPLAY_TEXTS: [&str; 6] = ["trace", "replies", "events", "jobs", "summary", "chart"];
 
+/// What a command may be told: its name, then the word that help has for its value, its default and
+/// its test, as far as it has them, and its help.
+#[derive(Clone, Copy)]
+enum Choice<'a> {
+    /// An option with a default, whose value is any text.
+    Open(&'a str, &'a str, &'a str, &'a str),
+    /// An option with a default, whose value passes a test.
+    Checked(&'a str, &'a str, &'a str, ValueParser<'a>, &'a str),
+    /// An option with no default, whose value passes a test.
+    Tested(&'a str, ValueParser<'a>, &'a str),
+    /// A flag.
+    Flag(&'a str, &'a str),
+    /// A file, named by its place among the words.
+    File(&'a str, &'a str),
+}
+
+/// Microseconds.
+const A_TIME: ValueParser<'static> = ValueParser::Unsigned(0, MOST_TIME);
+
+/// Microseconds, which are not none.
+const A_LIMIT: ValueParser<'static> = ValueParser::Unsigned(1, MOST_TIME);
+
+/// A time of the run.
+const A_MOMENT: ValueParser<'static> = ValueParser::Unsigned(0, LAST_MOMENT);
+
+// The lists are in the order of the help. They and the long texts are no constants, which would be
+// written out, for the prover, wherever they are named.
+static RUN_CHOICES: [Choice<'static>; 9] = [
+    Choice::Open("domains", "LIST", "1", DOMAINS_HELP),
+    Choice::Checked("rt-runtime", "N", "950000", A_LIMIT, RUNTIME_HELP),
+    Choice::Checked("rt-period", "N", "1000000", A_LIMIT, PERIOD_HELP),
+    Choice::Checked(
+        "clients",
+        "N",
+        "1",
+        ValueParser::Unsigned(1, MOST_CLIENTS),
+        CLIENTS_HELP,
+    ),
+    Choice::Checked(
+        "workers",
+        "N",
+        "1",
+        ValueParser::Unsigned(1, MOST_WORKERS),
+        WORKERS_HELP,
+    ),
+    Choice::Flag("reclaim", RECLAIM_HELP),
+    Choice::Checked(
+        "print",
+        "TEXT",
+        "trace",
+        ValueParser::Names(&RUN_TEXTS),
+        PRINT_HELP,
+    ),
+    Choice::Tested("from", A_MOMENT, FROM_HELP),
+    Choice::Tested("to", A_MOMENT, TO_HELP),
+];
+
+static REPLAY_CHOICES: [Choice<'static>; 3] = [
+    Choice::Checked(
+        "print",
+        "TEXT",
+        "trace",
+        ValueParser::Names(&REPLAY_TEXTS),
+        PRINT_HELP,
+    ),
+    Choice::Tested("from", A_MOMENT, FROM_HELP),
+    Choice::Tested("to", A_MOMENT, TO_HELP),
+];
+
+static COMPARE_CHOICES: [Choice<'static>; 6] = [
+    Choice::File("MODEL", MODEL_HELP),
+    Choice::File("RECORDED", RECORDED_HELP),
+    Choice::Checked("within", "US", "1000", A_TIME, WITHIN_HELP),
+    Choice::Tested("noise", A_TIME, NOISE_HELP),
+    Choice::Tested(
+        "shift",
+        ValueParser::Signed(LEAST_SHIFT, MOST_SHIFT),
+        SHIFT_HELP,
+    ),
+    Choice::Flag("cpus", CPUS_HELP),
+];
+
 /// An option with one value, which has a default.
 fn option<'a>(
     alloc: Global,
@@ -56,32 +139,20 @@ fn option<'a>(
         .help(help)
 }
 
-/// An option whose value is a number from 1 on.
-fn counted<'a>(alloc: Global, name: &'a str, most: u64, default: &'a str, help: &'a str) -> Arg<'a>
-    ensures rule { rule_of result ≡ counted name.now most default.now }
+/// An option whose value passes a test, and which has a default.
+fn checked<'a>(
+    alloc: Global,
+    name: &'a str,
+    value: &'a str,
+    default: &'a str,
+    test: ValueParser<'a>,
+    help: &'a str,
+) -> Arg<'a>
+    ensures rule { rule_of result
+        ≡ record (option name.now default.now) { parser = Some test.entry } }
     ensures local { result.global ≡ false }
 {
-    option(alloc, name, "N", default, help).value_parser(ValueParser::unsigned(1, most))
-}
-
-/// The option that says what is written of a run.
-fn print_run<'a>(alloc: Global) -> Arg<'a>
-    ensures rule { (names : HeldNames) × AreTexts run_texts names
-        × (rule_of result ≡ print_option names) }
-    ensures local { result.global ≡ false }
-{
-    option(alloc, "print", "TEXT", "trace", PRINT_HELP).value_parser(ValueParser::Names(&RUN_TEXTS))
-}
-
-/// The option that says what is written of a replay.
-fn print_replay<'a>(alloc: Global) -> Arg<'a>
-    ensures rule { (names : HeldNames) × AreTexts replay_texts names
-        × (rule_of result ≡ print_option names) }
-    ensures local { result.global ≡ false }
-{
-    option(alloc, "print", "TEXT", "trace", PRINT_HELP).value_parser(ValueParser::Names(
-        &REPLAY_TEXTS,
-    ))
+    option(alloc, name, value, default, help).value_parser(test)
 }
 
 /// A flag, which takes no value.
@@ -118,103 +189,115 @@ fn tested<'a>(alloc: Global, name: &'a str, test: ValueParser<'a>, help: &'a str
         .value_parser(test)
 }
 
-/// An option that names a time of the run.
-fn moment<'a>(alloc: Global, name: &'a str, help: &'a str) -> Arg<'a>
-    ensures rule { rule_of result ≡ moment name.now }
-    ensures local { result.global ≡ false }
+/// An option, a flag or a file, as clap wants it.
+fn made<'a>(alloc: Global, choice: &Choice<'a>) -> Arg<'a>
+    ensures { IsOption result (of_choice choice.now) }
 {
-    tested(alloc, name, ValueParser::unsigned(0, LAST_MOMENT), help)
+    match *choice {
+        Choice::Open(name, value, default, help) => option(alloc, name, value, default, help),
+        Choice::Checked(name, value, default, test, help) => {
+            checked(alloc, name, value, default, test, help)
+        }
+        Choice::Tested(name, test, help) => tested(alloc, name, test, help),
+        Choice::Flag(name, help) => flag(alloc, name, help),
+        Choice::File(name, help) => file(alloc, name, help),
+    }
 }
 
-/// The option that says how near a match is.
-fn within<'a>(alloc: Global) -> Arg<'a>
-    ensures rule { rule_of result ≡ record (option (codes "within") (codes "1000"))
-        { parser = Some (Unsigned 0 1000000000) } }
-    ensures local { result.global ≡ false }
+/// What a command may be told, as clap wants it.
+fn all_made<'a>(alloc: Global, choices: &[Choice<'a>]) -> Result<Vec<Arg<'a>>, AllocError>
+    ensures { IfOk result (λ all. AreInTurn IsOption all.items (map of_choice choices.now)) }
 {
-    option(alloc, "within", "US", "1000", WITHIN_HELP).value_parser(ValueParser::unsigned(
-        0, MOST_TIME,
-    ))
+    let mut all = Vec::with_capacity(alloc, choices.len())?;
+    for choice in choices {
+        all.push_reserved(made(alloc, choice));
+    }
+    Ok(all)
 }
 
-/// The option that says which runs are noise.
-fn noise<'a>(alloc: Global) -> Arg<'a>
-    ensures rule { rule_of result ≡ tested (codes "noise") (Unsigned 0 1000000000) }
-    ensures local { result.global ≡ false }
+/// What `run` may be told.
+fn run_choices() -> &'static [Choice<'static>]
+    ensures texts { AreTexts run_texts (names_in result.now) }
+    ensures rules { map of_choice result.now ≡ run_options (names_in result.now) }
 {
-    let test = ValueParser::unsigned(0, MOST_TIME);
-    tested(alloc, "noise", test, NOISE_HELP)
+    &RUN_CHOICES
 }
 
-/// The option that says how far the two clocks are apart.
-fn shift<'a>(alloc: Global) -> Arg<'a>
-    ensures rule { rule_of result
-        ≡ tested (codes "shift") (Signed (neg_ℤ (pos (2 ^ 60))) (pos (2 ^ 60))) }
-    ensures local { result.global ≡ false }
+/// What `replay` may be told.
+fn replay_choices() -> &'static [Choice<'static>]
+    ensures texts { AreTexts replay_texts (names_in result.now) }
+    ensures rules { map of_choice result.now ≡ replay_options (names_in result.now) }
 {
-    let test = ValueParser::signed(LEAST_SHIFT, MOST_SHIFT);
-    tested(alloc, "shift", test, SHIFT_HELP)
+    &REPLAY_CHOICES
 }
 
-/// The command that runs a scenario. An option is made where it is added, so that none has to be
-/// let go where memory runs out.
-fn run_command<'a>(alloc: Global) -> Result<Command<'a>, AllocError>
-    ensures { IfOk result IsRun }
+/// What `compare` may be told.
+fn compare_choices() -> &'static [Choice<'static>]
+    ensures { map of_choice result.now ≡ compare_options }
 {
-    Command::new(alloc, "run")
-        .about(RUN_ABOUT)
-        .after_help(RUN_END)
-        .arg(option(alloc, "domains", "LIST", "1", DOMAINS_HELP))?
-        .arg(counted(alloc, "rt-runtime", MOST_TIME, "950000", RUNTIME_HELP))?
-        .arg(counted(alloc, "rt-period", MOST_TIME, "1000000", PERIOD_HELP))?
-        .arg(counted(alloc, "clients", MOST_CLIENTS, "1", CLIENTS_HELP))?
-        .arg(counted(alloc, "workers", MOST_WORKERS, "1", WORKERS_HELP))?
-        .arg(flag(alloc, "reclaim", RECLAIM_HELP))?
-        .arg(print_run(alloc))?
-        .arg(moment(alloc, "from", FROM_HELP))?
-        .arg(moment(alloc, "to", TO_HELP))
+    &COMPARE_CHOICES
 }
 
-/// The command that replays recorded calls.
-fn replay_command<'a>(alloc: Global) -> Result<Command<'a>, AllocError>
-    ensures { IfOk result IsReplay }
+/// Adds a command with what help says of it, and with what it may be told.
+fn add_command<'a>(
+    alloc: Global,
+    commands: &mut Vec<Command<'a>>,
+    name: &'a str,
+    about: &'a str,
+    end: &'a str,
+    choices: &[Choice<'a>],
+) -> Result<(), AllocError>
+    requires room { vec_len commands.old < vec_capacity commands.old }
+    ensures added { OnOk result (Adds
+        (λ made. IsMade made (fold with_rule (new_app name.now) (map of_choice choices.now)))
+        commands.old.items commands.new.items) }
+    ensures len { OnOk result (vec_len commands.new ≡ vec_len commands.old + 1) }
+    ensures capacity { vec_capacity commands.new ≡ vec_capacity commands.old }
 {
-    Command::new(alloc, "replay")
-        .about(REPLAY_ABOUT)
-        .after_help(REPLAY_END)
-        .arg(print_replay(alloc))?
-        .arg(moment(alloc, "from", FROM_HELP))?
-        .arg(moment(alloc, "to", TO_HELP))
+    let options = all_made(alloc, choices)?;
+    let command = Command::new(alloc, name)
+        .about(about)
+        .after_help(end)
+        .args(options)?;
+    commands.push_reserved(command);
+    Ok(())
 }
 
-/// The command that compares two traces.
-fn compare_command<'a>(alloc: Global) -> Result<Command<'a>, AllocError>
-    ensures { IfOk result IsCompare }
+/// The three commands, in the order of the help.
+fn subcommands<'a>(alloc: Global) -> Result<Vec<Command<'a>>, AllocError>
+    ensures { IfOk result (λ made. (run replay compare : Command) × IsRun run × IsReplay replay
+        × IsCompare compare × (made.items ≡ run ∷ replay ∷ compare ∷ [])) }
 {
-    Command::new(alloc, "compare")
-        .about(COMPARE_ABOUT)
-        .after_help(COMPARE_END)
-        .arg(file(alloc, "MODEL", MODEL_HELP))?
-        .arg(file(alloc, "RECORDED", RECORDED_HELP))?
-        .arg(within(alloc))?
-        .arg(noise(alloc))?
-        .arg(shift(alloc))?
-        .arg(flag(alloc, "cpus", CPUS_HELP))
+    let mut all = Vec::with_capacity(alloc, 3)?;
+    add_command(alloc, &mut all, "run", RUN_ABOUT, RUN_END, run_choices())?;
+    add_command(
+        alloc,
+        &mut all,
+        "replay",
+        REPLAY_ABOUT,
+        REPLAY_END,
+        replay_choices(),
+    )?;
+    add_command(
+        alloc,
+        &mut all,
+        "compare",
+        COMPARE_ABOUT,
+        COMPARE_END,
+        compare_choices(),
+    )?;
+    Ok(all)
 }
 
 /// The whole command. It is finished before anything is asked of it, as clap wants it.
 pub(crate) fn program<'a>(alloc: Global) -> Result<Command<'a>, AllocError>
     ensures { IfOk result IsProgram }
 {
-    let run = run_command(alloc)?;
-    let replay = replay_command(alloc)?;
-    let compare = compare_command(alloc)?;
+    let commands = subcommands(alloc)?;
     Command::new(alloc, "dlsim")
         .about(ABOUT)
         .after_help(ABOUT_END)
         .subcommand_required(true)
-        .subcommand(run)?
-        .subcommand(replay)?
-        .subcommand(compare)?
+        .subcommands(commands)?
         .bin_name("dlsim")
 }

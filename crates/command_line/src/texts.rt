@@ -1,9 +1,9 @@
 //! The texts of `--help`.
 
-pub(crate) const ABOUT: &str =
+pub(crate) static ABOUT: &str =
     "A model of Linux SCHED_DEADLINE: deadline tasks in, trace, figures and chart out";
 
-pub(crate) const ABOUT_END: &str = "\
+pub(crate) static ABOUT_END: &str = "\
 `dlsim run` reads an rt-app file, `dlsim replay` recorded calls, both from
 standard input. Both write a trace, with the lines of ftrace's event
 sched_switch, or with `--print` another text, as who was late and by how much,
@@ -21,10 +21,10 @@ Exit status: 0 done; 1 bad input; 2 wrong words; 3 reading or writing failed;
 nothing was written, unless that line says `write failed after N`.
 docs/FORMATS.md explains every option, format and message.";
 
-pub(crate) const REPLAY_ABOUT: &str =
+pub(crate) static REPLAY_ABOUT: &str =
     "Runs recorded calls and writes their trace, replies, figures or chart";
 
-pub(crate) const REPLAY_END: &str = "\
+pub(crate) static REPLAY_END: &str = "\
 In:  a calls text on standard input: the line `dlcalls 1`, then for each root
      domain a line `domain CPUS LIMIT` and a line for each call on it.
 Out: the text that --print names, of all domains:
@@ -50,10 +50,10 @@ words, `dlsim: empty window` or `dlsim: no chart to cut`; 3 `dlsim: read failed`
 or `dlsim: write failed after N`; 4 `dlsim: out of memory`.
 docs/FORMATS.md explains the format and the messages.";
 
-pub(crate) const RUN_ABOUT: &str =
+pub(crate) static RUN_ABOUT: &str =
     "Runs an rt-app scenario and writes its trace, calls, figures or chart";
 
-pub(crate) const RUN_END: &str = "\
+pub(crate) static RUN_END: &str = "\
 In:  an rt-app file (JSON) on standard input: `tasks` with the policy
      SCHED_DEADLINE, dl-runtime, dl-deadline and dl-period in microseconds, and
      their events run, sleep and timer; `global` with the `duration` in
@@ -119,9 +119,9 @@ pub(crate) const TO_HELP: &str = "\
 The microsecond at which it ends, 1 to 4398046511104 and above --from
 [default: the end of the run]";
 
-pub(crate) const COMPARE_ABOUT: &str = "Sets a recorded trace beside the model's";
+pub(crate) static COMPARE_ABOUT: &str = "Sets a recorded trace beside the model's";
 
-pub(crate) const COMPARE_END: &str = "\
+pub(crate) static COMPARE_END: &str = "\
 In:  MODEL, a trace that this program wrote, and RECORDED, text that ftrace,
      `trace-cmd report` or `perf script` printed; `-` is standard input, for
      one of the two.
