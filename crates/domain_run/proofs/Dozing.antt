@@ -465,6 +465,9 @@ jump_lags d lags (suc j) some plain quiet runs =
 pub lag_gone : (past z : ℕ) (t : Task) → (is_contending t.condition || nat_le z past) ≡ true → with_lag past (Some z) t ≡ t
 lag_gone past z t h = ap (λ b. cond b t (record t { zero_lag = Some z })) h
 
+pub lag_kept : (past z : ℕ) (t : Task) → (is_contending t.condition || nat_le z past) ≡ false → with_lag past (Some z) t ≡ record t { zero_lag = Some z }
+lag_kept past z t h = ap (λ b. cond b t (record t { zero_lag = Some z })) h
+
 -- a task of the list is seen as it is stored, but for what it owes
 pub seen_alike : (s : SeatsView) (items : List Task) (p : ℕ) (x d : Task) → p < length (owed_all s items) → x ≡ get_or items p x → Alike x (get_or (owed_all s items) p d)
 seen_alike s items p x d there read =
@@ -475,6 +478,10 @@ seen_alike s items p x d there read =
 pub false_not : (b : Bool) → not b ≡ false → b ≡ true
 false_not true e = refl
 false_not false e = absurd cc
+
+pub true_not : (b : Bool) → not b ≡ true → b ≡ false
+true_not true e = absurd cc
+true_not false e = refl
 
 pub doze_alike : (time : ℕ) (t u : Task) → Alike t u → MayDoze time t → MayDoze time u
 doze_alike time t u same may =

@@ -1,5 +1,5 @@
 -- Marks and the numbers that they stand for.
-use Rattle.std.proofs.Common.{◌≡◌, ◌≢◌, ℕ, zero, suc, ◌+◌, ◌<◌, ◌≤◌, Bool, true, false, cond, eqb, List, [], ◌∷◌, ◌++◌, length, take, get_or, set, replicate, refl, sym, ap, arith, eq-eqb}
+use Rattle.std.proofs.Common.{◌≡◌, ◌≢◌, ℕ, zero, suc, ◌+◌, ◌<◌, ◌≤◌, Bool, true, false, cond, eqb, List, [], ◌∷◌, ◌++◌, length, take, get_or, set, replicate, refl, sym, ap, ◌∙◌, arith, eq-eqb}
 use Rattle.std.specs.Prelude.{All, AllPairs}
 use Rattle.std.specs.List.{list_any}
 use Rattle.std.proofs.lemmas.Bool.{lt-ltb, le-ltb, ne_eqb}
@@ -11,6 +11,9 @@ use Rattle.domain_run.specs.Calls.{with_number}
 pub marked_none : (from n : ℕ) → marked from (replicate n false) ≡ []
 marked_none from zero = refl
 marked_none from (suc n) = marked_none (from + 1) n
+
+pub marked_no : (bs : List Bool) (n : ℕ) → bs ≡ replicate n false → marked 0 bs ≡ []
+marked_no bs n e = ap (marked 0) e ∙ marked_none 0 n
 
 -- no mark below the first place
 none_below : (from : ℕ) (bs : List Bool) (n : ℕ) → n < from → list_any (λ m. eqb m n) (marked from bs) ≡ false

@@ -45,9 +45,10 @@ impl Numbers {
     pub(crate) fn open(alloc: Global) -> Result<Numbers, NoMemory>
         ensures { IfOk result (λ n. n ≡ []) }
     {
-        Ok(Numbers {
-            marks: no_marks(alloc, COUNT)?,
-        })
+        let Ok(marks) = no_marks(alloc, COUNT) else {
+            return Err(NoMemory);
+        };
+        Ok(Numbers { marks })
     }
 
     /// Whether the number is one of them.

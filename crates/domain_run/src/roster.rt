@@ -99,10 +99,25 @@ impl Roster {
           tasks = [];
         }) }
     {
-        let index = Index::open(alloc)?;
-        let seats = Seats::open(alloc, cpus)?;
-        let tasks = SlotList::open(alloc)?;
-        let queue = RunQueue::open(alloc, cpus)?;
+        // For the prover alone: what is let go of is dropped by calls, and not field by field.
+        let Ok(index) = Index::open(alloc) else {
+            return Err(NoMemory);
+        };
+        let Ok(seats) = Seats::open(alloc, cpus) else {
+            drop(index);
+            return Err(NoMemory);
+        };
+        let Ok(tasks) = SlotList::open(alloc) else {
+            drop(seats);
+            drop(index);
+            return Err(NoMemory);
+        };
+        let Ok(queue) = RunQueue::open(alloc, cpus) else {
+            drop(tasks);
+            drop(seats);
+            drop(index);
+            return Err(NoMemory);
+        };
         Ok(Roster {
             tasks,
             seats,

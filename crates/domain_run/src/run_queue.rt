@@ -113,9 +113,15 @@ impl RunQueue {
         ensures places { IfOk result (λ queue. queue.schedule.places ≡ replicate cpus None) }
         ensures moves { IfOk result (λ queue. queue.schedule.moves ≡ []) }
     {
-        let accounts = Accounts::open(alloc, cpus)?;
-        let timers = Timers::open(alloc)?;
-        let schedule = Schedule::open(alloc, cpus)?;
+        let Ok(accounts) = Accounts::open(alloc, cpus) else {
+            return Err(NoMemory);
+        };
+        let Ok(timers) = Timers::open(alloc) else {
+            return Err(NoMemory);
+        };
+        let Ok(schedule) = Schedule::open(alloc, cpus) else {
+            return Err(NoMemory);
+        };
         Ok(RunQueue {
             accounts,
             schedule,

@@ -97,9 +97,15 @@ impl State {
         // The roster comes last, so that there is none to let go of where the room for another part
         // is refused.
         let switches = Vec::with_capacity(alloc, cpus)?;
-        let running = Vec::with_capacity(alloc, cpus)?;
-        let used = Numbers::open(alloc)?;
-        let roster = Roster::open(alloc, cpus)?;
+        let Ok(running) = Vec::with_capacity(alloc, cpus) else {
+            return Err(NoMemory);
+        };
+        let Ok(used) = Numbers::open(alloc) else {
+            return Err(NoMemory);
+        };
+        let Ok(roster) = Roster::open(alloc, cpus) else {
+            return Err(NoMemory);
+        };
         Ok(State {
             cpus,
             limit,

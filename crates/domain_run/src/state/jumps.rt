@@ -53,8 +53,12 @@ impl State {
         ensures room { OnOk result (HasRoomToEnd log.new) }
         ensures untold { OnErr result (Tells log.old [] log.new) }
     {
-        self.switches.try_reserve(self.cpus)?;
-        log.make_room(9 * self.roster.len() + 192)?;
+        let Ok(()) = self.make_room(0) else {
+            return Err(NoMemory);
+        };
+        let Ok(()) = log.make_room(9 * self.roster.len() + 192) else {
+            return Err(NoMemory);
+        };
         if self.begin_in_room(log) {
             Ok(())
         } else {

@@ -67,7 +67,9 @@ impl State {
         ensures err { OnErr result (self.new ≡ self.old) }
         ensures domain { IsDomain self.old }
     {
-        self.switches.try_reserve(self.cpus)?;
+        let Ok(()) = self.make_room(0) else {
+            return Err(NoMemory);
+        };
         if self.begin_seated() {
             Ok(())
         } else {

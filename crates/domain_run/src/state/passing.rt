@@ -2,6 +2,7 @@
 
 ghost use Rattle.std.specs.Prelude.{◌≡◌, ◌≤◌};
 ghost use Rattle.domain_run.specs.Passing.{without_switches};
+ghost use Rattle.domain_run.specs.Sound.{IsDomain};
 
 use super::State;
 use no_memory::NoMemory;
@@ -17,11 +18,15 @@ impl State {
 
     /// Room for so many switches more, and for those of an event beside them. `Err` where a growth
     /// was refused; nothing has changed, either way.
+    #[inline(always)]
     pub(crate) fn make_room(&mut self, more: usize) -> Result<(), NoMemory>
         requires { more ≤ 65536 }
-        ensures { self.new ≡ self.old }
+        ensures same { self.new ≡ self.old }
+        ensures domain { IsDomain self.old }
     {
-        self.switches.try_reserve(more + self.cpus)?;
-        Ok(())
+        match self.switches.try_reserve(more + self.cpus) {
+            Ok(()) => Ok(()),
+            Err(_) => Err(NoMemory),
+        }
     }
 }

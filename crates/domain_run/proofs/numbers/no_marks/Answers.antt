@@ -1,4 +1,4 @@
-use Rattle.std.proofs.Common.{arith}
+use Rattle.std.proofs.Common.{◌≡◌, ℕ, false, replicate, ap, ◌∙◌, arith}
 use Rattle.std.proofs.lemmas.Grind.{common_steps}
 use Rattle.domain_run.proofs.numbers.no_marks.Goals as goal
 
@@ -18,7 +18,9 @@ pub loop-preserved : goal.loop-preserved
 loop-preserved c = grind (arith, common_steps)
 
 pub returns-clause-marks : goal.returns-clause-marks
-returns-clause-marks c = grind (arith, common_steps)
+returns-clause-marks c =
+    let all : c.loop.counter ≡ c.args.count = omega arith in
+    c.loop.invariant.marks ∙ ap (λ (n : ℕ). replicate n false) all
 
 pub returns-clause-len : goal.returns-clause-len
 returns-clause-len c = grind (arith, common_steps)

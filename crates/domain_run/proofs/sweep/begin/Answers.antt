@@ -61,6 +61,14 @@ returns-clause-switches c =
     ∙ switched time first tasks after (λ o. state_homed after first tasks o c.choose.ensures.tasks) 0 before after (λ i. ap (λ (n : ℕ). get_or after n None) (omega arith))
     ∙ ap (λ (ts : List Task). switches_from time ts 0 before after) c.wake_all.ensures.tasks)
 
+negated : (b : Bool) → not b ≡ false → b ≡ true
+negated true e = refl
+negated false e = absurd cc
+
+empty_is : (ms : List Moved) → length ms ≡ 0 → ms ≡ []
+empty_is [] e = refl
+empty_is (m ∷ ms) e = absurd (omega (arith, e))
+
 pub returns-clause-none : goal.returns-clause-none
 returns-clause-none c none =
     let before = c.args.roster.now.places in
@@ -69,14 +77,6 @@ returns-clause-none c none =
     let len : length after ≡ length before = c.choose.ensures.wide ∙ ap (λ (ps : Places). length ps) c.wake_all.ensures.places in
     let test : eqb (length c.moves.result.now) 0 ≡ true = sym c.is_empty.ensures ∙ negated c.is_empty.result none in
     none_moved 0 before after len (sym are ∙ sym c.moves.ensures ∙ empty_is c.moves.result.now (eqb-true (length c.moves.result.now) 0 test))
-  where
-    negated : (b : Bool) → not b ≡ false → b ≡ true
-    negated true e = refl
-    negated false e = absurd cc
-
-    empty_is : (ms : List Moved) → length ms ≡ 0 → ms ≡ []
-    empty_is [] e = refl
-    empty_is (m ∷ ms) e = absurd (omega (arith, e))
 
 -- what the parts told, on the CPUs before the placement, is put in the order of those behind it
 pub returns-clause-told : goal.returns-clause-told

@@ -1,9 +1,6 @@
-use Rattle.std.proofs.Common.{arith}
-use Rattle.std.proofs.lemmas.Grind.{common_steps}
+use Rattle.domain_run.proofs.Marks.{marked_no}
 use Rattle.domain_run.proofs.numbers.Numbers.open.Goals as goal
 
-pub returns-in_err-no_marks : goal.returns-in_err-no_marks
-returns-in_err-no_marks c = grind (arith, common_steps)
-
+-- not by counting the marks
 pub returns : goal.returns
-returns c = grind (arith, common_steps)
+returns c = marked_no c.in-Ok.marks.items 65536 c.in-Ok.ensures.marks

@@ -1,7 +1,8 @@
-use Rattle.std.proofs.Common.{eqb, sym, subst}
+use Rattle.std.proofs.Common.{◌<◌, length, eqb, sym, subst}
 use Rattle.std.specs.Prelude.{find}
 use Rattle.domain_run.specs.private.Index.{IsAt}
 use Rattle.domain_run.specs.private.Roster.{RosterView, IsSeenAs}
+use Rattle.domain_run.proofs.Bare.{inside_seen}
 use Rattle.domain_run.proofs.Finding.{find_absent}
 use Rattle.domain_run.proofs.Waiting.{found_owed, seen_owed}
 use Rattle.domain_run.proofs.roster.Roster.find.Goals as goal
@@ -16,3 +17,11 @@ returns-in-Some-clause-there c =
     let at = subst (λ (r : RosterView). IsAt r.tasks c.args.number c.in-Some.place) (sym c.self.view_is) c.in-Some.ensures.there in
     subst (λ (r : RosterView). IsSeenAs x (find (λ t. eqb t.number c.args.number) r.tasks)) c.self.view_is
     (seen_owed s.seats.upto s.seats.seats x _ (found_owed s.seats.upto s.seats.seats s.tasks c.args.number c.in-Some.place x c.self.invariant.counted.roster.numbered at c.at.ensures))
+
+pub at-requires : goal.at-requires
+at-requires c =
+    let s = c.self.inside in
+    inside_seen s.seats.upto s.seats.seats s.tasks c.in-Some.place (subst (λ (r : RosterView). c.in-Some.place < length r.tasks) (sym c.self.view_is) c.in-Some.ensures.there.within)
+
+pub returns-in-Some-clause-numbered : goal.returns-in-Some-clause-numbered
+returns-in-Some-clause-numbered c = c.place.ensures.numbered

@@ -1,13 +1,14 @@
-use Rattle.std.proofs.Common.{◌≡◌, ◌<◌, ◌∙◌, ◌||◌, true, length, get_or, sym, ap, subst, arith}
+use Rattle.std.proofs.Common.{◌≡◌, ◌<◌, ◌∙◌, ◌||◌, true, false, Some, length, get_or, set, sym, ap, subst, arith}
 use Rattle.std.specs.Prelude.{nat_le}
 use Rattle.std.proofs.lemmas.Grind.{common_steps}
 use Rattle.domain_run.specs.Conditions.{is_contending}
+use Rattle.domain_run.specs.declared.task.Task.{Task}
 use Rattle.domain_run.specs.private.Dozing.{with_lag}
 use Rattle.domain_run.specs.private.Roster.{RosterView}
 use Rattle.domain_run.specs.private.Timers.{IsStep}
 use Rattle.domain_run.specs.private.Waiting.{owed_all}
 use Rattle.domain_run.proofs.Due.{step_none}
-use Rattle.domain_run.proofs.Dozing.{lag_gone, seen_alike, false_not}
+use Rattle.domain_run.proofs.Dozing.{lag_gone, lag_kept, seen_alike, false_not, true_not}
 use Rattle.domain_run.proofs.roster.Roster.take_back_at.Goals as goal
 
 pub returns-else-is_ahead-clause-step : goal.returns-else-is_ahead-clause-step
@@ -69,3 +70,21 @@ returns-else-is_ahead-clause-sound c = grind (arith, common_steps)
 
 pub at-requires : goal.at-requires
 at-requires c = grind (arith, common_steps)
+
+pub returns-then-is_ahead-clause-step : goal.returns-then-is_ahead-clause-step
+returns-then-is_ahead-clause-step c =
+    let s = c.self.inside in
+    let p = c.args.place in
+    let past = c.args.past in
+    let z = c.in-Some.lag in
+    let raw = c.at.result.now in
+    let old = c.args.self.now.tasks in
+    let there = subst (λ (r : RosterView). p < length r.tasks) (sym c.self.view_is) c.requires.there in
+    let kept : (is_contending raw.condition || nat_le z past) ≡ false = true_not (is_contending raw.condition || nat_le z past) (sym c.is_ahead.ensures ∙ c.if-is_ahead.true) in
+    record {
+      is = λ d.
+          let seen = subst (λ (r : RosterView). (is_contending (get_or r.tasks p d).condition || nat_le z past) ≡ false) c.self.view_is
+          (ap (λ k. is_contending k || nat_le z past) (seen_alike s.seats s.tasks p raw d there c.at.ensures).condition ∙ kept) in
+          let lagged : with_lag past c.args.lag (get_or old p d) ≡ record (get_or old p d) { zero_lag = Some z } = ap (λ o. with_lag past o (get_or old p d)) c.in-Some.is ∙ lag_kept past z (get_or old p d) seen in
+          c.turn.ensures.step.is d ∙ ap (λ (t : Task). set old p t) (sym lagged);
+    }

@@ -107,3 +107,12 @@ returns-clause-places c = grind (arith, common_steps)
 
 pub returns-clause-left : goal.returns-clause-left
 returns-clause-left c = grind (arith, common_steps)
+
+pub at-requires : goal.at-requires
+at-requires c = grind (arith, common_steps)
+
+pub at-requires-2 : goal.at-requires-2
+at-requires-2 c = grind (arith, common_steps)
+
+pub mark_left-requires : goal.mark_left-requires
+mark_left-requires c = grind (arith, common_steps)

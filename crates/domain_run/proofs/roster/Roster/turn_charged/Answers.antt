@@ -6,12 +6,12 @@ use Rattle.domain_run.specs.declared.run_queue.RunQueue.{RunQueue}
 use Rattle.edf_pick.specs.Places.{Places}
 use Rattle.domain_run.specs.Sound.{IsSound}
 use Rattle.domain_run.specs.private.Doubts.{AreSettled}
-use Rattle.domain_run.specs.private.Roster.{RosterView, after_change, MayMake, Fits}
+use Rattle.domain_run.specs.private.Roster.{RosterView, after_change, put_aside, MayMake, Fits}
 use Rattle.domain_run.specs.private.RunQueue.{IsCounted}
 use Rattle.due_times.specs.Seats.{SeatsView, seat_by}
 use Rattle.domain_run.specs.private.Timers.{IsStep}
 use Rattle.domain_run.specs.private.Waiting.{seat_of, owed_all}
-use Rattle.domain_run.proofs.Bare.{inside_seen, cpu_seen}
+use Rattle.domain_run.proofs.Bare.{inside_seen, bare_at, cpu_seen}
 use Rattle.domain_run.proofs.Seatings.{roster_view}
 use Rattle.domain_run.proofs.Turning.{sound_bare, may_bare, turns_bare, step_bare, sound_all_bare, counted_bare, waits_bare, settled_bare}
 use Rattle.domain_run.proofs.roster.Roster.turn_charged.Goals as goal
@@ -28,6 +28,24 @@ empty queue s items r p x view h read free =
 -- so it sits nowhere
 unseated : (queue : RunQueue) (s : SeatsView) (items : List Task) (r : RosterView) (p : ℕ) (x : Task) → roster_view queue s items ≡ r → p < length items → x ≡ get_or items p x → ((d : Task) → get_or r.seats (get_or r.tasks p d).cpu None ≡ None) → seat_of s.seats x ≡ None
 unseated queue s items r p x view h read free = ap (seat_by x.number) (empty queue s items r p x view h read free)
+
+-- so it is seen as it is stored
+stored : (queue : RunQueue) (s : SeatsView) (items : List Task) (r : RosterView) (p : ℕ) (x : Task) → roster_view queue s items ≡ r → p < length items → x ≡ get_or items p x → ((d : Task) → get_or r.seats (get_or r.tasks p d).cpu None ≡ None) → (d : Task) → x ≡ get_or r.tasks p d
+stored queue s items r p x view h read free d =
+    bare_at s.upto s.seats items p x h read (λ k.
+    ap (seat_by (get_or (owed_all s items) p k).number) (subst (λ (v : RosterView). get_or v.seats (get_or v.tasks p k).cpu None ≡ None) (sym view) (free k))) d
+    ∙ ap (λ (v : RosterView). get_or v.tasks p d) view
+
+pub at_mut-requires : goal.at_mut-requires
+at_mut-requires c = let s = c.self.inside in within s.queue s.seats s.tasks c.args.self.now c.args.place c.self.view_is c.requires.there
+
+pub returns-clause-aside : goal.returns-clause-aside
+returns-clause-aside c d =
+    let s = c.self.inside in
+    let p = c.args.place in
+    let x = c.at_mut.result.now in
+    let h = within s.queue s.seats s.tasks c.args.self.now p c.self.view_is c.requires.there in
+    c.turn_settled.ensures.aside ∙ ap (λ (t : Task). put_aside c.args.time c.args.change.now t) (stored s.queue s.seats s.tasks c.args.self.now p x c.self.view_is h c.at_mut.ensures.value c.requires.free d)
 
 pub turn_settled-requires-clause-sound : goal.turn_settled-requires-clause-sound
 turn_settled-requires-clause-sound c =

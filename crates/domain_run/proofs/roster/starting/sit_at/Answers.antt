@@ -1,13 +1,16 @@
-use Rattle.std.proofs.Common.{◌≡◌, ◌<◌, ◌≤◌, ◌*◌, Some, length, get_or, sym, ap, subst, ◌∙◌, arith, None, Option}
-use Rattle.std.specs.Prelude.{IfSome}
+use Rattle.std.proofs.Common.{◌≡◌, ℕ, Bool, true, ◌<◌, ◌≤◌, ◌*◌, List, Some, length, get_or, refl, sym, ap, subst, ◌∙◌, arith, None, Option}
+use Rattle.std.specs.Prelude.{IfSome, IsTrue, is_some}
+use Rattle.std.specs.Int.{bit_at}
+use Rattle.grub_rules.specs.Sums.{uinact}
+use Rattle.due_times.specs.declared.doubts.Doubts.{Doubts}
 use Rattle.std.proofs.lemmas.List.{get_or_default, get_or-set_same, length-map}
 use Rattle.std.proofs.Math.Nat.{mul-le-mul}
 use Rattle.attr_check.specs.Ratio.{cap}
 use Rattle.grub_rules.proofs.CallerLemmas.{uinact-le-total_bw}
 use Rattle.std.proofs.lemmas.Grind.{common_steps}
 use Rattle.domain_run.specs.declared.task.Task.{Task}
-use Rattle.domain_run.specs.Tick.{shares}
-use Rattle.domain_run.specs.private.Doubts.{IsTrusted, IsSettled}
+use Rattle.domain_run.specs.Tick.{shares, sum_of}
+use Rattle.domain_run.specs.private.Doubts.{IsTrusted, IsSettled, IsFree, noted_basis}
 use Rattle.domain_run.specs.private.Roster.{basis_in}
 use Rattle.due_times.specs.Seats.{SeatsView}
 use Rattle.due_times.specs.declared.seats.Basis.{Basis}
@@ -74,28 +77,28 @@ returns-clause-trust c i o other was =
     (seat_other c.args.doubts.now c.clear_for.new.self w c.args.cpu i o (Some c.seat_for-seat.result) s.seats tasks (q.others i other) (q.elsewhere i other) q.sum q.limit other was)
 
 pub rating_of-rating-requires-clause-there : goal.rating_of-rating-requires-clause-there
-rating_of-rating-requires-clause-there c = grind (arith, common_steps)
+rating_of-rating-requires-clause-there c = c.requires.there
 
 pub rating_of-rating-requires-clause-cpus : goal.rating_of-rating-requires-clause-cpus
-rating_of-rating-requires-clause-cpus c = grind (arith, common_steps)
+rating_of-rating-requires-clause-cpus c = c.requires.cpus
 
 pub rating_of-rating-requires-clause-limit : goal.rating_of-rating-requires-clause-limit
-rating_of-rating-requires-clause-limit c = grind (arith, common_steps)
+rating_of-rating-requires-clause-limit c = c.requires.limit
 
 pub rating_of-rating-requires-clause-within : goal.rating_of-rating-requires-clause-within
 rating_of-rating-requires-clause-within c = grind (arith, common_steps)
 
 pub seat_for-seat-requires-clause-turns : goal.seat_for-seat-requires-clause-turns
-seat_for-seat-requires-clause-turns c = grind (arith, common_steps)
+seat_for-seat-requires-clause-turns c = c.rating_of-rating.ensures.some
 
 pub seat_for-seat-requires-clause-slow : goal.seat_for-seat-requires-clause-slow
-seat_for-seat-requires-clause-slow c = grind (arith, common_steps)
+seat_for-seat-requires-clause-slow c = c.rating_of-rating.ensures.slow
 
 pub seat_for-seat-requires-clause-rated : goal.seat_for-seat-requires-clause-rated
 seat_for-seat-requires-clause-rated c = grind (arith, common_steps)
 
 pub seat_for-seat-requires-clause-early : goal.seat_for-seat-requires-clause-early
-seat_for-seat-requires-clause-early c = grind (arith, common_steps)
+seat_for-seat-requires-clause-early c = c.upto.ensures.early
 
 pub sit_down-requires-clause-there : goal.sit_down-requires-clause-there
 sit_down-requires-clause-there c = grind (arith, common_steps)
@@ -104,7 +107,7 @@ pub sit_down-requires-clause-ahead : goal.sit_down-requires-clause-ahead
 sit_down-requires-clause-ahead c = grind (arith, common_steps)
 
 pub returns-clause-clock : goal.returns-clause-clock
-returns-clause-clock c = grind (arith, common_steps)
+returns-clause-clock c = ap (λ (v : SeatsView). v.upto) c.sit_down.ensures
 
 pub returns-clause-wide : goal.returns-clause-wide
 returns-clause-wide c = grind (arith, common_steps)
@@ -112,14 +115,11 @@ returns-clause-wide c = grind (arith, common_steps)
 pub returns-clause-others : goal.returns-clause-others
 returns-clause-others c = grind (arith, common_steps)
 
-pub returns-clause-here : goal.returns-clause-here
-returns-clause-here c = grind (arith, common_steps)
-
 pub returns-clause-sum : goal.returns-clause-sum
-returns-clause-sum c = grind (arith, common_steps)
+returns-clause-sum c = c.clear_for.ensures.sum
 
 pub returns-clause-limit : goal.returns-clause-limit
-returns-clause-limit c = grind (arith, common_steps)
+returns-clause-limit c = c.clear_for.ensures.limit
 
 pub returns-clause-sits : goal.returns-clause-sits
 returns-clause-sits c d =
@@ -140,3 +140,39 @@ returns-clause-sits c d =
     let noted = subst (λ (m : Basis). IfSome rating.result.basis (λ b. b ≡ m)) (λ i. record { uinact = inactive i; sum = sums.total i; cpus = w; limit = c.args.limit }) rating.ensures.basis in
     subst (λ (o : Option Seat). IsSettled (Some (get_or tasks p d).number) (basis_in w c.args.limit tasks cpu) o) (sym sat)
     (named, subst (λ o. IfSome o (λ b. b ≡ basis_in w c.args.limit tasks cpu)) (sym c.seat_for-seat.ensures.basis) noted)
+
+-- a seat that keeps what its rate was worked out from keeps what is noted
+noted_by : (d : Doubts) (w limit cpu : ℕ) (tasks : List Task) (o : Option Basis) (rated : Bool) → rated ≡ is_some o → IfSome o (λ b. b ≡ basis_in w limit tasks cpu) → (IsTrue rated → (d.sum ≡ sum_of tasks) × (d.limit ≡ limit)) → IfSome o (λ b. b ≡ noted_basis d w tasks cpu)
+noted_by d w limit cpu tasks None rated e is noted = tt
+noted_by d w limit cpu tasks (Some b) rated e is noted =
+    let p = noted e in
+    is ∙ (λ i. record { uinact = uinact cpu (shares tasks); sum = sym p.0 i; cpus = w; limit = sym p.1 i })
+
+free_by : (o : Option Basis) (rated : Bool) (mark : ℕ) → rated ≡ is_some o → (IsTrue rated → mark ≡ 1) → mark ≡ 0 → o ≡ None
+free_by None rated mark e one zero = refl
+free_by (Some b) rated mark e one zero = absurd (omega (arith, one e, zero))
+
+pub returns-clause-here : goal.returns-clause-here
+returns-clause-here c d low clear =
+    let s = c.args.seats.now in
+    let cpu = c.args.cpu in
+    let seat = c.seat_for-seat.result in
+    let tasks = owed_all s c.args.tasks.now in
+    let w = length c.args.accounts.now.all in
+    let n = c.clear_for.new.self in
+    let q = c.clear_for.ensures in
+    let sums = c.requires.counts.sums in
+    let many : length tasks ≡ length c.args.tasks.now = simp length-map in
+    let within : c.args.place < length tasks = omega (arith, c.requires.at, many) in
+    let there : cpu < length s.seats = omega (arith, c.requires.there, c.requires.wide) in
+    let sat : get_or c.sit_down.new.self.seats cpu None ≡ Some seat = ap (λ (v : SeatsView). get_or v.seats cpu None) c.sit_down.ensures ∙ get_or-set_same s.seats cpu (Some seat) None there in
+    let named : seat.number ≡ (get_or tasks c.args.place d).number = c.seat_for-seat.ensures.number ∙ sym (seen_alike s c.args.tasks.now c.args.place c.at-task.result.now d within c.at-task.ensures).number in
+    let inactive = inactive_is c.args.accounts.now (shares tasks) cpu sums in
+    let is = subst (λ (m : Basis). IfSome c.rating_of-rating.result.basis (λ b. b ≡ m)) (λ i. record { uinact = inactive i; sum = sums.total i; cpus = w; limit = c.args.limit }) c.rating_of-rating.ensures.basis in
+    let kept = subst (λ o. IfSome o (λ b. b ≡ basis_in w c.args.limit tasks cpu)) (sym c.seat_for-seat.ensures.basis) is in
+    let rated : c.is_some-is_rated.result ≡ is_some seat.basis = c.is_some-is_rated.ensures ∙ ap is_some (sym c.seat_for-seat.ensures.basis) in
+    let settled = noted_by n w c.args.limit cpu tasks seat.basis c.is_some-is_rated.result rated kept (λ t.
+    let p = q.noted t clear in
+    (q.sum ∙ p.0 ∙ c.total.ensures ∙ sums.total, q.limit ∙ p.1)) in
+    subst (λ (o : Option Seat). IsSettled (Some (get_or tasks c.args.place d).number) (noted_basis n w tasks cpu) o × IsFree (bit_at n.rated cpu) o) (sym sat)
+    ((named, settled), free_by seat.basis c.is_some-is_rated.result (bit_at n.rated cpu) rated (λ t. q.marked t clear))
