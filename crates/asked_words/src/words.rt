@@ -269,7 +269,7 @@ fn task_of(alloc: Global, matches: &ArgMatches<'_>) -> Result<Task, Wrong>
 ///
 /// # Errors
 /// [`Wrong::Clap`]: what clap says, also where it is asked for help. Then those of [`task_of`].
-fn task_in(alloc: Global, words: &[String]) -> Result<Task, Wrong>
+pub fn task_in(alloc: Global, words: &[String]) -> Result<Task, Wrong>
     ensures fit { IfOk result IsFit }
     ensures asked { IsAskedBy (map string_bytes words.now) result }
 {
