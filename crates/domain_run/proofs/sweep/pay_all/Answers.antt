@@ -22,6 +22,7 @@ use Rattle.domain_run.specs.private.Telling.{told_by_change, told_of_number, tol
 use Rattle.domain_run.proofs.ToldPay.{told_paid_none, told_paid_next}
 use Rattle.domain_run.proofs.ToldRising.{paying_apart}
 use Rattle.domain_run.proofs.Logging.{tells_none, tells_more, tells_order, TellsMixed}
+use Rattle.std.proofs.lemmas.Grind.{common_steps}
 use Rattle.domain_run.proofs.sweep.pay_all.Goals as goal
 
 pub loop-i-init : goal.loop-i-init
@@ -111,3 +112,33 @@ put_in_order-requires c =
     let told = c.loop-i.invariant.told in
     let len : List Happened → ℕ = λ hs. length hs in
     omega (arith, c.len-from.ensures, ap len told.is.happened, length-append log.happened (kept log told.tail))
+
+pub bounds-budgets-i : goal.bounds-budgets-i
+bounds-budgets-i c = grind (arith, common_steps)
+
+pub bounds-running-i : goal.bounds-running-i
+bounds-running-i c = grind (arith, common_steps)
+
+pub turn_number-requires-clause-early : goal.turn_number-requires-clause-early
+turn_number-requires-clause-early c = grind (arith, common_steps)
+
+pub turn_number-requires-clause-narrow : goal.turn_number-requires-clause-narrow
+turn_number-requires-clause-narrow c = grind (arith, common_steps)
+
+pub turn_number-requires-clause-fits : goal.turn_number-requires-clause-fits
+turn_number-requires-clause-fits c = grind (arith, common_steps)
+
+pub turn_number-requires-clause-sound : goal.turn_number-requires-clause-sound
+turn_number-requires-clause-sound c = grind (arith, common_steps)
+
+pub returns-clause-cpus : goal.returns-clause-cpus
+returns-clause-cpus c = grind (arith, common_steps)
+
+pub returns-clause-places : goal.returns-clause-places
+returns-clause-places c = grind (arith, common_steps)
+
+pub returns-clause-tasks : goal.returns-clause-tasks
+returns-clause-tasks c = grind (arith, common_steps)
+
+pub returns-clause-sound : goal.returns-clause-sound
+returns-clause-sound c = grind (arith, common_steps)

@@ -3,7 +3,6 @@ use Rattle.std.specs.Prelude.{is_some}
 use Rattle.domain_run.specs.declared.task.Task.{Task}
 use Rattle.std.proofs.lemmas.Grind.{common_steps}
 use Rattle.domain_run.specs.private.Roster.{RosterView, bared}
-use Rattle.domain_run.specs.private.Timers.{IsStep}
 use Rattle.domain_run.proofs.Due.{step_none}
 use Rattle.domain_run.proofs.Dozing.{seen_alike}
 use Rattle.domain_run.proofs.roster.Roster.put_aside_at.Goals as goal

@@ -1,4 +1,4 @@
-use Rattle.std.proofs.Common.{◌≡◌, ℕ, Bool, true, ◌<◌, ◌≤◌, ◌*◌, List, Some, length, get_or, refl, sym, ap, subst, ◌∙◌, arith, None, Option}
+use Rattle.std.proofs.Common.{◌≡◌, ℕ, Bool, ◌<◌, ◌≤◌, ◌*◌, List, Some, length, get_or, refl, sym, ap, subst, ◌∙◌, arith, None, Option}
 use Rattle.std.specs.Prelude.{IfSome, IsTrue, is_some}
 use Rattle.std.specs.Int.{bit_at}
 use Rattle.grub_rules.specs.Sums.{uinact}
