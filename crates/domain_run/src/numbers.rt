@@ -45,6 +45,7 @@ impl Numbers {
     pub(crate) fn open(alloc: Global) -> Result<Numbers, NoMemory>
         ensures { IfOk result (λ n. n ≡ []) }
     {
+        // For the prover alone: matched, and not handed on by `?`.
         let Ok(marks) = no_marks(alloc, COUNT) else {
             return Err(NoMemory);
         };

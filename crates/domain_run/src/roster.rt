@@ -99,7 +99,8 @@ impl Roster {
           tasks = [];
         }) }
     {
-        // For the prover alone: what is let go of is dropped by calls, and not field by field.
+        // For the prover alone: matched, and not handed on by `?`; and what is let go of is dropped
+        // by calls, and not field by field.
         let Ok(index) = Index::open(alloc) else {
             return Err(NoMemory);
         };

@@ -113,6 +113,7 @@ impl RunQueue {
         ensures places { IfOk result (λ queue. queue.schedule.places ≡ replicate cpus None) }
         ensures moves { IfOk result (λ queue. queue.schedule.moves ≡ []) }
     {
+        // For the prover alone: matched, and not handed on by `?`.
         let Ok(accounts) = Accounts::open(alloc, cpus) else {
             return Err(NoMemory);
         };

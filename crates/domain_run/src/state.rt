@@ -97,6 +97,7 @@ impl State {
         // The roster comes last, so that there is none to let go of where the room for another part
         // is refused.
         let switches = Vec::with_capacity(alloc, cpus)?;
+        // For the prover alone: matched, and not handed on by `?`.
         let Ok(running) = Vec::with_capacity(alloc, cpus) else {
             return Err(NoMemory);
         };

@@ -53,6 +53,7 @@ impl State {
         ensures room { OnOk result (HasRoomToEnd log.new) }
         ensures untold { OnErr result (Tells log.old [] log.new) }
     {
+        // For the prover alone: matched, and not handed on by `?`.
         let Ok(()) = self.make_room(0) else {
             return Err(NoMemory);
         };

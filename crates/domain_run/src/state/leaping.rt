@@ -67,6 +67,7 @@ impl State {
         ensures err { OnErr result (self.new ≡ self.old) }
         ensures domain { IsDomain self.old }
     {
+        // For the prover alone: matched, and not handed on by `?`.
         let Ok(()) = self.make_room(0) else {
             return Err(NoMemory);
         };

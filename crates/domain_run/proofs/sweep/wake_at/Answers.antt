@@ -9,6 +9,7 @@ use Rattle.domain_run.specs.private.Roster.{served}
 use Rattle.domain_run.specs.private.Timers.{IsStep}
 use Rattle.domain_run.proofs.Due.{step_len, step_then}
 use Rattle.domain_run.proofs.Woken.{served_at, woken_stays, woken_goes}
+use Rattle.std.proofs.lemmas.Grind.{common_steps}
 use Rattle.domain_run.proofs.sweep.wake_at.Goals as goal
 
 -- behind a change of the task at a place, that place is still there
@@ -53,3 +54,51 @@ returns-clause-woken c =
     woken_stays c.args.time old c.turn-3.new.self.tasks c.args.place c.requires.there
     (step_then (served c.args.time) (unblocked c.args.time) old two c.turn-3.new.self.tasks c.args.place c.requires.there step c.turn-3.ensures.step)
     (λ d. ap is_listed (sym (served_at c.args.time old two c.args.place d c.requires.there step)) ∙ c.in_default.ensures.stays d)
+
+pub turn-requires-clause-there : goal.turn-requires-clause-there
+turn-requires-clause-there c = grind (arith, common_steps)
+
+pub turn-requires-clause-fits : goal.turn-requires-clause-fits
+turn-requires-clause-fits c = grind (arith, common_steps)
+
+pub turn-requires-clause-sound : goal.turn-requires-clause-sound
+turn-requires-clause-sound c = grind (arith, common_steps)
+
+pub turn-requires-clause-may : goal.turn-requires-clause-may
+turn-requires-clause-may c = grind (arith, common_steps)
+
+pub turn-requires-2-clause-fits : goal.turn-requires-2-clause-fits
+turn-requires-2-clause-fits c = grind (arith, common_steps)
+
+pub turn-requires-2-clause-sound : goal.turn-requires-2-clause-sound
+turn-requires-2-clause-sound c = grind (arith, common_steps)
+
+pub turn-requires-2-clause-may : goal.turn-requires-2-clause-may
+turn-requires-2-clause-may c = grind (arith, common_steps)
+
+pub returns-in-Some-clause-cpus : goal.returns-in-Some-clause-cpus
+returns-in-Some-clause-cpus c = grind (arith, common_steps)
+
+pub returns-in-Some-clause-places : goal.returns-in-Some-clause-places
+returns-in-Some-clause-places c = grind (arith, common_steps)
+
+pub turn-requires-3-clause-fits : goal.turn-requires-3-clause-fits
+turn-requires-3-clause-fits c = grind (arith, common_steps)
+
+pub turn-requires-3-clause-sound : goal.turn-requires-3-clause-sound
+turn-requires-3-clause-sound c = grind (arith, common_steps)
+
+pub turn-requires-3-clause-may : goal.turn-requires-3-clause-may
+turn-requires-3-clause-may c = grind (arith, common_steps)
+
+pub overflow_add-result : goal.overflow_add-result
+overflow_add-result c = grind (arith, common_steps)
+
+pub returns-clause-cpus : goal.returns-clause-cpus
+returns-clause-cpus c = grind (arith, common_steps)
+
+pub returns-clause-places : goal.returns-clause-places
+returns-clause-places c = grind (arith, common_steps)
+
+pub returns-clause-sound : goal.returns-clause-sound
+returns-clause-sound c = grind (arith, common_steps)

@@ -8,6 +8,7 @@ use Rattle.domain_run.specs.private.RunQueue.{AreHomed}
 use Rattle.domain_run.specs.private.Waiting.{seat_of, Lasts, passed}
 use Rattle.domain_run.proofs.Leaping.{leapt_all, lasts_all}
 use Rattle.domain_run.proofs.Paying.{sound_later}
+use Rattle.std.proofs.lemmas.Grind.{common_steps}
 use Rattle.domain_run.proofs.to_event.leap.Goals as goal
 
 tasks_are : (c : goal.After-pass) → c.seat_all.new.roster.tasks ≡ c.args.roster.now.tasks
@@ -56,3 +57,51 @@ returns-clause-tasks c =
     c.pass.ensures.tasks
     ∙ ap (λ (ts : List Task). map (passed end k seats) ts) (tasks_are c)
     ∙ leapt_all end k c.args.roster.now.places old.cpus c.args.limit old.tasks seats c.requires.apart (homed_are c) (right_are c)
+
+pub seat_all-requires-clause-wide : goal.seat_all-requires-clause-wide
+seat_all-requires-clause-wide c = grind (arith, common_steps)
+
+pub seat_all-requires-clause-cpus : goal.seat_all-requires-clause-cpus
+seat_all-requires-clause-cpus c = grind (arith, common_steps)
+
+pub seat_all-requires-clause-limit : goal.seat_all-requires-clause-limit
+seat_all-requires-clause-limit c = grind (arith, common_steps)
+
+pub seat_all-requires-clause-within : goal.seat_all-requires-clause-within
+seat_all-requires-clause-within c = grind (arith, common_steps)
+
+pub seat_all-requires-clause-homes : goal.seat_all-requires-clause-homes
+seat_all-requires-clause-homes c = grind (arith, common_steps)
+
+pub seat_all-requires-clause-may : goal.seat_all-requires-clause-may
+seat_all-requires-clause-may c = grind (arith, common_steps)
+
+pub overflow_sub-ticks : goal.overflow_sub-ticks
+overflow_sub-ticks c = grind (arith, common_steps)
+
+pub overflow_add-time : goal.overflow_add-time
+overflow_add-time c = grind (arith, common_steps)
+
+pub pass-requires-clause-some : goal.pass-requires-clause-some
+pass-requires-clause-some c = grind (arith, common_steps)
+
+pub pass-requires-clause-early : goal.pass-requires-clause-early
+pass-requires-clause-early c = grind (arith, common_steps)
+
+pub pass-requires-clause-ends : goal.pass-requires-clause-ends
+pass-requires-clause-ends c = grind (arith, common_steps)
+
+pub returns-clause-cpus : goal.returns-clause-cpus
+returns-clause-cpus c = grind (arith, common_steps)
+
+pub returns-clause-places : goal.returns-clause-places
+returns-clause-places c = grind (arith, common_steps)
+
+pub returns-clause-some : goal.returns-clause-some
+returns-clause-some c = grind (arith, common_steps)
+
+pub returns-clause-most : goal.returns-clause-most
+returns-clause-most c = grind (arith, common_steps)
+
+pub returns-clause-sound : goal.returns-clause-sound
+returns-clause-sound c = grind (arith, common_steps)

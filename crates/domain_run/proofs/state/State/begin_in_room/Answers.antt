@@ -7,6 +7,7 @@ use Rattle.domain_run.proofs.Paying.{under_way_is}
 use Rattle.domain_run.specs.Happened.{told_by_beginning}
 use Rattle.domain_run.specs.Log.{Tells}
 use Rattle.domain_run.specs.private.Telling.{told_at_home}
+use Rattle.std.proofs.lemmas.Grind.{common_steps}
 use Rattle.domain_run.proofs.state.State.begin_in_room.Goals as goal
 
 pub begin-changed-requires-clause-cpus : goal.begin-changed-requires-clause-cpus
@@ -68,3 +69,18 @@ returns-clause-room c made wanted =
 
 pub begin-changed-requires-clause-numbered : goal.begin-changed-requires-clause-numbered
 begin-changed-requires-clause-numbered c = c.self.invariant.domain.steady.numbered
+
+pub begin-changed-requires-clause-early : goal.begin-changed-requires-clause-early
+begin-changed-requires-clause-early c = grind (arith, common_steps)
+
+pub begin-changed-requires-clause-sound : goal.begin-changed-requires-clause-sound
+begin-changed-requires-clause-sound c = grind (arith, common_steps)
+
+pub begin-changed-requires-clause-apart : goal.begin-changed-requires-clause-apart
+begin-changed-requires-clause-apart c = grind (arith, common_steps)
+
+pub begin-changed-requires-clause-room : goal.begin-changed-requires-clause-room
+begin-changed-requires-clause-room c = grind (arith, common_steps)
+
+pub overflow_add-self : goal.overflow_add-self
+overflow_add-self c = grind (arith, common_steps)

@@ -1,7 +1,8 @@
-use Rattle.std.proofs.Common.{sym, subst}
+use Rattle.std.proofs.Common.{sym, subst, arith}
 use Rattle.domain_run.specs.Domain.{Domain}
 use Rattle.domain_run.specs.Keys.{AreKept}
 use Rattle.domain_run.proofs.KeptKeys.{kept_itself, ticks_kept}
+use Rattle.std.proofs.lemmas.Grind.{common_steps}
 use Rattle.domain_run.proofs.state.State.leap_once_in_room.Goals as goal
 
 pub returns-then-not-begin_seated-clause-keys : goal.returns-then-not-begin_seated-clause-keys
@@ -13,3 +14,21 @@ returns-clause-keys c =
     let d = c.args.self.now in
     let made = c.run.ensures.domain d (c.begin_seated.ensures.ok c.if-not-begin_seated.false) in
     subst (λ (x : Domain). AreKept d.tasks x.tasks) (sym made) (ticks_kept c.run.result d c.begin_seated.ensures.domain.steady.numbered)
+
+pub begin_seated-requires : goal.begin_seated-requires
+begin_seated-requires c = grind (arith, common_steps)
+
+pub run-requires-clause-begun : goal.run-requires-clause-begun
+run-requires-clause-begun c = grind (arith, common_steps)
+
+pub run-requires-clause-some : goal.run-requires-clause-some
+run-requires-clause-some c = grind (arith, common_steps)
+
+pub run-requires-clause-quiet : goal.run-requires-clause-quiet
+run-requires-clause-quiet c = grind (arith, common_steps)
+
+pub run-requires-clause-early : goal.run-requires-clause-early
+run-requires-clause-early c = grind (arith, common_steps)
+
+pub returns-clause-most : goal.returns-clause-most
+returns-clause-most c = grind (arith, common_steps)
