@@ -4,7 +4,7 @@ use Rattle.std.specs.Str.{IsUtf8}
 use Rattle.std.specs.Char.{is_ascii_digit}
 use Rattle.std.specs.declared.string.String.{String}
 use Rattle.std.specs.declared.alloc.Global.{Global}
-use Rattle.std.proofs.Common.{ℕ, ◌+◌, ◌<◌, ◌≤◌, ◌≡◌, Bool, true, false, List, [], ◌∷◌, ◌++◌, length, take, drop, string_bytes, refl, sym, ap, ◌∙◌, subst, arith, Option, Some, None, Result, Ok, Err, IfOk, IfSome, append-nil, append_assoc, length-append}
+use Rattle.std.proofs.Common.{ℕ, ◌+◌, ◌<◌, ◌≤◌, ◌≡◌, true, false, List, [], ◌∷◌, ◌++◌, length, take, drop, string_bytes, refl, sym, ap, ◌∙◌, subst, arith, Option, Some, None, Result, Ok, Err, IfOk, IfSome, append-nil, append_assoc, length-append}
 use Rattle.std.proofs.lemmas.Bool.Decides.{nat_tests}
 use Rattle.std.proofs.lemmas.List.{map_push}
 use Rattle.std.proofs.lemmas.Str.{encode_ascii, encodes-append}
@@ -16,7 +16,7 @@ use Rattle.json_order.specs.private.Entries.{keys_of}
 use Rattle.json_order.specs.private.AtOnce.{Takes, parts_after}
 use Rattle.json_order.specs.private.Machine.{Entries, Place, at_value, at_first_item, behind, at_first_key, at_next_key, in_key, behind_key, in_string, in_number, in_word, Frame, in_list, in_object, State, state, goes, value_move, behind_move, move, judged, step, run, part_step, is_done, quote_step, ended}
 use Rattle.json_order.specs.private.Places.{entries_of, letters_from, value_of}
-use Rattle.json_order.specs.private.Whole.{Crosses, IsBehind, ReadsValue, ReadsNumber, IsQuoted, ReadsWord, before_item, before_key, IsItem, ReadsKey, IsWhole}
+use Rattle.json_order.specs.private.Whole.{Crosses, IsBehind, ReadsValue, ReadsNumber, IsQuoted, ReadsWord, before_item, before_key, ReadsKey, IsWhole}
 use Rattle.json_order.specs.declared.fault.JsonKind.{JsonKind}
 use Rattle.json_order.specs.declared.place.Escape.TheVariants.{Outside}
 use Rattle.json_order.specs.declared.place.Part.{Part}
@@ -379,14 +379,3 @@ if_read (Err k) P Q f h = h
 pub if_some : {T : Type 0} (o : Option T) (P Q : T → Type 0) → ((t : T) → P t → Q t) → IfSome o P → IfSome o Q
 if_some (Some t) P Q f h = f t h
 if_some None P Q f h = h
-
--- what is known of a result that is this
-pub ok_at : {T : Type 0} (r : Result T JsonKind) (P : T → Type 0) (t : T) → r ≡ Ok t → IfOk r P → P t
-ok_at r P t e h = subst (λ x. IfOk x P) e h
-
--- an item that is the last, and one that is not
-pub item_last : (d close : ℕ) (v : Json) (last : Bool) (before after : List ℕ) → IsItem d close v last before after → last ≡ true → (end : List ℕ) × ReadsValue d v before end × (end ≡ encode_utf8 close ++ after)
-item_last d close v last before after r e = subst (λ b. IsItem d close v b before after) e r
-
-pub item_more : (d close : ℕ) (v : Json) (last : Bool) (before after : List ℕ) → IsItem d close v last before after → last ≡ false → (end : List ℕ) × ReadsValue d v before end × (end ≡ encode_utf8 44 ++ after)
-item_more d close v last before after r e = subst (λ b. IsItem d close v b before after) e r

@@ -35,12 +35,8 @@ fn unit_of<'a>(rest: &'a str) -> Option<(u32, &'a str)>
     ensures spelt { IfSome result (λ u. IsUnit u.0 rest.now u.1.now) }
     ensures unit { IfSome result (λ u. u.0 < 0x1_0000) }
 {
-    let Some(digits) = rest.strip_prefix("\\u") else {
-        return None;
-    };
-    let Some(unit) = four_digits(digits.as_bytes()) else {
-        return None;
-    };
+    let digits = rest.strip_prefix("\\u")?;
+    let unit = four_digits(digits.as_bytes())?;
     let (_, after) = digits.split_at(4);
     Some((unit, after))
 }
@@ -53,21 +49,15 @@ fn char_of<'a>(unit: u32, rest: &'a str) -> Option<(char, &'a str)>
     ensures { IfSome result (λ c. UnitEnds unit c.0 rest.now c.1.now) }
 {
     if unit < 0xD800 || unit > 0xDBFF {
-        return match char::from_u32(unit) {
-            Some(c) => Some((c, rest)),
-            None => None,
-        };
+        let c = char::from_u32(unit)?;
+        return Some((c, rest));
     }
-    let Some((low, after)) = unit_of(rest) else {
-        return None;
-    };
+    let (low, after) = unit_of(rest)?;
     if low < 0xDC00 || low > 0xDFFF {
         return None;
     }
-    match char::from_u32(0x10000 + (unit - 0xD800) * 0x400 + (low - 0xDC00)) {
-        Some(c) => Some((c, after)),
-        None => None,
-    }
+    let c = char::from_u32(0x10000 + (unit - 0xD800) * 0x400 + (low - 0xDC00))?;
+    Some((c, after))
 }
 
 /// The character that a backslash and another character in front spell, and what stands behind
@@ -76,17 +66,10 @@ fn char_of<'a>(unit: u32, rest: &'a str) -> Option<(char, &'a str)>
 fn short_of<'a>(rest: &'a str) -> Option<(char, &'a str)>
     ensures { IfSome result (λ c. IsEscape c.0 rest.now c.1.now) }
 {
-    let Some(spelt) = rest.strip_prefix("\\") else {
-        return None;
-    };
-    let mut chars = spelt.chars();
-    let Some(letter) = chars.next() else {
-        return None;
-    };
-    match short_escape(letter) {
-        Some(c) => Some((c, chars.as_str())),
-        None => None,
-    }
+    let mut chars = rest.strip_prefix("\\")?.chars();
+    let letter = chars.next()?;
+    let c = short_escape(letter)?;
+    Some((c, chars.as_str()))
 }
 
 /// The character that a whole escape in front spells, and what stands behind it.

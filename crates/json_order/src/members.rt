@@ -111,11 +111,7 @@ fn add_member(
     ensures err { IfErr result (λ k. k ≡ Memory) }
 {
     if list.is_empty() {
-        let Ok(()) = list.reserve_exact(room) else {
-            // For the prover alone: dropped by a call, and not field by field.
-            drop(value);
-            return Err(JsonKind::Memory);
-        };
+        list.reserve_exact(room)?;
     }
     list.push((key, value))?;
     Ok(())

@@ -1,19 +1,18 @@
-ghost use Rattle.std.specs.Prelude.{◌≡◌, ◌≢◌, [], Some, None, IfOk, OnOk, IfErr, IfSome, IfNone, string_bytes};
+ghost use Rattle.std.specs.Prelude.{◌≡◌, ◌≢◌, [], Some, None, IfOk, OnOk, IfErr, IfSome, IfNone};
 ghost use Rattle.json_order.specs.declared.fault.JsonKind.TheVariants.{End, Memory};
 ghost use Rattle.json_order.specs.Fault.{strict, Spells, IsFault};
 ghost use Rattle.json_order.specs.Json.{Json};
 ghost use Rattle.json_order.specs.private.AtOnce.{Stands};
-ghost use Rattle.json_order.specs.private.Machine.{start, ended, in_number, in_word};
-ghost use Rattle.json_order.specs.private.Places.{place_of, frames_of, state_of, letters_from, value_of};
+ghost use Rattle.json_order.specs.private.Machine.{start, ended};
+ghost use Rattle.json_order.specs.private.Places.{place_of, frames_of, state_of};
 ghost use Rattle.json_order.specs.Seen.{json_of};
 
 use crate::fault::{JsonFault, JsonKind};
 use crate::number::is_done;
-use crate::place::{Frame, Part, Place};
+use crate::place::{Frame, Place};
 use crate::step::{DEPTH, turn};
 use crate::tree::Tree;
 use crate::whole::whole_text;
-use crate::word::Word;
 use std::alloc::Global;
 use std::str;
 
@@ -63,31 +62,6 @@ fn fault_at(kind: JsonKind, at: usize) -> JsonFault
     }
 }
 
-/// The number that ends here, none where it may not.
-fn number_at_end(text: String, part: Part) -> Option<Tree>
-    ensures none { IfNone result (ended (in_number (string_bytes text) part) [] ≡ None) }
-    ensures some { IfSome result (λ tree. ended (in_number (string_bytes text) part) []
-        ≡ Some (json_of tree)) }
-{
-    if is_done(part) {
-        return Some(Tree::Number(text));
-    }
-    None
-}
-
-/// The value of the word that ends here, none where it may not.
-fn word_at_end(word: Word, read: usize) -> Option<Tree>
-    ensures none { IfNone result (ended (in_word (letters_from word read) (value_of word)) []
-        ≡ None) }
-    ensures some { IfSome result (λ tree. ended (in_word (letters_from word read) (value_of word)) []
-        ≡ Some (json_of tree)) }
-{
-    match word.letter(read) {
-        Some(_) => None,
-        None => Some(word.tree()),
-    }
-}
-
 /// The value of a text that ends here, none where it may not.
 fn value_at_end(place: Place, stack: &Vec<Frame>) -> Option<Tree>
     ensures none { IfNone result (ended (place_of place) (frames_of stack.now.items) ≡ None) }
@@ -95,19 +69,21 @@ fn value_at_end(place: Place, stack: &Vec<Frame>) -> Option<Tree>
         ≡ Some (json_of tree)) }
 {
     if !stack.is_empty() {
-        // For the prover alone: dropped by a call, and not field by field.
-        drop(place);
         return None;
     }
     match place {
         Place::Behind(value) => Some(value),
-        Place::Number(text, part) => number_at_end(text, part),
-        Place::Word(word, read) => word_at_end(word, read),
-        other => {
-            // Here too.
-            drop(other);
+        Place::Number(text, part) => {
+            if is_done(part) {
+                return Some(Tree::Number(text));
+            }
             None
         }
+        Place::Word(word, read) => match word.letter(read) {
+            Some(_) => None,
+            None => Some(word.tree()),
+        },
+        _ => None,
     }
 }
 

@@ -1,11 +1,10 @@
-ghost use Rattle.std.specs.Prelude.{List, ◌≡◌, ◌<◌, ◌++◌, [], ◌∷◌, Some, Ok, Err, IsOk, IfOk, OnOk, IfErr, map, string_bytes};
+ghost use Rattle.std.specs.Prelude.{List, ◌≡◌, ◌<◌, ◌++◌, [], ◌∷◌, Ok, IsOk, IfOk, OnOk, IfErr, map, string_bytes};
 ghost use Rattle.json_order.specs.declared.fault.JsonKind.TheVariants.{Memory};
 ghost use Rattle.json_order.specs.declared.place.Escape.TheVariants.{Outside};
-ghost use Rattle.json_order.specs.declared.place.Place.TheVariants.{Behind};
 ghost use Rattle.json_order.specs.Fault.{strict};
 ghost use Rattle.json_order.specs.Grammar as grammar;
 ghost use Rattle.json_order.specs.Json.{array, no_items, object, no_members};
-ghost use Rattle.json_order.specs.private.Machine.{Frame as StackFrame, IsFine, IsFinePlace, state, judged, step as machine_step, move, at_first_item, at_first_key, at_next_key, in_key, behind_key, in_string, in_number, in_word, closed, key_move, value_move, next_move, behind_move};
+ghost use Rattle.json_order.specs.private.Machine.{Frame as StackFrame, IsFine, IsFinePlace, state, judged, step as machine_step, move, at_first_item, at_first_key, at_next_key, in_key, behind_key, in_string, in_number, in_word, value_move, next_move, behind_move};
 ghost use Rattle.json_order.specs.private.Places.{place_of, frames_of, state_of, entries_of, letters_from, value_of, Says, IsInObject, IsMoving};
 ghost use Rattle.json_order.specs.Seen.{json_of, items_with, members_with};
 
@@ -45,8 +44,7 @@ fn one(alloc: Global, c: char) -> Result<String, JsonKind>
 fn go_to(place: &mut Place, next: Place) -> Result<(), JsonKind>
     ensures { IsOk result × (place.new ≡ next) }
 {
-    // For the prover alone: the old place is dropped by a call, and not field by field.
-    drop(mem::replace(place, next));
+    *place = next;
     Ok(())
 }
 
@@ -62,41 +60,6 @@ fn begin_key(alloc: Global, place: &mut Place, members: Members) -> Result<(), J
     )
 }
 
-/// In a number, behind its first character.
-#[inline(always)]
-fn number_begun(alloc: Global, c: char, part: Part) -> Result<Place, JsonKind>
-    requires { c < 128 }
-    ensures ok { IfOk result (λ p. place_of p ≡ in_number (c ∷ []) part) }
-    ensures err { IfErr result (λ k. k ≡ Memory) }
-{
-    match one(alloc, c) {
-        Ok(text) => Ok(Place::Number(text, part)),
-        Err(kind) => Err(kind),
-    }
-}
-
-/// Behind a value's first character.
-#[inline(always)]
-fn begun(alloc: Global, stack: &Vec<Frame>, c: char) -> Result<Place, JsonKind>
-    ensures ok { IfOk result (λ p. judged strict (value_move (frames_of stack.now.items) c)
-        ≡ Ok (state_of p stack.now.items)) }
-    ensures err { IfErr result (Says (judged strict (value_move (frames_of stack.now.items) c))) }
-{
-    match c {
-        'n' => Ok(Place::Word(Word::Null, 1)),
-        't' => Ok(Place::Word(Word::True, 1)),
-        'f' => Ok(Place::Word(Word::False, 1)),
-        '"' => Ok(Place::Text(String::new(alloc), Escape::Outside)),
-        '-' => number_begun(alloc, c, Part::Minus),
-        '0' => number_begun(alloc, c, Part::Zero),
-        '1'..='9' => number_begun(alloc, c, Part::Whole),
-        '[' if stack.len() < DEPTH => Ok(Place::FirstItem),
-        '{' if stack.len() < DEPTH => Ok(Place::FirstKey),
-        '[' | '{' => Err(JsonKind::Depth),
-        _ => Err(JsonKind::Syntax),
-    }
-}
-
 /// A value's first character.
 #[inline(always)]
 fn value_step(alloc: Global, place: &mut Place, stack: &Vec<Frame>, c: char) -> Result<(), JsonKind>
@@ -104,9 +67,18 @@ fn value_step(alloc: Global, place: &mut Place, stack: &Vec<Frame>, c: char) -> 
         ≡ Ok (state_of place.new stack.now.items)) }
     ensures err { IfErr result (Says (judged strict (value_move (frames_of stack.now.items) c))) }
 {
-    match begun(alloc, stack, c) {
-        Ok(next) => go_to(place, next),
-        Err(kind) => Err(kind),
+    match c {
+        'n' => go_to(place, Place::Word(Word::Null, 1)),
+        't' => go_to(place, Place::Word(Word::True, 1)),
+        'f' => go_to(place, Place::Word(Word::False, 1)),
+        '"' => go_to(place, Place::Text(String::new(alloc), Escape::Outside)),
+        '-' => go_to(place, Place::Number(one(alloc, c)?, Part::Minus)),
+        '0' => go_to(place, Place::Number(one(alloc, c)?, Part::Zero)),
+        '1'..='9' => go_to(place, Place::Number(one(alloc, c)?, Part::Whole)),
+        '[' if stack.len() < DEPTH => go_to(place, Place::FirstItem),
+        '{' if stack.len() < DEPTH => go_to(place, Place::FirstKey),
+        '[' | '{' => Err(JsonKind::Depth),
+        _ => Err(JsonKind::Syntax),
     }
 }
 
@@ -116,11 +88,7 @@ fn add_last(items: &mut Vec<Tree>, value: Tree) -> Result<(), JsonKind>
     ensures err { IfErr result (λ k. k ≡ Memory) }
 {
     if items.is_empty() {
-        let Ok(()) = items.reserve_exact(1) else {
-            // For the prover alone: dropped by a call, and not field by field.
-            drop(value);
-            return Err(JsonKind::Memory);
-        };
+        items.reserve_exact(1)?;
     }
     items.push(value)?;
     Ok(())
@@ -157,8 +125,6 @@ fn push_item(place: &mut Place, stack: &mut Vec<Frame>, value: Tree) -> Result<(
 {
     let open = stack.len();
     if open == 0 {
-        // For the prover alone: dropped by a call, and not field by field.
-        drop(value);
         return Err(JsonKind::Syntax);
     }
     match &mut stack[open - 1] {
@@ -199,58 +165,6 @@ pub(crate) fn whole_list(mut items: Vec<Tree>, value: Tree) -> Result<Tree, Json
     Ok(Tree::List(items))
 }
 
-/// Behind a list or an object, where it is whole.
-#[inline(always)]
-fn go_behind(place: &mut Place, whole: Result<Tree, JsonKind>) -> Result<(), JsonKind>
-    ensures ok { IfOk whole (λ t. IsOk result × (place.new ≡ Behind t)) }
-    ensures err { IfErr whole (λ k. result ≡ Err k) }
-{
-    match whole {
-        Ok(tree) => go_to(place, Place::Behind(tree)),
-        Err(kind) => Err(kind),
-    }
-}
-
-/// A `]` behind a value.
-#[inline(always)]
-fn end_list(place: &mut Place, stack: &mut Vec<Frame>, value: Tree) -> Result<(), JsonKind>
-    ensures ok { OnOk result (judged strict
-        (next_move (json_of value) (frames_of stack.old.items) 93)
-        ≡ Ok (state_of place.new stack.new.items)) }
-    ensures err { IfErr result
-        (Says (judged strict (next_move (json_of value) (frames_of stack.old.items) 93))) }
-{
-    match stack.pop() {
-        Some(Frame::List(items)) => go_behind(place, whole_list(items, value)),
-        other => {
-            // For the prover alone: dropped by a call, and not field by field.
-            drop(other);
-            drop(value);
-            Err(JsonKind::Syntax)
-        }
-    }
-}
-
-/// A `}` behind a value.
-#[inline(always)]
-fn end_object(place: &mut Place, stack: &mut Vec<Frame>, value: Tree) -> Result<(), JsonKind>
-    ensures ok { OnOk result (judged strict
-        (next_move (json_of value) (frames_of stack.old.items) 125)
-        ≡ Ok (state_of place.new stack.new.items)) }
-    ensures err { IfErr result
-        (Says (judged strict (next_move (json_of value) (frames_of stack.old.items) 125))) }
-{
-    match stack.pop() {
-        Some(Frame::Object(members, key)) => go_behind(place, whole_object(members, key, value)),
-        other => {
-            // For the prover alone: dropped by a call, and not field by field.
-            drop(other);
-            drop(value);
-            Err(JsonKind::Syntax)
-        }
-    }
-}
-
 /// Behind a value and its white space.
 #[inline(always)]
 fn next_step(
@@ -267,13 +181,17 @@ fn next_step(
 {
     match c {
         ',' => push_item(place, stack, value),
-        ']' => end_list(place, stack, value),
-        '}' => end_object(place, stack, value),
-        _ => {
-            // For the prover alone: dropped by a call, and not field by field.
-            drop(value);
-            Err(JsonKind::Syntax)
-        }
+        ']' => match stack.pop() {
+            Some(Frame::List(items)) => go_to(place, Place::Behind(whole_list(items, value)?)),
+            _ => Err(JsonKind::Syntax),
+        },
+        '}' => match stack.pop() {
+            Some(Frame::Object(members, key)) => {
+                go_to(place, Place::Behind(whole_object(members, key, value)?))
+            }
+            _ => Err(JsonKind::Syntax),
+        },
+        _ => Err(JsonKind::Syntax),
     }
 }
 
@@ -360,21 +278,6 @@ fn next_key_step(
     }
 }
 
-/// Behind the closing quote of a key.
-#[inline(always)]
-fn end_key(place: &mut Place, members: Members, key: String) -> Result<(), JsonKind>
-    ensures ok { OnOk result ((fs : List StackFrame) → judged strict
-        (key_move (entries_of members.list.items) fs (Some (closed (string_bytes key))))
-        ≡ Ok (state (place_of place.new) fs)) }
-    ensures err { IfErr result (λ k. (fs : List StackFrame) → Says (judged strict
-        (key_move (entries_of members.list.items) fs (Some (closed (string_bytes key))))) k) }
-{
-    if members.has(key.as_str()) {
-        return Err(JsonKind::Duplicate);
-    }
-    go_to(place, Place::Colon(members, key))
-}
-
 /// In a key.
 #[inline(always)]
 fn key_step(
@@ -391,10 +294,15 @@ fn key_step(
     ensures err { IfErr result (λ k. (fs : List StackFrame) → Says (judged strict
         (move (in_key (entries_of members.list.items) (string_bytes text) escape) fs c)) k) }
 {
-    match quote_step(&mut text, &mut escape, c) {
-        Ok(Quote::Going) => go_to(place, Place::Key(members, text, escape)),
-        Ok(Quote::Closed) => end_key(place, members, text),
-        Err(kind) => Err(kind),
+    match quote_step(&mut text, &mut escape, c)? {
+        Quote::Going => go_to(place, Place::Key(members, text, escape)),
+        Quote::Closed => {
+            if members.has(text.as_str()) {
+                return Err(JsonKind::Duplicate);
+            }
+            *place = Place::Colon(members, text);
+            Ok(())
+        }
     }
 }
 

@@ -185,9 +185,7 @@ pub(crate) fn behind_char<'a>(c: char, rest: &'a str) -> Option<&'a str>
     ensures { IfSome result (λ after. rest.now ≡ encode_utf8 c ++ after.now) }
 {
     let mut chars = rest.chars();
-    let Some(first) = chars.next() else {
-        return None;
-    };
+    let first = chars.next()?;
     if first != c {
         return None;
     }

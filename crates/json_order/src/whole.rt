@@ -1,15 +1,14 @@
 //! A text that is read whole, value by value, as long as nothing stands there that ends the
 //! reading. None says that something does, or that the text ends; [`read`](crate::read) then goes
 //! through it character by character, and finds which fault it is, and where.
-ghost use Rattle.std.specs.Prelude.{ℕ, List, ◌≡◌, ◌<◌, ◌+◌, [], ◌∷◌, false, Ok, Err, IfOk, IfErr, IfSome, string_bytes};
+ghost use Rattle.std.specs.Prelude.{ℕ, List, ◌≡◌, ◌<◌, ◌+◌, [], ◌∷◌, Ok, IfOk, IfErr, IfSome, string_bytes};
 ghost use Rattle.json_order.specs.declared.fault.JsonKind.TheVariants.{Memory};
 ghost use Rattle.json_order.specs.Fault.{strict};
-ghost use Rattle.json_order.specs.Grammar.{IsSpaced, has_key};
+ghost use Rattle.json_order.specs.Grammar.{IsSpaced};
 ghost use Rattle.json_order.specs.Json.{string, object as object_value, no_members};
-ghost use Rattle.json_order.specs.private.Entries.{keys_of};
 ghost use Rattle.json_order.specs.private.Machine.{Frame as StackFrame, state, step, at_value, at_first_item, at_first_key, behind as behind_value, in_number};
 ghost use Rattle.json_order.specs.private.Places.{entries_of, value_of};
-ghost use Rattle.json_order.specs.private.Whole.{Crosses, Ended, IsColon, IsQuoted, IsItem, ReadsKey, ReadsNumber, ReadsValue, ReadsWord, IsWhole};
+ghost use Rattle.json_order.specs.private.Whole.{Crosses, IsQuoted, ReadsKey, ReadsNumber, ReadsValue, ReadsWord, IsWhole};
 ghost use Rattle.json_order.specs.Seen.{json_of};
 
 use crate::fault::JsonKind;
@@ -24,9 +23,6 @@ use std::alloc::Global;
 
 /// What is read whole, and what stands behind it.
 type Whole<'a, T> = Result<Option<(T, &'a str)>, JsonKind>;
-
-/// A value that is read whole, whether it is the last, and what stands behind.
-type Item<'a> = Result<Option<(Tree, bool, &'a str)>, JsonKind>;
 
 /// What stands behind the white space in front.
 #[inline(always)]
@@ -65,10 +61,9 @@ fn text<'a>(alloc: Global, rest: &'a str) -> Whole<'a, Tree>
         × IsQuoted bytes rest.now t.1.now)) }
     ensures err { IfErr result (λ k. k ≡ Memory) }
 {
-    match quoted(alloc, rest) {
-        Ok(Some((text, after))) => Ok(Some((Tree::Text(text), after))),
-        Ok(None) => Ok(None),
-        Err(kind) => Err(kind),
+    match quoted(alloc, rest)? {
+        Some((text, after)) => Ok(Some((Tree::Text(text), after))),
+        None => Ok(None),
     }
 }
 
@@ -120,23 +115,6 @@ fn word<'a>(word: Word, rest: &'a str) -> Option<(Tree, &'a str)>
     }
 }
 
-/// A key whose quotes are read, where it is new behind these members; its colon and the white space
-/// behind it.
-#[inline(always)]
-fn named<'a>(members: &Members, text: String, rest: &'a str) -> Option<(String, &'a str)>
-    ensures { IfSome result (λ t. (t.0 ≡ text)
-        × (has_key (keys_of members.now.list.items) (string_bytes text) ≡ false)
-        × IsColon rest.now t.1.now) }
-{
-    let Some(after) = behind_char(':', behind_space(rest)) else {
-        return None;
-    };
-    if members.has(text.as_str()) {
-        return None;
-    }
-    Some((text, behind_space(after)))
-}
-
 /// A new key behind these members, its colon and the white space behind it.
 #[inline(always)]
 fn key<'a>(alloc: Global, members: &Members, rest: &'a str) -> Whole<'a, String>
@@ -147,11 +125,16 @@ fn key<'a>(alloc: Global, members: &Members, rest: &'a str) -> Whole<'a, String>
     let Some(begun) = behind_char('"', rest) else {
         return Ok(None);
     };
-    match quoted(alloc, begun) {
-        Ok(Some((text, behind))) => Ok(named(members, text, behind)),
-        Ok(None) => Ok(None),
-        Err(kind) => Err(kind),
+    let Some((text, behind)) = quoted(alloc, begun)? else {
+        return Ok(None);
+    };
+    let Some(after) = behind_char(':', behind_space(behind)) else {
+        return Ok(None);
+    };
+    if members.has(text.as_str()) {
+        return Ok(None);
     }
+    Ok(Some((text, behind_space(after))))
 }
 
 /// An object without members.
@@ -159,56 +142,6 @@ fn empty_object(alloc: Global) -> Tree
     ensures { json_of result ≡ object_value no_members }
 {
     object_of(Vec::new(alloc))
-}
-
-/// Whether a list or an object ends behind the white space in front, or goes on behind a comma, and
-/// what stands behind that.
-#[inline(always)]
-fn ended<'a>(close: char, rest: &'a str) -> Option<(bool, &'a str)>
-    ensures { IfSome result (λ t. Ended close t.0 rest.now t.1.now) }
-{
-    let end = behind_space(rest);
-    if let Some(after) = behind_char(close, end) {
-        return Some((true, after));
-    }
-    match behind_char(',', end) {
-        Some(next) => Some((false, next)),
-        None => None,
-    }
-}
-
-/// What is read with this list or object.
-#[inline(always)]
-fn read_to<'a>(whole: Result<Tree, JsonKind>, after: &'a str) -> Whole<'a, Tree>
-    ensures ok { IfOk result (λ o. IfSome o (λ t. (whole ≡ Ok t.0) × (t.1.now ≡ after.now))) }
-    ensures err { IfErr result (λ k. whole ≡ Err k) }
-{
-    match whole {
-        Ok(tree) => Ok(Some((tree, after))),
-        Err(kind) => Err(kind),
-    }
-}
-
-/// A value in a list or an object that ends with this character: whether it is the last there, and
-/// what stands behind the character or the comma. So many may be open in the value.
-#[cycle(value)]
-fn item<'a>(alloc: Global, rest: &'a str, depth: usize, close: char) -> Item<'a>
-    ensures ok { IfOk result (λ o. IfSome o (λ t.
-        IsItem depth close (json_of t.0) t.1 rest.now t.2.now)) }
-    ensures err { IfErr result (λ k. k ≡ Memory) }
-{
-    match value(alloc, rest, depth) {
-        Ok(Some((item, behind))) => match ended(close, behind) {
-            Some((last, after)) => Ok(Some((item, last, after))),
-            None => {
-                // For the prover alone: dropped by a call, and not field by field.
-                drop(item);
-                Ok(None)
-            }
-        },
-        Ok(None) => Ok(None),
-        Err(kind) => Err(kind),
-    }
 }
 
 /// A list behind its `[`; so many more may be open in it.
@@ -224,17 +157,18 @@ fn list<'a>(alloc: Global, rest: &'a str, depth: usize) -> Whole<'a, Tree>
     }
     let mut items = Vec::new(alloc);
     'items: loop {
-        match item(alloc, left, depth, ']') {
-            Ok(Some((item, last, after))) => {
-                if last {
-                    return read_to(whole_list(items, item), after);
-                }
-                items.push(item)?;
-                left = behind_space(after);
-            }
-            Ok(None) => return Ok(None),
-            Err(kind) => return Err(kind),
+        let Some((item, behind)) = value(alloc, left, depth)? else {
+            return Ok(None);
+        };
+        let end = behind_space(behind);
+        if let Some(after) = behind_char(']', end) {
+            return Ok(Some((whole_list(items, item)?, after)));
         }
+        let Some(next) = behind_char(',', end) else {
+            return Ok(None);
+        };
+        items.push(item)?;
+        left = behind_space(next);
     }
 }
 
@@ -251,22 +185,21 @@ fn object<'a>(alloc: Global, rest: &'a str, depth: usize) -> Whole<'a, Tree>
     }
     let mut members = Members::new(alloc);
     'members: loop {
-        let (name, begun) = match key(alloc, &members, left) {
-            Ok(Some(read)) => read,
-            Ok(None) => return Ok(None),
-            Err(kind) => return Err(kind),
+        let Some((name, begun)) = key(alloc, &members, left)? else {
+            return Ok(None);
         };
-        match item(alloc, begun, depth, '}') {
-            Ok(Some((item, last, after))) => {
-                if last {
-                    return read_to(whole_object(members, name, item), after);
-                }
-                members = with_member(members, name, item)?;
-                left = behind_space(after);
-            }
-            Ok(None) => return Ok(None),
-            Err(kind) => return Err(kind),
+        let Some((item, behind)) = value(alloc, begun, depth)? else {
+            return Ok(None);
+        };
+        let end = behind_space(behind);
+        if let Some(after) = behind_char('}', end) {
+            return Ok(Some((whole_object(members, name, item)?, after)));
         }
+        let Some(next) = behind_char(',', end) else {
+            return Ok(None);
+        };
+        members = with_member(members, name, item)?;
+        left = behind_space(next);
     }
 }
 
@@ -299,17 +232,14 @@ pub(crate) fn whole_text(alloc: Global, text: &str) -> Result<Option<Tree>, Json
     ensures err { IfErr result (λ k. k ≡ Memory) }
 {
     let left = behind_space(text);
-    match value(alloc, left, DEPTH) {
-        Ok(Some((tree, after))) => {
+    match value(alloc, left, DEPTH)? {
+        Some((tree, after)) => {
             let end = behind_space(after);
             if end.is_empty() {
                 return Ok(Some(tree));
             }
-            // For the prover alone: dropped by a call, and not field by field.
-            drop(tree);
             Ok(None)
         }
-        Ok(None) => Ok(None),
-        Err(kind) => Err(kind),
+        None => Ok(None),
     }
 }

@@ -1,9 +1,8 @@
 -- What is read whole: several characters at a time, within open lists and objects that leave so
 -- many more levels.
-use Rattle.std.specs.Prelude.{ℕ, ◌≡◌, ◌+◌, ◌≤◌, Bool, true, if◌then◌else◌, List, [], ◌∷◌, ◌++◌, length, Ok, encode_utf8, encode_utf8_all}
+use Rattle.std.specs.Prelude.{ℕ, ◌≡◌, ◌+◌, ◌≤◌, true, List, [], ◌∷◌, ◌++◌, length, Ok, encode_utf8, encode_utf8_all}
 use Rattle.json_order.specs.Json.{Json, number}
 use Rattle.json_order.specs.Fault.{strict}
-use Rattle.json_order.specs.Grammar.{IsSpaced}
 use Rattle.json_order.specs.private.Machine.{Entries, Place, at_value, at_first_item, behind, at_first_key, at_next_key, in_key, behind_key, in_string, in_number, in_word, Frame, in_list, in_object, State, state, run, is_done}
 use Rattle.json_order.specs.private.AtOnce.{TakesQuoted, Stands}
 use Rattle.json_order.specs.private.Places.{letters_from, value_of}
@@ -40,18 +39,6 @@ ReadsValue depth v before after =
 abbrev pub ReadsNumber : Json → List ℕ → List ℕ → Type 0
 ReadsNumber v before after = ReadsValue 0 v before after
 
--- behind white space a list or an object ends, or a comma stands
-abbrev pub Ended : ℕ → Bool → List ℕ → List ℕ → Type 0
-Ended close last before after =
-    (end : List ℕ) × IsSpaced before end
-    × (end ≡ encode_utf8 (if last then close else 44) ++ after)
-
--- a value stands in front, and behind it that character or a comma
-abbrev pub IsItem : ℕ → ℕ → Json → Bool → List ℕ → List ℕ → Type 0
-IsItem depth close v last before after =
-    (end : List ℕ) × ReadsValue depth v before end
-    × (end ≡ encode_utf8 (if last then close else 44) ++ after)
-
 -- the characters of a string, and its closing quote
 abbrev pub IsQuoted : List ℕ → List ℕ → List ℕ → Type 0
 IsQuoted text before after =
@@ -73,12 +60,6 @@ before_item (v ∷ vs) fs = state at_value (in_list (v ∷ vs) ∷ fs)
 abbrev pub before_key : Entries → List Frame → State
 before_key [] fs = state at_first_key fs
 before_key (e ∷ es) fs = state (at_next_key (e ∷ es)) fs
-
--- a colon within white space
-abbrev pub IsColon : List ℕ → List ℕ → Type 0
-IsColon before after =
-    (end : List ℕ) × (mid : List ℕ) × IsSpaced before end × (end ≡ encode_utf8 58 ++ mid)
-    × IsSpaced mid after
 
 -- a key behind these members, up to its value
 abbrev pub ReadsKey : Entries → List ℕ → List ℕ → List ℕ → Type 0

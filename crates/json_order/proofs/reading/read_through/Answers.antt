@@ -1,7 +1,6 @@
 use Rattle.std.specs.Prelude.{encode_utf8_all}
 use Rattle.std.specs.Str.Iter.{chars_rest}
 use Rattle.std.proofs.Common.{length, refl, ap, arith}
-use Rattle.std.proofs.lemmas.Grind.{common_steps}
 use Rattle.json_order.specs.private.Places.{state_of}
 use Rattle.json_order.proofs.Turns.{Told, fault_told, stands_more, stands_fine, left_length}
 use Rattle.json_order.proofs.reading.read_through.Goals as goal
@@ -22,24 +21,3 @@ loop-c-preserved c =
     let u = state_of c.turn.new.place c.turn.new.stack.items in
     let more = stands_more c.args.text.now (chars_rest c.loop-c.chars) (chars_rest c.next.new.self) c.in-Some.c (state_of c.loop-c.place c.loop-c.stack.items) u c.loop-c.invariant.stands c.in-Some.ensures.steps.0 c.in-Ok.ensures.ok in
     record { stands = more; fine = stands_fine c.args.text.now (chars_rest c.next.new.self) u more }
-
-pub loop-c-init : goal.loop-c-init
-loop-c-init c = grind (arith, common_steps)
-
-pub loop-c-smaller : goal.loop-c-smaller
-loop-c-smaller c = grind (arith, common_steps)
-
-pub overflow_sub-at : goal.overflow_sub-at
-overflow_sub-at c = grind (arith, common_steps)
-
-pub overflow_sub-at-in-Err : goal.overflow_sub-at-in-Err
-overflow_sub-at-in-Err c = grind (arith, common_steps)
-
-pub returns-in-Err-clause-ok : goal.returns-in-Err-clause-ok
-returns-in-Err-clause-ok c = grind (arith, common_steps)
-
-pub returns-clause-ok : goal.returns-clause-ok
-returns-clause-ok c = grind (arith, common_steps)
-
-pub returns-clause-fault : goal.returns-clause-fault
-returns-clause-fault c = grind (arith, common_steps)

@@ -1,7 +1,6 @@
 use Rattle.std.specs.Prelude.{OnOk, IfErr}
-use Rattle.std.proofs.Common.{◌≡◌, false, Ok, sym, subst, ◌∙◌, arith}
+use Rattle.std.proofs.Common.{◌≡◌, false, Ok, sym, subst, ◌∙◌}
 use Rattle.std.proofs.lemmas.Bool.{ne_eqb}
-use Rattle.std.proofs.lemmas.Grind.{common_steps}
 use Rattle.json_order.specs.Fault.{strict}
 use Rattle.json_order.specs.Grammar.{is_space}
 use Rattle.json_order.specs.private.Machine.{Move, at_first_item, judged, move, value_move}
@@ -20,21 +19,3 @@ returns-clause-err c =
     let space : is_space c.args.c ≡ false = sym c.is_space.ensures ∙ c.if-is_space.false in
     let moves : value_move (frames_of c.push.new.self.items) c.args.c ≡ move at_first_item (frames_of c.args.stack.now.items) c.args.c = list_opened c.args.stack.now.items c.push.new.self.items c.new.result c.args.c c.in_ok-push.ensures.items c.new.ensures.items space (ne_eqb c.args.c 93 c.if-c-eq93.false) in
     subst (λ (m : Move). IfErr c.value_step.result (Says (judged strict m))) moves c.value_step.ensures.err
-
-pub returns-then-is_space-clause-ok : goal.returns-then-is_space-clause-ok
-returns-then-is_space-clause-ok c = grind (arith, common_steps)
-
-pub returns-then-is_space-clause-err : goal.returns-then-is_space-clause-err
-returns-then-is_space-clause-err c = grind (arith, common_steps)
-
-pub returns-then-c-eq93-clause-ok : goal.returns-then-c-eq93-clause-ok
-returns-then-c-eq93-clause-ok c = grind (arith, common_steps)
-
-pub returns-then-c-eq93-clause-err : goal.returns-then-c-eq93-clause-err
-returns-then-c-eq93-clause-err c = grind (arith, common_steps)
-
-pub returns-in_err-push-clause-ok : goal.returns-in_err-push-clause-ok
-returns-in_err-push-clause-ok c = grind (arith, common_steps)
-
-pub returns-in_err-push-clause-err : goal.returns-in_err-push-clause-err
-returns-in_err-push-clause-err c = grind (arith, common_steps)

@@ -1,16 +1,18 @@
-use Rattle.std.specs.Prelude.{OnOk, IfErr}
-use Rattle.std.proofs.Common.{rules, ◌≡◌, List, Ok, Some, string_bytes, sym, subst}
-use Rattle.json_order.specs.Fault.{strict}
-use Rattle.json_order.specs.private.Machine.{Frame, quote_step, closed, judged, key_move, state}
-use Rattle.json_order.specs.private.Places.{entries_of, place_of, Says}
+use Rattle.std.proofs.Common.{rules, ◌≡◌, Some, string_bytes, true, false}
+use Rattle.json_order.specs.Grammar.{has_key}
+use Rattle.json_order.specs.private.Entries.{keys_of}
+use Rattle.json_order.specs.private.Machine.{quote_step, closed}
+use Rattle.json_order.proofs.Trees.{key_repeats, key_follows}
 use Rattle.json_order.proofs.step.key_step.Goals as goal
 
-pub returns-in-Ok-Closed-clause-ok : goal.returns-in-Ok-Closed-clause-ok
-returns-in-Ok-Closed-clause-ok c =
+pub returns-then-has-clause-err : goal.returns-then-has-clause-err
+returns-then-has-clause-err c = λ fs.
     let e : quote_step (string_bytes c.args.text) c.args.escape c.args.c ≡ Some (closed (string_bytes c.quote_step.new.text)) = search rules in
-    subst (λ o. OnOk c.end_key.result ((fs : List Frame) → judged strict (key_move (entries_of c.args.members.list.items) fs o) ≡ Ok (state (place_of c.end_key.new.place) fs))) (sym e) c.end_key.ensures.ok
+    let h : has_key (keys_of c.args.members.list.items) (string_bytes c.quote_step.new.text) ≡ true = search rules in
+    key_repeats c.args.members.list.items fs (quote_step (string_bytes c.args.text) c.args.escape c.args.c) (string_bytes c.quote_step.new.text) e h
 
-pub returns-in-Ok-Closed-clause-err : goal.returns-in-Ok-Closed-clause-err
-returns-in-Ok-Closed-clause-err c =
+pub returns-else-has-clause-ok : goal.returns-else-has-clause-ok
+returns-else-has-clause-ok c = λ fs.
     let e : quote_step (string_bytes c.args.text) c.args.escape c.args.c ≡ Some (closed (string_bytes c.quote_step.new.text)) = search rules in
-    subst (λ o. IfErr c.end_key.result (λ k. (fs : List Frame) → Says (judged strict (key_move (entries_of c.args.members.list.items) fs o)) k)) (sym e) c.end_key.ensures.err
+    let h : has_key (keys_of c.args.members.list.items) (string_bytes c.quote_step.new.text) ≡ false = search rules in
+    key_follows c.args.members.list.items fs (quote_step (string_bytes c.args.text) c.args.escape c.args.c) (string_bytes c.quote_step.new.text) e h

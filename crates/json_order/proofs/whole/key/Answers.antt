@@ -1,19 +1,15 @@
-use Rattle.std.proofs.Common.{string_bytes, sym, subst}
-use Rattle.json_order.specs.private.Places.{entries_of}
-use Rattle.json_order.specs.private.Whole.{IsQuoted, ReadsKey}
-use Rattle.json_order.proofs.Crossings.{key_read, if_some}
+use Rattle.std.proofs.Common.{◌≡◌, false, string_bytes, rules}
+use Rattle.json_order.specs.Grammar.{has_key}
+use Rattle.json_order.specs.private.Entries.{keys_of}
+use Rattle.json_order.specs.private.Whole.{IsQuoted}
+use Rattle.json_order.proofs.Crossings.{key_read}
 use Rattle.json_order.proofs.whole.key.Goals as goal
 
-pub returns-in-Ok-Some-clause-ok : goal.returns-in-Ok-Some-clause-ok
-returns-in-Ok-Some-clause-ok c =
-    let text = c.in-Ok-Some.text in
+pub returns-clause-ok : goal.returns-clause-ok
+returns-clause-ok c =
+    let text = string_bytes c.in-Some-2.text in
     let ms = c.args.members.now.list.items in
-    let rest = c.args.rest.now in
-    let begun = c.in-Some.begun.now in
-    let behind = c.in-Ok-Some.behind.now in
-    let inside : IsQuoted (string_bytes text) begun behind = rw c.in-Ok-Some.field-0-is at c.in-Ok-Some.ensures.ok in
-    if_some c.named.result _ _ (λ t h.
-    let colon = h.2 in
-    subst (λ s. ReadsKey (entries_of ms) (string_bytes s) rest t.1.now) (sym h.0)
-    (key_read ms (string_bytes text) rest begun behind colon.0 colon.1 t.1.now c.in-Some.ensures inside colon.2 colon.3 h.1 colon.4))
-    c.named.ensures
+    let inside : IsQuoted text c.in-Some.begun.now c.in-Some-2.behind.now = rw c.in-Some-2.is at c.in_ok-text.ensures.ok in
+    let fresh : has_key (keys_of ms) text ≡ false = search rules in
+    key_read ms text c.args.rest.now c.in-Some.begun.now c.in-Some-2.behind.now c.behind_space.result.now c.in-Some-behind_char.after.now c.behind_space-2.result.now
+    c.in-Some.ensures inside c.behind_space.ensures c.in-Some-behind_char.ensures fresh c.behind_space-2.ensures
