@@ -10,7 +10,7 @@ use Rattle.clap.specs.declared.parser.matches.ArgMatches.TheViews.{out-ArgMatche
 use Rattle.clap.specs.declared.parser.matches.SubCommand.{SubCommand}
 use Rattle.command_line.specs.Commands.{program_app}
 use Rattle.command_line.specs.Reading.{HasTextsOfReplay, HasTextsOfRun, IsReading}
-use Rattle.asked_words.specs.Tasks.{IsAskedBy, IsMeant, IsRefusedBy, IsTaskOf, IsWrong, name_of}
+use Rattle.asked_words.specs.Tasks.{IsAsked, IsAskedBy, IsMeant, IsRefusedBy, IsTaskOf, IsWrong, name_of}
 use Rattle.asked_words.specs.declared.words.Task.{Task}
 use Rattle.asked_words.specs.declared.words.Wrong.{Wrong}
 use Rattle.asked_words.specs.declared.words.Wrong.TheVariants as wrong
@@ -80,3 +80,7 @@ pub of_answer : (words : List Text) (m : ArgMatches) (r : Result Task Wrong) →
     → IfOk r (IsTaskOf (subcommand_name_of m)) → IfOk r (IsMeant (subcommand_rows_of m)) → IfErr r (IsRefusedBy (subcommand_rows_of m)) → IsAskedBy words r
 of_answer words m (Ok task) read texts text named meant refused = of_task words m task read texts text named meant
 of_answer words m (Err w) read texts text named meant refused = of_wrong words m w read refused
+
+pub asked_by : (words : List Text) (r : Result Task Wrong) → IsAskedBy words r → IfOk r IsAsked
+asked_by words (Ok task) by = record { words = words; by = by }
+asked_by words (Err wrong) by = tt

@@ -1,5 +1,5 @@
 -- What the words of a command line may ask for.
-use Rattle.std.specs.Prelude.{◌≡◌, ◌≢◌, ◌⊎◌, ℕ, false, List, Option, Some, Result, IfErr, IfOk, codes, option_map}
+use Rattle.std.specs.Prelude.{◌≡◌, ◌≢◌, ◌⊎◌, ℕ, false, List, Option, Some, Result, Ok, IfErr, IfOk, codes, option_map}
 use Rattle.clap.specs.Words.{App, HasKind, Row, Text, fault_of, subcommand_of}
 use Rattle.command_line.specs.Commands.{AreHeld, HeldNames, program_app}
 use Rattle.command_line.specs.Reading.{HasReplayTexts, HasTexts}
@@ -114,3 +114,8 @@ pub record IsAskedBy (words : List Text) (r : Result Task Wrong) : Type 0 where
       → subcommand_of (program_app run replay) words ≡ Some (codes "replay", rows)
       → HasReplayTexts rows)
   pub wrong : IfErr r (IsWrong (program_app run replay) words)
+
+-- there are words that ask for it
+pub record IsAsked (task : Task) : Type 0 where
+  pub words : List Text
+  pub by : IsAskedBy words (Ok task)

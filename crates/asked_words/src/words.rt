@@ -4,7 +4,7 @@ ghost use Rattle.std.specs.Prelude.{◌<◌, ◌≤◌, IfErr, IfOk, map, string
 ghost use Rattle.clap.specs.Words.{found_of, rows_of, subcommand_name_of, subcommand_rows_of};
 ghost use Rattle.run_options.specs.Options.{AreOptions};
 ghost use Rattle.asked_words.specs.Found.{AreFound, AreMeantBy, AreSpanWordsAt, IsCutFault, IsFaultOf, IsNumberAt, IsPrintAt, IsReadAt, IsReplayPrintAt, IsTextAt};
-ghost use Rattle.asked_words.specs.Tasks.{IsAskedBy, IsComparisonBy, IsComparisonRefusedBy, IsFit, IsMeant, IsRefusedBy, IsReplayBy, IsReplayRefusedBy, IsRunBy, IsRunRefusedBy, IsTaskOf};
+ghost use Rattle.asked_words.specs.Tasks.{IsAsked, IsAskedBy, IsComparisonBy, IsComparisonRefusedBy, IsFit, IsMeant, IsRefusedBy, IsReplayBy, IsReplayRefusedBy, IsRunBy, IsRunRefusedBy, IsTaskOf};
 
 use crate::comparison::{Comparison, comparison_of, shares_stdin};
 use clap::{ArgMatches, Error};
@@ -278,13 +278,15 @@ pub fn task_in(alloc: Global, words: &[String]) -> Result<Task, Wrong>
 }
 
 /// What the words of this process ask for, or what is wrong with them ([`task_in`]); a word that is
-/// not UTF-8 is refused before any other is read.
+/// not UTF-8 is refused before any other is read. No contract can name the words of a process: the
+/// clause says that there are words which ask for the task.
 ///
 /// # Errors
 /// Those of [`task_in`]; `OutOfMemory` of [`Wrong::Clap`] or [`WordsFault::Memory`] where the words
 /// themselves found no memory.
 pub fn read_words(rt: &(impl Env + Alloc<A = Global>)) -> Result<Task, Wrong>
-    ensures { IfOk result IsFit }
+    ensures fit { IfOk result IsFit }
+    ensures asked { IfOk result IsAsked }
 {
     let alloc = rt.alloc();
     let words: Vec<String> = match env::args(rt) {

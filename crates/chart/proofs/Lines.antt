@@ -2,7 +2,7 @@
 use Rattle.std.proofs.Common.{◌≡◌, ℕ, suc, ◌+◌, ◌<◌, List, [], ◌∷◌, ◌++◌, length, get_or, take, map, refl, sym, ap, ◌∙◌, arith, append_assoc, append-nil}
 use Rattle.std.specs.Prelude.{flat_map, OnOk, Result, Ok, Err}
 use Rattle.std.proofs.lemmas.List.{take_more, flat_map_more, length-take-le}
-use Rattle.figure_text.specs.Columns.{numbered}
+use Rattle.run_figures.specs.Lines.{numbered}
 
 -- the line of what was read at a place, behind those of what stands before it
 pub flat_at : {X : Type 0} (line : X → List ℕ) (xs : List X) (i : ℕ) (d : X) (old before after : List ℕ) → i < length xs → before ≡ old ++ flat_map line (take i xs) → after ≡ before ++ line (get_or xs i d) → after ≡ old ++ flat_map line (take (i + 1) xs)

@@ -1,7 +1,7 @@
 -- The chart: one SVG file without script (own; elements and attributes as in SVG 1.1). In the plot,
 -- an inner svg, x is the time itself in microseconds, so no time is rounded there.
 use Rattle.std.specs.Prelude.{ℕ, ◌+◌, ◌-◌, List, ◌++◌, length, flat_map, codes}
-use Rattle.figure_text.specs.Columns.{numbered}
+use Rattle.run_figures.specs.Lines.{numbered}
 use Rattle.chart_pieces.specs.declared.window.Window.{Window}
 use Rattle.chart.specs.declared.sheet.Sheet.{Sheet}
 use Rattle.chart.specs.Seconds.{seconds}

@@ -1,6 +1,6 @@
 -- The legend, below the plot (own): the colours of CPUs, and what the lines and marks mean.
 use Rattle.std.specs.Prelude.{ℕ, ◌+◌, ◌*◌, List, ◌++◌, length, codes}
-use Rattle.figure_text.specs.Columns.{numbered}
+use Rattle.run_figures.specs.Lines.{numbered}
 use Rattle.chart.specs.declared.sheet.Sheet.{Sheet}
 use Rattle.chart.specs.Sizes.{plot_end}
 use Rattle.chart.specs.Colours.{fill_of, legend_cpus}

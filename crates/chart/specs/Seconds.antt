@@ -1,6 +1,6 @@
 -- A time in seconds without trailing zeros, `0.25` (own).
 use Rattle.std.specs.Prelude.{ℕ, zero, suc, ◌/◌, ◌%◌, ◌==◌, if◌then◌else◌, List, [], ◌∷◌, ◌++◌, decimal}
-use Rattle.figure_text.specs.Columns.{digits_in}
+use Rattle.run_figures.specs.Lines.{digits_in}
 
 -- a number in so many digits, without the zeros at its end
 abbrev pub shortened : ℕ → ℕ → List ℕ

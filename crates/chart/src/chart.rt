@@ -1,7 +1,7 @@
 //! The whole chart.
 
 ghost use Rattle.std.specs.Prelude.{◌≡◌, ◌+◌, ◌-◌, ◌<◌, ◌≤◌, ◌^◌, ◌++◌, All, length, map, flat_map, codes, OnOk};
-ghost use Rattle.figure_text.specs.Columns.{numbered};
+ghost use Rattle.run_figures.specs.Lines.{numbered};
 ghost use Rattle.chart_pieces.specs.Window.{IsWindow};
 ghost use Rattle.chart.specs.Chart as charts;
 ghost use Rattle.chart.specs.Pieces as pieces;

@@ -1,7 +1,7 @@
 //! The legend, below the plot.
 
 ghost use Rattle.std.specs.Prelude.{◌≡◌, ◌+◌, ◌*◌, ◌<◌, ◌≤◌, ◌^◌, ◌++◌, All, length, codes, OnOk};
-ghost use Rattle.figure_text.specs.Columns.{numbered};
+ghost use Rattle.run_figures.specs.Lines.{numbered};
 ghost use Rattle.chart.specs.Legend as legends;
 ghost use Rattle.chart.specs.private.Sheets.{IsSheet};
 

@@ -1,7 +1,7 @@
 //! Texts put behind what stands before.
 
 ghost use Rattle.std.specs.Prelude.{◌≡◌, ◌<◌, ◌≤◌, ◌++◌, ◌%◌, decimal, flat_map, replicate, codes, OnOk};
-ghost use Rattle.figure_text.specs.Columns.{digits_in};
+ghost use Rattle.run_figures.specs.Lines.{digits_in};
 ghost use Rattle.chart.specs.Escape as escapes;
 ghost use Rattle.chart.specs.Seconds as times;
 ghost use Rattle.chart.specs.Pieces as pieces;

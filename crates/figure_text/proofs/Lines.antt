@@ -3,7 +3,7 @@ use Rattle.std.proofs.Common.{◌≡◌, ℕ, suc, ◌+◌, ◌<◌, List, [], �
 use Rattle.std.specs.Prelude.{OnOk, Result, Ok, Err, flat_map, sum_by}
 use Rattle.std.proofs.lemmas.List.{take_more, map-append, length-map, length-take-le, flat_map_more, get_or_default}
 use Rattle.std.proofs.lemmas.List.Sums.{sum_by-cons, sum_by_push}
-use Rattle.figure_text.specs.Columns.{numbered}
+use Rattle.run_figures.specs.Lines.{numbered}
 use Rattle.figure_text.specs.declared.summary.DomainSummary.{DomainSummary}
 use Rattle.figure_text.specs.Summary.{SummaryView, view_of, cpus_of, cpu_lines}
 

@@ -1,5 +1,6 @@
 -- Columns of a table (own).
-use Rattle.std.specs.Prelude.{ℕ, ◌+◌, ◌-◌, ◌*◌, ◌/◌, ◌%◌, ◌==◌, if◌then◌else◌, List, [], ◌∷◌, ◌++◌, length, replicate, decimal}
+use Rattle.std.specs.Prelude.{ℕ, ◌+◌, ◌-◌, ◌*◌, ◌/◌, ◌%◌, ◌==◌, if◌then◌else◌, List, ◌∷◌, ◌++◌, length, replicate, decimal}
+use Rattle.run_figures.specs.Lines.{digits_in}
 
 -- a text at the right of a column; one that is wider widens it in its line
 abbrev pub right : ℕ → List ℕ → List ℕ
@@ -8,10 +9,6 @@ right width text = replicate (width - length text) 32 ++ text
 -- a column behind others: a space, and a text at its right
 abbrev pub column : ℕ → List ℕ → List ℕ
 column width text = 32 ∷ right width text
-
--- a number in at least so many digits
-abbrev pub digits_in : ℕ → ℕ → List ℕ
-digits_in width n = replicate (width - length (decimal n)) 48 ++ decimal n
 
 -- the number that the texts show for a task (own: 1000 above the task's number)
 abbrev pub pid : ℕ → List ℕ
@@ -27,8 +24,3 @@ per_cent n = column 4 (decimal (n / 100)) ++ (46 ∷ digits_in 2 (n % 100))
 
 abbrev pub share : ℕ → ℕ → List ℕ
 share part whole = per_cent (hundredths part whole)
-
--- the lines of a list, where the first of it has this number
-abbrev pub numbered : {X : Type 0} → (ℕ → X → List ℕ) → ℕ → List X → List ℕ
-numbered line n [] = []
-numbered line n (x ∷ xs) = line n x ++ numbered line (n + 1) xs

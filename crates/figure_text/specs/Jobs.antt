@@ -5,7 +5,8 @@ use Rattle.run_figures.specs.declared.job.Job.{Job}
 use Rattle.run_figures.specs.TaskJobsView.{TaskJobsView}
 use Rattle.switch_text.specs.Names.{named}
 use Rattle.figure_text.specs.declared.jobs.DomainJobs.{DomainJobs}
-use Rattle.figure_text.specs.Columns.{right, column, pid, numbered}
+use Rattle.figure_text.specs.Columns.{right, column, pid}
+use Rattle.run_figures.specs.Lines.{numbered}
 
 abbrev pub job_header : List ℕ
 job_header = codes

@@ -8,7 +8,8 @@ use Rattle.run_figures.specs.declared.figures.CpuFigures.{CpuFigures}
 use Rattle.run_figures.specs.Laws.{AreShort}
 use Rattle.switch_text.specs.Names.{named}
 use Rattle.figure_text.specs.declared.summary.DomainSummary.{DomainSummary}
-use Rattle.figure_text.specs.Columns.{right, column, digits_in, pid, share, numbered}
+use Rattle.figure_text.specs.Columns.{right, column, pid, share}
+use Rattle.run_figures.specs.Lines.{digits_in, numbered}
 
 -- one domain: the names of its tasks by number, their figures and those of its CPUs; the sum of
 -- bandwidths and the cap, in 1/2^20 of a CPU, and the time, in microseconds, at the end

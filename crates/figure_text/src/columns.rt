@@ -3,6 +3,7 @@
 ghost use Rattle.std.specs.Prelude.{◌≡◌, ◌<◌, ◌≤◌, ◌^◌, ◌++◌, codes, decimal, replicate, OnOk};
 ghost use Rattle.std.specs.Fmt.{signed_decimal};
 ghost use Rattle.figure_text.specs.Columns as columns;
+ghost use Rattle.run_figures.specs.Lines.{digits_in};
 
 use domain_run::NoMemory;
 use itoa::Buffer;
@@ -88,7 +89,7 @@ pub(crate) fn put_pid(out: &mut Vec<u8>, number: u32) -> Result<(), NoMemory>
 /// A number in at least so many digits.
 pub(crate) fn put_digits(out: &mut Vec<u8>, width: usize, n: u64) -> Result<(), NoMemory>
     requires { width ≤ 15 }
-    ensures { OnOk result (out.new.items ≡ out.old.items ++ columns.digits_in width n) }
+    ensures { OnOk result (out.new.items ≡ out.old.items ++ digits_in width n) }
 {
     let mut buffer = Buffer::new();
     let digits = buffer.format(n).as_bytes();

@@ -1,7 +1,7 @@
 //! The text of jobs.
 
 ghost use Rattle.std.specs.Prelude.{◌≡◌, ◌++◌, OnOk, map};
-ghost use Rattle.figure_text.specs.Columns.{numbered};
+ghost use Rattle.run_figures.specs.Lines.{numbered};
 ghost use Rattle.figure_text.specs.Jobs as texts;
 
 use crate::columns::{put, put_dash, put_number, put_pid, put_right, put_signed};

@@ -1,5 +1,6 @@
 pub mod TaskJobsView
 pub mod Places
+pub mod Lines
 pub mod Jobs
 pub mod Stays
 pub mod Throttling

@@ -5,6 +5,7 @@ ghost use Rattle.session.specs.private.Parts.{AreSessionBooks};
 
 use crate::locked_book::LockedBook;
 use crate::names::Names;
+use crate::parts::BoxedDomain;
 use bw_gate::Blank;
 use call_book::Domain;
 use std::marker::PhantomData;
@@ -50,7 +51,7 @@ pub(crate) use at_place;
 
 /// Puts the last book behind its lock, where it is that of this place. The books are those of the
 /// first domains: at most one more than the place before, and at most as many after.
-fn locked<N: Names, const D: usize>(books: &mut Vec<Domain>) -> Option<Mutex<LockedBook<N, D>>>
+fn locked<N: Names, const D: usize>(books: &mut Vec<BoxedDomain>) -> Option<Mutex<LockedBook<N, D>>>
     requires named { AreSessionBooks N.id books.old.items }
     requires count { length books.old.items ≡ min (D + 1) (length N.id.cpu_sets) }
     ensures some { is_some result ≡ nat_lt D (length N.id.cpu_sets) }
@@ -61,7 +62,8 @@ fn locked<N: Names, const D: usize>(books: &mut Vec<Domain>) -> Option<Mutex<Loc
     if books.len() <= D {
         return None;
     }
-    let domain = books.pop()?;
+    let book = books.pop()?;
+    let BoxedDomain { domain } = book;
     Some(Mutex::new(LockedBook {
         domain,
         of: PhantomData,
@@ -69,7 +71,7 @@ fn locked<N: Names, const D: usize>(books: &mut Vec<Domain>) -> Option<Mutex<Loc
 }
 
 impl<N: Names> Books<N> {
-    pub(crate) fn new(books: &mut Vec<Domain>) -> Books<N>
+    pub(crate) fn new(books: &mut Vec<BoxedDomain>) -> Books<N>
         requires named { AreSessionBooks N.id books.old.items }
         requires count { length books.old.items ≡ length N.id.cpu_sets }
         requires few { length books.old.items ≤ 8 }
@@ -128,7 +130,7 @@ fn unlock<N: Names, const D: usize>(lock: Option<Mutex<LockedBook<N, D>>>, books
 {
     if let Some(lock) = lock {
         let LockedBook { domain, of: _ } = lock.into_inner();
-        books.push_reserved(domain);
+        books.push_reserved(Box::into_inner(domain));
     }
 }
 

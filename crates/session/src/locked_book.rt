@@ -38,9 +38,9 @@ pub(crate) struct Outcome {
 
 /// The domain of a place in a session.
 pub(crate) struct LockedBook<N: Names, const D: usize> {
-    pub(crate) domain: Domain,
+    pub(crate) domain: Box<Domain>,
     pub(crate) of: PhantomData<N>,
-    ghost named: { IsSessionBook N.id D domain },
+    ghost named: { IsSessionBook N.id D domain.value },
 }
 
 /// Gives the ticket of a task that was refused back to the gate, and lets go of what was prepared
@@ -262,10 +262,10 @@ impl<N: Names, const D: usize> LockedBook<N, D> {
         requires ask { IsAsk N.id D ask }
         ensures done { IsDone N.id D pass.old pass.new ask result.answer result.blank }
         ensures given { NoneIsKept ask result.answer result.blank }
-        ensures told { IsWhyNot self.old.domain ask result.answer }
+        ensures told { IsWhyNot self.old.domain.value ask result.answer }
         ensures own { IfSome result.blank (λ b. b.gate ≡ N.id.gate) }
     {
-        let domain = &mut self.domain;
+        let domain = &mut *self.domain;
         match ask {
             Ask::Admit { prepared, ticket } => admit(domain, gate, pass, prepared, ticket),
             Ask::Regrade { number, params } => regrade(rt, domain, gate, pass, number, params),
@@ -288,7 +288,7 @@ impl<N: Names, const D: usize> LockedBook<N, D> {
         requires member { IsMember N.id.clients pass.old.client }
         requires call { IsCall (calls.Advance ticks) }
         ensures made { IsAdvancedBy pass.old pass.new ticks result }
-        ensures told { IsWhyNotMade self.old.domain result }
+        ensures told { IsWhyNotMade self.old.domain.value result }
     {
         match self.domain.advance(rt, pass, gate, ticks) {
             Ok(reply) => Ok(reply),
@@ -316,10 +316,11 @@ impl<N: Names, const D: usize> LockedBook<N, D> {
             (record { out = from_pass.old; into = to_pass.old })
             (record { out = from_pass.new; into = to_pass.new })
             prepared ticket result.1 result.0 }
-        ensures told { IsWhyNotMoved self.old.domain to.old.domain prepared result.0 }
+        ensures told { IsWhyNotMoved self.old.domain.value to.old.domain.value prepared
+            result.0 }
         ensures own { result.1.gate ≡ N.id.gate }
     {
-        let (from, to) = (&mut self.domain, &mut to.domain);
+        let (from, to) = (&mut *self.domain, &mut *to.domain);
         move_listed::<N, D, E>(from, from_pass, to, to_pass, gate, prepared, ticket)
     }
 }

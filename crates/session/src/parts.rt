@@ -1,6 +1,6 @@
 //! What a session is opened from: all its growths.
 
-ghost use Rattle.std.specs.Prelude.{◌≡◌, ◌+◌, ◌≤◌, ℕ, true, List, [], ◌∷◌, ◌++◌, map, length, replicate, is_some, IfOk, OnOk, All};
+ghost use Rattle.std.specs.Prelude.{◌≡◌, ◌+◌, ◌<◌, ◌≤◌, ℕ, true, List, [], ◌∷◌, ◌++◌, map, length, replicate, is_some, IfOk, OnOk, All, slice_index};
 ghost use Rattle.std.specs.List.{range_with_len};
 ghost use Rattle.atomic_table.specs.Seated.{TableId};
 ghost use Rattle.bw_gate.specs.Pieces.{GateId};
@@ -8,7 +8,7 @@ ghost use Rattle.domain_run.specs.Domain.{IsCpus};
 ghost use Rattle.run_options.specs.Options.{AreOptions};
 ghost use Rattle.session.specs.Options.{IsSessionOf, terms_of};
 ghost use Rattle.session.specs.SessionId.{cpu_sets_from};
-ghost use Rattle.session.specs.private.Parts.{AreHands, HaveRoom, HaveRoomForOne, AreNewPasses, AreBooks, AreBlanksOf};
+ghost use Rattle.session.specs.private.Parts.{AreHands, HaveRoom, HaveRoomForOne, AreNewPasses, IsBookOf, AreBooks, AreBlanksOf};
 
 use bw_gate::{Blank, Gate, Room, Ticket};
 use call_book::{Closed, Domain, NoMemory, Pass};
@@ -26,6 +26,20 @@ pub(crate) struct Hand {
     pub(crate) blank: Option<Blank>,
 }
 
+/// A domain that stands apart from what has it, so that a session's type, which has eight of them,
+/// stays small. To a contract it is the domain.
+pub(crate) struct BoxedDomain {
+    pub(crate) domain: Box<Domain>,
+}
+
+impl Model for BoxedDomain {
+    ghost use Rattle.call_book.specs.Book.{BookView};
+
+    ghost Value = { BookView };
+
+    ghost view = { λ b. b.domain.value };
+}
+
 /// What a session is opened from: gate, domains, passes and pieces. It is neither cloned nor
 /// dropped, since domains are not. To a contract it is the session's identity.
 pub struct Parts {
@@ -34,13 +48,15 @@ pub struct Parts {
     pub(crate) limit: u64,
     pub(crate) history: usize,
     pub(crate) workers: usize,
-    pub(crate) books: Vec<Domain>,
+    pub(crate) books: Vec<BoxedDomain>,
+    // Where the domains will stand when their locks are gone.
+    pub(crate) room: Vec<Domain>,
     pub(crate) hands: Vec<Option<Hand>>,
     pub(crate) pool: Vec<Blank>,
 }
 
 impl Model for Parts {
-    ghost use Rattle.std.specs.Prelude.{map, vec_len};
+    ghost use Rattle.std.specs.Prelude.{◌≡◌, ◌≤◌, [], length, map, vec_len, vec_capacity};
     ghost use Rattle.session.specs.SessionId.{SessionId};
     ghost use Rattle.session.specs.private.Parts.{AreParts, id_of};
 
@@ -53,7 +69,9 @@ impl Model for Parts {
     ghost invariant = { λ p. AreParts
         (id_of p.gate p.books.items (map (λ v. v.items) p.cpu_sets.items) p.limit
         (vec_len p.hands) p.history p.workers)
-        p.books.items p.hands.items p.pool.items };
+        p.books.items p.hands.items p.pool.items
+        × (p.room.items ≡ [])
+        × (length p.books.items ≤ vec_capacity p.room) };
 }
 
 /// So many CPUs of the machine from this one on.
@@ -147,13 +165,49 @@ fn deal(hands: &mut Vec<Option<Hand>>, mut passes: Vec<Pass>)
     }
 }
 
+/// The book of a domain of the gate, and a pass for each client.
+fn book_of(
+    alloc: Global,
+    gate: &Gate,
+    options: &Options,
+    d: usize,
+) -> Result<(BoxedDomain, Vec<Pass>), NoMemory>
+    requires options { AreOptions options.now }
+    requires gate { gate.now.terms ≡ terms_of options.now }
+    requires place { d < length options.now.domains.items }
+    ensures book { let o = options.now in
+        IfOk result (λ r. IsBookOf gate.now d (slice_index o.domains.items d) o.limit o.clients
+        o.history o.workers r.0) }
+    ensures count { IfOk result (λ r. length r.1.items ≡ options.now.clients) }
+    ensures passes { IfOk result (λ r. AreNewPasses r.0.spine r.1.items) }
+{
+    let cpus = options.domains[d];
+    let (mut domain, passes) = Domain::open(
+        alloc,
+        gate,
+        d,
+        cpus,
+        options.limit,
+        options.clients,
+        options.history,
+    )?;
+    domain.set_workers(options.workers);
+    match Box::new(alloc, domain) {
+        Ok(domain) => Ok((BoxedDomain { domain }, passes)),
+        Err(refused) => {
+            shut_one(alloc, gate, refused.value);
+            Err(NoMemory)
+        }
+    }
+}
+
 /// The books of the domains, and a pass of each in the clients' hands.
 fn books_of(
     alloc: Global,
     gate: &Gate,
     options: &Options,
     hands: &mut Vec<Option<Hand>>,
-) -> Result<Vec<Domain>, NoMemory>
+) -> Result<Vec<BoxedDomain>, NoMemory>
     requires options { AreOptions options.now }
     requires gate { gate.now.terms ≡ terms_of options.now }
     requires hands { AreHands gate.now [] hands.old.items }
@@ -170,22 +224,12 @@ fn books_of(
     let count = options.domains.len();
     let mut books = Vec::with_capacity(alloc, count)?;
     for d in 0..count {
-        let cpus = options.domains[d];
-        let Ok((mut domain, passes)) = Domain::open(
-            alloc,
-            gate,
-            d,
-            cpus,
-            options.limit,
-            options.clients,
-            options.history,
-        ) else {
-            shut(alloc, gate, books);
+        let Ok((book, passes)) = book_of(alloc, gate, options, d) else {
+            shut_boxed(alloc, gate, books);
             return Err(NoMemory);
         };
-        domain.set_workers(options.workers);
         deal(hands, passes);
-        books.push_reserved(domain);
+        books.push_reserved(book);
     }
     Ok(books)
 }
@@ -195,17 +239,35 @@ pub(crate) fn shut(alloc: Global, gate: &Gate, mut books: Vec<Domain>)
     requires { All (λ b. b.gate ≡ gate.now) books.items }
 {
     while let Some(domain) = books.pop() {
-        let Closed {
-            state,
-            entries: _,
-            tickets,
-            blanks: _,
-        } = domain.close(Vec::new(alloc));
-        // For the prover alone: dropped by a call, and not field by field.
-        drop(state);
-        give_all(gate, tickets);
+        shut_one(alloc, gate, domain);
     }
     books.destroy_empty();
+}
+
+/// The same of books that stand behind no lock yet.
+fn shut_boxed(alloc: Global, gate: &Gate, mut books: Vec<BoxedDomain>)
+    requires { All (λ b. b.gate ≡ gate.now) books.items }
+{
+    while let Some(book) = books.pop() {
+        let BoxedDomain { domain } = book;
+        shut_one(alloc, gate, Box::into_inner(domain));
+    }
+    books.destroy_empty();
+}
+
+/// Ends a book; what tickets it holds go back to the gate.
+fn shut_one(alloc: Global, gate: &Gate, domain: Domain)
+    requires { domain.gate ≡ gate.now }
+{
+    let Closed {
+        state,
+        entries: _,
+        tickets,
+        blanks: _,
+    } = domain.close(Vec::new(alloc));
+    // For the prover alone: dropped by a call, and not field by field.
+    drop(state);
+    give_all(gate, tickets);
 }
 
 /// Gives tickets back to the gate.
@@ -230,6 +292,11 @@ impl Parts {
         let (gate, mut pool) = gate_of(alloc, options)?;
         let mut hands = empty_hands(alloc, options.clients, options.domains.len(), &mut pool)?;
         let books = books_of(alloc, &gate, options, &mut hands)?;
+        let count = books.len();
+        let Ok(room) = Vec::with_capacity(alloc, count) else {
+            shut_boxed(alloc, &gate, books);
+            return Err(NoMemory);
+        };
         Ok(Parts {
             gate,
             cpu_sets,
@@ -237,6 +304,7 @@ impl Parts {
             history: options.history,
             workers: options.workers,
             books,
+            room,
             hands,
             pool,
         })

@@ -26,7 +26,7 @@ pub struct Session<N: Names> {
     pub(crate) hands: Vec<Option<Hand>>,
     // The limit with which its domains were opened.
     pub(crate) limit: u64,
-    // Where the domains stood before, and will stand when their locks are gone.
+    // Where the domains will stand when their locks are gone.
     pub(crate) room: Vec<Domain>,
     ghost same_limit: { limit ≡ N.id.limit },
     ghost empty: { room.items ≡ [] },
@@ -66,6 +66,7 @@ impl<N: Names> Session<N> {
             history: _,
             workers: _,
             mut books,
+            room,
             hands,
             pool,
         } = parts;
@@ -75,11 +76,12 @@ impl<N: Names> Session<N> {
             books: Books::new(&mut books),
             pool: Pool::new(pool),
         };
+        books.destroy_empty();
         Session {
             shared,
             hands,
             limit,
-            room: books,
+            room,
         }
     }
 

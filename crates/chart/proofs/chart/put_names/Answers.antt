@@ -1,6 +1,6 @@
 use Rattle.std.proofs.Common.{◌++◌, List, sym, ap, ◌∙◌}
 use Rattle.std.proofs.lemmas.List.{take_all}
-use Rattle.figure_text.specs.Columns.{numbered}
+use Rattle.run_figures.specs.Lines.{numbered}
 use Rattle.chart.specs.declared.row.ChartRow.{ChartRow}
 use Rattle.chart.specs.Pieces.{name_lines}
 use Rattle.chart.specs.Rows.{view_of}

@@ -1,5 +1,5 @@
 use Rattle.std.proofs.Common.{◌≡◌, ◌++◌, take}
-use Rattle.figure_text.specs.Columns.{numbered}
+use Rattle.run_figures.specs.Lines.{numbered}
 use Rattle.chart.specs.Pieces.{name_lines}
 use Rattle.chart.specs.Rows.{view_of}
 use Rattle.chart.proofs.chart.put_names.Given as goal

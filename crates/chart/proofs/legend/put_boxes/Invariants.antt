@@ -1,5 +1,5 @@
 use Rattle.std.proofs.Common.{◌≡◌, ◌++◌, take}
-use Rattle.figure_text.specs.Columns.{numbered}
+use Rattle.run_figures.specs.Lines.{numbered}
 use Rattle.chart.specs.Legend.{colour_line}
 use Rattle.chart.proofs.legend.put_boxes.Given as goal
 

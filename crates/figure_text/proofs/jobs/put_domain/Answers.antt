@@ -1,7 +1,7 @@
 use Rattle.std.proofs.Common.{◌++◌, ap, ◌∙◌}
 use Rattle.switch_text.specs.Names.{named}
 use Rattle.run_figures.specs.TaskJobsView.{TaskJobsView}
-use Rattle.figure_text.specs.Columns.{numbered}
+use Rattle.run_figures.specs.Lines.{numbered}
 use Rattle.figure_text.specs.Jobs.{job_line, task_lines}
 use Rattle.figure_text.proofs.Lines.{flat_more}
 use Rattle.figure_text.proofs.jobs.put_domain.Goals as goal

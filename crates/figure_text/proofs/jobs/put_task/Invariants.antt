@@ -1,5 +1,5 @@
 use Rattle.std.proofs.Common.{◌≡◌, ◌++◌, take}
-use Rattle.figure_text.specs.Columns.{numbered}
+use Rattle.run_figures.specs.Lines.{numbered}
 use Rattle.figure_text.specs.Jobs.{job_line}
 use Rattle.figure_text.proofs.jobs.put_task.Given as goal
 

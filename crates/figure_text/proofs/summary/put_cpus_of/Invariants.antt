@@ -1,5 +1,5 @@
 use Rattle.std.proofs.Common.{◌≡◌, ◌++◌, take}
-use Rattle.figure_text.specs.Columns.{numbered}
+use Rattle.run_figures.specs.Lines.{numbered}
 use Rattle.figure_text.specs.Summary.{cpu_line}
 use Rattle.figure_text.proofs.summary.put_cpus_of.Given as goal
 

@@ -1,7 +1,7 @@
 use Rattle.std.proofs.Common.{◌≡◌, ◌+◌, ◌++◌, List, ap, ◌∙◌, sym, arith}
 use Rattle.std.proofs.lemmas.List.{take_all}
 use Rattle.figure_text.specs.declared.summary.DomainSummary.{DomainSummary}
-use Rattle.figure_text.specs.Columns.{numbered}
+use Rattle.run_figures.specs.Lines.{numbered}
 use Rattle.figure_text.specs.Summary.{view_of, domain_line}
 use Rattle.figure_text.proofs.Lines.{numbered_more, numbered-map}
 use Rattle.figure_text.proofs.summary.put_domains.Goals as goal

@@ -1,5 +1,5 @@
 use Rattle.std.proofs.Common.{◌≡◌, ◌++◌, take}
-use Rattle.figure_text.specs.Columns.{numbered}
+use Rattle.run_figures.specs.Lines.{numbered}
 use Rattle.figure_text.specs.Summary.{view_of, tasks_of}
 use Rattle.figure_text.proofs.summary.put_tasks.Given as goal
 

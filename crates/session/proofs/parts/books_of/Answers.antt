@@ -4,7 +4,7 @@ use Rattle.std.proofs.lemmas.List.{length-map, length_push, map_push, get_or_rea
 use Rattle.atomic_table.specs.Seated.{TableId}
 use Rattle.call_book.specs.Book.{BookView}
 use Rattle.session.specs.private.Parts.{IsBookOf, AreHands}
-use Rattle.session.proofs.Opening.{count_hands, room_for_one, each_push, new_passes_are}
+use Rattle.session.proofs.Opening.{count_hands, room_for_one, each_push}
 use Rattle.session.proofs.parts.books_of.Goals as goal
 
 pub deal-requires-clause-count : goal.deal-requires-clause-count
@@ -27,33 +27,22 @@ loop-d-preserved c =
     let gate = c.args.gate.now in
     let d = c.loop-d.d in
     let was = c.loop-d.books.items in
-    let items = c.push_reserved.ensures.items ∙ ap (λ (y : BookView). was ++ y ∷ []) c.set_workers.ensures in
-    let given = c.in-Ok.domain in
-    let b : BookView = record given { workers = o.workers } in
+    let items = c.push_reserved.ensures.items in
+    let b : BookView = c.in-Ok.book in
     let told = c.in-Ok.ensures in
     let spine : BookView → TableId = λ x. x.spine in
-    let here : d < length o.domains.items = omega (arith, c.len-count.ensures, o.domains.ok.0) in
-    let new = new_passes_are b.spine o.clients c.in-Ok.passes.items told.count told.passes in
     record {
       count = ap length items ∙ length_push was b ∙ ap (λ (k : ℕ). k + 1) inv.count;
       capacity = omega (arith, c.push_reserved.ensures.capacity, inv.capacity);
       books = λ e x inside.
           subst (λ (bs : List BookView). e < length bs → IsBookOf gate e (slice_index o.domains.items e) o.limit o.clients o.history o.workers (get_or bs e x)) (sym items)
           (λ there. each_push (λ j y. IsBookOf gate j (slice_index o.domains.items j) o.limit o.clients o.history o.workers y) was d e b x inv.count there
-          (record {
-            of_gate = ap (λ (y : BookView). y.gate) told.book;
-            of_domain = ap (λ (y : BookView). y.domain) told.book;
-            has_cpus = ap (λ (y : BookView). y.cpus) told.book ∙ get_or_read o.domains.items d c.index-cpus.result.now here c.index-cpus.ensures 0;
-            has_limit = ap (λ (y : BookView). y.limit) told.book;
-            has_clients = ap (λ (y : BookView). y.clients) told.book;
-            has_room = ap (λ (y : BookView). y.room) told.book;
-            has_workers = refl;
-          })
+          told.book
           (λ front. inv.books e x front))
           inside;
       hands =
           subst (λ (ss : List TableId). AreHands gate ss c.deal.new.hands.items) (sym (ap (map spine) items ∙ map_push spine was b))
-          (c.deal.ensures.dealt gate (map spine was) b.spine inv.hands new);
+          (c.deal.ensures.dealt gate (map spine was) b.spine inv.hands told.passes);
       some = c.deal.ensures.some ∙ inv.some;
       room = c.deal.ensures.room (length o.domains.items) inv.room;
     }

@@ -1,4 +1,4 @@
-use Rattle.std.proofs.Common.{◌∙◌, sym, subst}
+use Rattle.std.proofs.Common.{sym, subst}
 use Rattle.edf_pick.specs.Places.{Places, AreSingle}
 use Rattle.edf_pick.proofs.placement.Placement.marks_of_all.Goals as goal
 

@@ -1,4 +1,4 @@
-use Rattle.std.proofs.Common.{◌≡◌, ℕ, true, map, replicate, refl, ap, sym, ◌∙◌}
+use Rattle.std.proofs.Common.{◌≡◌, ℕ, true, map, replicate, refl, ap, sym, ◌∙◌, arith}
 use Rattle.session.proofs.Opening.{count_hands, is_session, are_named}
 use Rattle.session.proofs.parts.Parts.open.Goals as goal
 
@@ -6,18 +6,21 @@ pub invariant_of-result : goal.invariant_of-result
 invariant_of-result c =
     let o = c.args.options.now in
     let gate = c.in_ok-gate.gate in
-    let books = c.in_ok-books.books.items in
+    let books = c.in_ok-books.books in
     let sets = map (λ (v : _). v.items) c.in_ok-cpu_sets.cpu_sets.items in
     let hands = c.books_of.new.hands in
     let told = c.in_ok-books.ensures in
-    let clients : hands.len ≡ o.clients = hands.ok.0 ∙ count_hands hands.items o.clients told.some in
-    record {
-      session = is_session o gate books sets hands.len c.requires c.in_ok-gate.ensures.terms c.in_ok-cpu_sets.ensures told.count clients;
-      named = are_named o gate books sets hands.len c.in_ok-cpu_sets.ensures told.count clients told.books;
-      some = told.some ∙ ap (λ (n : ℕ). replicate n true) (sym clients);
-      dealt = told.hands;
-      own = c.empty_hands.ensures.pool gate c.in_ok-gate.ensures.blanks;
-    }
+    let clients : hands.len ≡ o.clients = hands.ok.0 ∙ count_hands hands.items o.clients told.some in (
+      record {
+        session = is_session o gate books.items sets hands.len c.requires c.in_ok-gate.ensures.terms c.in_ok-cpu_sets.ensures told.count clients;
+        named = are_named o gate books.items sets hands.len c.in_ok-cpu_sets.ensures told.count clients told.books;
+        some = told.some ∙ ap (λ (n : ℕ). replicate n true) (sym clients);
+        dealt = told.hands;
+        own = c.empty_hands.ensures.pool gate c.in_ok-gate.ensures.blanks;
+      },
+      c.in-Ok.ensures.items,
+      omega (arith, c.len-count.ensures, books.ok.0, c.in-Ok.ensures.capacity),
+    )
 
 pub returns : goal.returns
 returns c =

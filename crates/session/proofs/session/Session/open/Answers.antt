@@ -13,28 +13,28 @@ theirs id i v books hands pool is view parts = subst (λ (k : SessionId). ArePar
 pub new-requires-clause-named : goal.new-requires-clause-named
 new-requires-clause-named g c =
     let p = c.parts.inside in
-    (theirs g.N.Names.id _ c.args.parts p.books.items p.hands.items p.pool.items c.requires c.parts.view_is c.parts.invariant).named
+    (theirs g.N.Names.id _ c.args.parts p.books.items p.hands.items p.pool.items c.requires c.parts.view_is c.parts.invariant.0).named
 
 pub new-requires-2 : goal.new-requires-2
 new-requires-2 g c =
     let p = c.parts.inside in
-    (theirs g.N.Names.id _ c.args.parts p.books.items p.hands.items p.pool.items c.requires c.parts.view_is c.parts.invariant).own
+    (theirs g.N.Names.id _ c.args.parts p.books.items p.hands.items p.pool.items c.requires c.parts.view_is c.parts.invariant.0).own
 
 pub invariant_of-shared : goal.invariant_of-shared
 invariant_of-shared g c =
     let p = c.parts.inside in
     let same = c.parts.view_is ∙ sym c.requires in
-    let parts = theirs g.N.Names.id _ c.args.parts p.books.items p.hands.items p.pool.items c.requires c.parts.view_is c.parts.invariant in
+    let parts = theirs g.N.Names.id _ c.args.parts p.books.items p.hands.items p.pool.items c.requires c.parts.view_is c.parts.invariant.0 in
     (ap (λ (i : SessionId). i.gate) same, ap (λ (i : SessionId). i.cpu_sets) same, parts.session)
 
 pub invariant_of-result-2 : goal.invariant_of-result-2
 invariant_of-result-2 g c =
     let p = c.parts.inside in
     let same = c.parts.view_is ∙ sym c.requires in
-    let parts = theirs g.N.Names.id _ c.args.parts p.books.items p.hands.items p.pool.items c.requires c.parts.view_is c.parts.invariant in
+    let parts = theirs g.N.Names.id _ c.args.parts p.books.items p.hands.items p.pool.items c.requires c.parts.view_is c.parts.invariant.0 in
     (parts.session, sym p.hands.ok.0 ∙ ap (λ (i : SessionId). i.clients) same, parts.dealt)
 
 pub returns : goal.returns
 returns g c =
     let p = c.parts.inside in
-    (theirs g.N.Names.id _ c.args.parts p.books.items p.hands.items p.pool.items c.requires c.parts.view_is c.parts.invariant).some
+    (theirs g.N.Names.id _ c.args.parts p.books.items p.hands.items p.pool.items c.requires c.parts.view_is c.parts.invariant.0).some

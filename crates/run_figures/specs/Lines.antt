@@ -1,0 +1,11 @@
+-- What the texts of a run have in common: numbers in digits, and lines that are counted (own).
+use Rattle.std.specs.Prelude.{ℕ, ◌+◌, ◌-◌, List, [], ◌∷◌, ◌++◌, length, replicate, decimal}
+
+-- a number in at least so many digits
+abbrev pub digits_in : ℕ → ℕ → List ℕ
+digits_in width n = replicate (width - length (decimal n)) 48 ++ decimal n
+
+-- the lines of a list, where the first of it has this number
+abbrev pub numbered : {X : Type 0} → (ℕ → X → List ℕ) → ℕ → List X → List ℕ
+numbered line n [] = []
+numbered line n (x ∷ xs) = line n x ++ numbered line (n + 1) xs
