@@ -1,10 +1,10 @@
 -- A text that grows piece by piece.
-use Rattle.std.proofs.Common.{◌≡◌, ℕ, ◌+◌, ◌-◌, ◌<◌, ◌≤◌, Bool, ◌||◌, List, [], ◌∷◌, ◌++◌, length, get_or, map, take, drop, Option, Some, None, refl, sym, ap, ◌∙◌, append_assoc, arith}
-use Rattle.std.specs.Prelude.{codes}
+use Rattle.std.proofs.Common.{◌≡◌, ℕ, ◌+◌, ◌-◌, ◌<◌, ◌≤◌, Bool, true, ◌||◌, List, [], ◌∷◌, ◌++◌, length, get_or, map, take, drop, Option, Some, None, Result, Ok, Err, refl, sym, ap, ◌∙◌, arith}
+use Rattle.std.specs.Prelude.{codes, IfOk, OnOk}
 use Rattle.std.specs.Fmt.{digits, signed_decimal}
 use Rattle.std.specs.List.{flat_map, join_with_byte}
 use Rattle.std.proofs.lemmas.Grind.{flat_map-append}
-use Rattle.std.proofs.lemmas.List.{append-nil, take_all, take_more, flat_map_more}
+use Rattle.std.proofs.lemmas.List.{append-nil, take_all, take_more}
 use Rattle.calls_text.specs.declared.section.Entry.{Entry}
 use Rattle.calls_text.specs.SectionView.{SectionView}
 use Rattle.task_script.specs.declared.script.Event.{Event}
@@ -13,6 +13,8 @@ use Rattle.calls_text.specs.Spelling.{event_text, events_text, loops_text, entry
 use Rattle.calls_text.specs.Limits.{AreRead}
 use Rattle.calls_text.specs.ReadSoFar.{entries_text}
 use Rattle.calls_text.specs.RoundTrip.{bare, unanswered, IsReadAs}
+use Rattle.draft.specs.Draft.{DraftView, Adds}
+use Rattle.draft.proofs.CallerLemmas.{joined, as_text, more_lines}
 use Rattle.calls_text.proofs.Cuts.{rest_is}
 use Rattle.calls_text.proofs.Sections.{same_sections}
 
@@ -21,14 +23,15 @@ pub joined_first : {X : Type 0} (spell : X → List ℕ) (x : X) (xs : List X) �
 joined_first spell x [] = sym (append-nil (spell x))
 joined_first spell x (y ∷ ys) = ap (λ (r : List ℕ). spell x ++ (44 ∷ r)) (joined_first spell y ys)
 
--- the first event and the others, as they were written behind what stood before
-pub events_put : (events : List Event) (d : Event) (before begun out : List ℕ) (i : ℕ) → 1 ≤ length events → begun ≡ before ++ event_text (get_or events 0 d) → length (take (length events - 1) (drop 1 events)) ≤ i
-    → out ≡ begun ++ flat_map (λ e. 44 ∷ event_text e) (take i (take (length events - 1) (drop 1 events))) → out ≡ before ++ events_text events
+-- the first event and the others, as they were put behind what stood before
+pub events_put : (events : List Event) (d : Event) (before begun out : DraftView) (i : ℕ) → 1 ≤ length events → Adds before begun (event_text (get_or events 0 d)) → length (take (length events - 1) (drop 1 events)) ≤ i
+    → Adds begun out (flat_map (λ e. 44 ∷ event_text e) (take i (take (length events - 1) (drop 1 events)))) → Adds before out (events_text events)
 events_put [] d before begun out i some first past e = absurd (omega arith)
 events_put (x ∷ xs) d before begun out i some first past e =
     let others : take i (take (length (x ∷ xs) - 1) (drop 1 (x ∷ xs))) ≡ xs = take_all i (take (length (x ∷ xs) - 1) (drop 1 (x ∷ xs))) past ∙ rest_is 1 (x ∷ xs) in
-    e ∙ ap (λ (ys : List Event). begun ++ flat_map (λ e. 44 ∷ event_text e) ys) others ∙ ap (λ (b : List ℕ). b ++ flat_map (λ e. 44 ∷ event_text e) xs) first
-    ∙ append_assoc before (event_text x) (flat_map (λ e. 44 ∷ event_text e) xs) ∙ ap (λ (r : List ℕ). before ++ r) (sym (joined_first event_text x xs))
+    as_text before out _ _
+    (ap (λ (ys : List Event). event_text x ++ flat_map (λ e. 44 ∷ event_text e) ys) others ∙ sym (joined_first event_text x xs))
+    (joined before begun out _ _ first e)
 
 abbrev line_break : List ℕ → List ℕ
 line_break line = line ++ codes "\n"
@@ -39,26 +42,28 @@ headed_more later sections s =
     ap (λ (ls : List (List ℕ)). text_of (header_line later ∷ ls)) (flat_map-append section_lines sections (s ∷ []) ∙ ap (λ (ls : List (List ℕ)). flat_map section_lines sections ++ ls) (append-nil (section_lines s)))
     ∙ flat_map-append line_break (header_line later ∷ flat_map section_lines sections) (section_lines s)
 
--- one item more of a list, behind what a loop has put
-pub put_more : {X : Type 0} (f : X → List ℕ) (xs : List X) (i : ℕ) (x d : X) (before now more : List ℕ) → i < length xs → x ≡ get_or xs i d → now ≡ before ++ flat_map f (take i xs) → more ≡ now ++ f x → more ≡ before ++ flat_map f (take (i + 1) xs)
-put_more f xs i x d before now more within is so_far put =
-    put ∙ ap (λ (b : List ℕ). b ++ f x) so_far ∙ flat_map_more f before (take i xs) x
-    ∙ ap (λ ys. before ++ flat_map f ys) (ap (λ y. take i xs ++ y ∷ []) is ∙ sym (take_more xs i d within))
-
 entries_flat : (entries : List Entry) → entries_text entries ≡ flat_map (λ e. line_break (entry_line e)) entries
 entries_flat [] = refl
 entries_flat (e ∷ entries) = ap (λ (r : List ℕ). line_break (entry_line e) ++ r) (entries_flat entries)
 
-pub entry_more : (entries : List Entry) (i : ℕ) (e : Entry) (before now more : List ℕ) → i < length entries → e ≡ get_or entries i e → now ≡ before ++ entries_text (take i entries) → more ≡ now ++ line_break (entry_line e) → more ≡ before ++ entries_text (take (i + 1) entries)
-entry_more entries i e before now more within is so_far put =
-    put_more (λ x. line_break (entry_line x)) entries i e e before now more within is (so_far ∙ ap (λ (r : List ℕ). before ++ r) (entries_flat (take i entries))) put
-    ∙ ap (λ (r : List ℕ). before ++ r) (sym (entries_flat (take (i + 1) entries)))
+pub entry_more : (entries : List Entry) (i : ℕ) (e : Entry) (old before after : DraftView) → i < length entries → e ≡ get_or entries i e → Adds old before (entries_text (take i entries)) → Adds before after (line_break (entry_line e)) → Adds old after (entries_text (take (i + 1) entries))
+entry_more entries i e old before after within is so_far put =
+    let line : Entry → List ℕ = λ x. line_break (entry_line x) in
+    as_text old after _ _ (sym (entries_flat (take (i + 1) entries)))
+    (more_lines line entries i e old before after within (as_text old before _ _ (entries_flat (take i entries)) so_far) (as_text before after _ _ (ap line is) put))
 
 pub section_more : (later : Bool) (sections : List SectionView) (i : ℕ) (s : SectionView) (now more : List ℕ) → i < length sections → s ≡ get_or sections i s → now ≡ text_of (header_line later ∷ flat_map section_lines (take i sections)) → more ≡ now ++ text_of (section_lines s)
     → more ≡ text_of (header_line later ∷ flat_map section_lines (take (i + 1) sections))
 section_more later sections i s now more within is so_far put =
     put ∙ ap (λ (b : List ℕ). b ++ text_of (section_lines s)) so_far ∙ sym (headed_more later (take i sections) s)
     ∙ ap (λ (ss : List SectionView). text_of (header_line later ∷ flat_map section_lines ss)) (ap (λ (y : SectionView). take i sections ++ y ∷ []) is ∙ sym (take_more sections i s within))
+
+-- the text that a draft of the spelling gives at its end
+pub spelled : {V E : Type 0} (items : V → List ℕ) (r : Result V E) (out : DraftView) (sections : List SectionView) (i : ℕ) → length sections ≤ i → (out.whole ≡ true → out.text ≡ text_of (header_line (has_later sections) ∷ flat_map section_lines (take i sections)))
+    → IfOk r (λ v. items v ≡ out.text) → OnOk r (out.whole ≡ true) → IfOk r (λ v. items v ≡ spelling sections)
+spelled items (Ok v) out sections i past so_far is whole =
+    is ∙ so_far whole ∙ ap (λ (ss : List SectionView). text_of (header_line (has_later sections) ∷ flat_map section_lines ss)) (take_all i sections past)
+spelled items (Err e) out sections i past so_far is whole = tt
 
 -- the loop count, as a signed number
 pub loops_said : (rounds : Option ℕ) → signed_decimal (loops_of rounds) ≡ loops_text rounds

@@ -20,6 +20,7 @@ use crate::placed_run::PlacedRun;
 use chart::{ChartRow, put_chart};
 use chart_pieces::{Row, Span, Window, rows_of};
 use domain_run::NoMemory;
+use draft::Draft;
 use indexmap::IndexMap;
 use std::alloc::Global;
 use std::io::Write;
@@ -163,9 +164,9 @@ fn drawn_text(
         (flat_map (λ d. rows_in d.window (view_of d.placed.now)) drawn.now)) }
 {
     let rows = all_rows(alloc, drawn)?;
-    let mut text = Vec::new(alloc);
-    put_chart(&mut text, alloc, window, cpus, &rows)?;
-    Ok(text)
+    let mut text = Draft::new(alloc);
+    put_chart(&mut text, alloc, window, cpus, &rows);
+    text.into_text()
 }
 
 /// The chart of a part of runs.

@@ -17,6 +17,7 @@ use crate::placed_run::PlacedRun;
 use crate::trace::heard_by;
 use attr_check::Params;
 use domain_run::{NoMemory, State};
+use draft::Draft;
 use figure_text::{DomainJobs, DomainSummary, put_jobs, put_summary};
 use indexmap::IndexMap;
 use run_figures::{Admitted, Run, TaskJobs, jobs_of, summary_of};
@@ -136,9 +137,9 @@ fn counted_text(alloc: Global, counted: &[CountedJobs<'_>]) -> Result<Vec<u8>, N
         ≡ jobs.jobs_text (map (λ c. jobs_in (view_of c.placed.now)) counted.now)) }
 {
     let domains = all_as_jobs(alloc, counted)?;
-    let mut text = Vec::new(alloc);
-    put_jobs(&mut text, &domains)?;
-    Ok(text)
+    let mut text = Draft::new(alloc);
+    put_jobs(&mut text, &domains);
+    text.into_text()
 }
 
 /// The text of the jobs of runs.
@@ -195,9 +196,9 @@ pub(crate) fn figures_text(alloc: Global, counted: &[CountedRun<'_>]) -> Result<
     ensures { IfOk result (λ v. v.items ≡ summaries.summary_text (map counted_as counted.now)) }
 {
     let domains = all_as_summaries(alloc, counted)?;
-    let mut text = Vec::new(alloc);
-    put_summary(&mut text, &domains)?;
-    Ok(text)
+    let mut text = Draft::new(alloc);
+    put_summary(&mut text, &domains);
+    text.into_text()
 }
 
 /// The text of the figures of runs.

@@ -1,7 +1,8 @@
 //! The whole chart.
 
-ghost use Rattle.std.specs.Prelude.{◌≡◌, ◌+◌, ◌-◌, ◌<◌, ◌≤◌, ◌^◌, ◌++◌, All, length, map, flat_map, codes, OnOk};
+ghost use Rattle.std.specs.Prelude.{◌≡◌, ◌+◌, ◌-◌, ◌<◌, ◌≤◌, ◌^◌, ◌++◌, All, length, map, flat_map, codes};
 ghost use Rattle.run_figures.specs.Lines.{numbered};
+ghost use Rattle.draft.specs.Draft.{Adds};
 ghost use Rattle.chart_pieces.specs.Window.{IsWindow};
 ghost use Rattle.chart.specs.Chart as charts;
 ghost use Rattle.chart.specs.Pieces as pieces;
@@ -14,9 +15,9 @@ use crate::over::put_over_lines;
 use crate::pieces::{put_name_lines, put_row_lines, put_text_at};
 use crate::row::ChartRow;
 use crate::sheet::{Sheet, sheet_of};
-use crate::texts::{put, put_seconds, put_times, put_with};
+use crate::texts::{put_seconds, put_times, put_with};
 use chart_pieces::Window;
-use domain_run::NoMemory;
+use draft::{Draft, NoMemory};
 use std::alloc::Global;
 
 // ---- the head
@@ -28,42 +29,41 @@ fn chart_height(sheet: &Sheet) -> u64
     sheet.plot_end() + 62
 }
 
-fn put_opening(out: &mut Vec<u8>, sheet: &Sheet) -> Result<(), NoMemory>
+fn put_opening(out: &mut Draft, sheet: &Sheet)
     requires sheet { IsSheet sheet.now }
-    ensures { OnOk result (out.new.items ≡ out.old.items ++ charts.opening sheet.now) }
+    ensures { Adds out.old out.new (charts.opening sheet.now) }
 {
     put_with(
         out,
         b"<svg xmlns=\"http://www.w3.org/2000/svg\" viewBox=\"0 0 1200 ",
         chart_height(sheet),
-    )?;
-    put_with(out, b"\" width=\"1200\" height=\"", chart_height(sheet))?;
-    put(
-        out,
+    );
+    put_with(out, b"\" width=\"1200\" height=\"", chart_height(sheet));
+    out.put(
         b"\" role=\"img\" font-family=\"DejaVu Sans, Verdana, sans-serif\" font-size=\"12\">\n",
-    )
+    );
 }
 
-fn put_counts(out: &mut Vec<u8>, sheet: &Sheet) -> Result<(), NoMemory>
-    ensures { OnOk result (out.new.items ≡ out.old.items ++ charts.counts sheet.now) }
+fn put_counts(out: &mut Draft, sheet: &Sheet)
+    ensures { Adds out.old out.new (charts.counts sheet.now) }
 {
-    put_with(out, b"<title>Which task ran where: ", sheet.rows)?;
-    put_with(out, b" tasks on ", sheet.cpus)
+    put_with(out, b"<title>Which task ran where: ", sheet.rows);
+    put_with(out, b" tasks on ", sheet.cpus);
 }
 
-fn put_span(out: &mut Vec<u8>, sheet: &Sheet) -> Result<(), NoMemory>
-    ensures { OnOk result (out.new.items ≡ out.old.items ++ charts.span sheet.now) }
+fn put_span(out: &mut Draft, sheet: &Sheet)
+    ensures { Adds out.old out.new (charts.span sheet.now) }
 {
-    put(out, b" CPUs, ")?;
-    put_times(out, sheet.window.from, sheet.window.to)?;
-    put(out, b"</title>\n")
+    out.put(b" CPUs, ");
+    put_times(out, sheet.window.from, sheet.window.to);
+    out.put(b"</title>\n");
 }
 
-fn put_chart_title(out: &mut Vec<u8>, sheet: &Sheet) -> Result<(), NoMemory>
-    ensures { OnOk result (out.new.items ≡ out.old.items ++ charts.chart_title sheet.now) }
+fn put_chart_title(out: &mut Draft, sheet: &Sheet)
+    ensures { Adds out.old out.new (charts.chart_title sheet.now) }
 {
-    put_counts(out, sheet)?;
-    put_span(out, sheet)
+    put_counts(out, sheet);
+    put_span(out, sheet);
 }
 
 /// How the elements look.
@@ -78,263 +78,217 @@ fn style() -> &'static [u8]
       rect.b:hover{stroke:#000;stroke-width:2.5}</style>\n"
 }
 
-fn put_background(out: &mut Vec<u8>, sheet: &Sheet) -> Result<(), NoMemory>
+fn put_background(out: &mut Draft, sheet: &Sheet)
     requires sheet { IsSheet sheet.now }
-    ensures { OnOk result (out.new.items ≡ out.old.items ++ charts.background sheet.now) }
+    ensures { Adds out.old out.new (charts.background sheet.now) }
 {
-    put_with(out, b"<rect width=\"1200\" height=\"", chart_height(sheet))?;
-    put(out, b"\" fill=\"#fff\"/>\n")
+    put_with(out, b"<rect width=\"1200\" height=\"", chart_height(sheet));
+    out.put(b"\" fill=\"#fff\"/>\n");
 }
 
-fn put_head(out: &mut Vec<u8>, sheet: &Sheet) -> Result<(), NoMemory>
+fn put_head(out: &mut Draft, sheet: &Sheet)
     requires sheet { IsSheet sheet.now }
-    ensures { OnOk result (out.new.items ≡ out.old.items ++ charts.head sheet.now) }
+    ensures { Adds out.old out.new (charts.head sheet.now) }
 {
-    put_opening(out, sheet)?;
-    put_chart_title(out, sheet)?;
-    put(out, style())?;
-    put_background(out, sheet)
+    put_opening(out, sheet);
+    put_chart_title(out, sheet);
+    out.put(style());
+    put_background(out, sheet);
 }
 
 // ---- the plot
 
-fn put_names(out: &mut Vec<u8>, sheet: &Sheet, rows: &[ChartRow<'_>]) -> Result<(), NoMemory>
+fn put_names(out: &mut Draft, sheet: &Sheet, rows: &[ChartRow<'_>])
     requires sheet { IsSheet sheet.now }
     requires few { length rows.now ≤ 2 ^ 20 }
-    ensures { OnOk result (out.new.items
-        ≡ out.old.items ++ numbered (pieces.name_lines sheet.now) 0 (map view_of rows.now)) }
+    ensures { Adds out.old out.new
+        (numbered (pieces.name_lines sheet.now) 0 (map view_of rows.now)) }
 {
     for (place, row) in rows.iter().enumerate() {
-        put_name_lines(out, sheet, place as u64, row)?;
+        put_name_lines(out, sheet, place as u64, row);
     }
-    Ok(())
 }
 
-fn put_plot_size(out: &mut Vec<u8>, sheet: &Sheet) -> Result<(), NoMemory>
+fn put_plot_size(out: &mut Draft, sheet: &Sheet)
     requires sheet { IsSheet sheet.now }
-    ensures { OnOk result (out.new.items ≡ out.old.items ++ charts.plot_size sheet.now) }
+    ensures { Adds out.old out.new (charts.plot_size sheet.now) }
 {
     put_with(
         out,
         b"<svg x=\"150\" y=\"40\" width=\"1020\" height=\"",
         sheet.plot_height(),
-    )
+    );
 }
 
-fn put_plot_view(out: &mut Vec<u8>, sheet: &Sheet) -> Result<(), NoMemory>
+fn put_plot_view(out: &mut Draft, sheet: &Sheet)
     requires sheet { IsSheet sheet.now }
-    ensures { OnOk result (out.new.items ≡ out.old.items ++ charts.plot_view sheet.now) }
+    ensures { Adds out.old out.new (charts.plot_view sheet.now) }
 {
-    put_with(out, b"\" viewBox=\"", sheet.window.from)?;
-    put_with(out, b" 0 ", sheet.window.to - sheet.window.from)?;
-    put_with(out, b" ", sheet.plot_height())?;
-    put(out, b"\" preserveAspectRatio=\"none\">\n")
+    put_with(out, b"\" viewBox=\"", sheet.window.from);
+    put_with(out, b" 0 ", sheet.window.to - sheet.window.from);
+    put_with(out, b" ", sheet.plot_height());
+    out.put(b"\" preserveAspectRatio=\"none\">\n");
 }
 
-fn put_plot_opening(out: &mut Vec<u8>, sheet: &Sheet) -> Result<(), NoMemory>
+fn put_plot_opening(out: &mut Draft, sheet: &Sheet)
     requires sheet { IsSheet sheet.now }
-    ensures { OnOk result (out.new.items ≡ out.old.items ++ charts.plot_opening sheet.now) }
+    ensures { Adds out.old out.new (charts.plot_opening sheet.now) }
 {
-    put_plot_size(out, sheet)?;
-    put_plot_view(out, sheet)
+    put_plot_size(out, sheet);
+    put_plot_view(out, sheet);
 }
 
-fn put_grid_line(out: &mut Vec<u8>, sheet: &Sheet, time: u64) -> Result<(), NoMemory>
+fn put_grid_line(out: &mut Draft, sheet: &Sheet, time: u64)
     requires sheet { IsSheet sheet.now }
-    ensures { OnOk result (out.new.items
-        ≡ out.old.items ++ charts.grid_line sheet.now time) }
+    ensures { Adds out.old out.new (charts.grid_line sheet.now time) }
 {
-    put_with(out, b"<path class=\"g\" d=\"M", time)?;
-    put_with(out, b" 0V", sheet.plot_height())?;
-    put(out, b"\"/>\n")
+    put_with(out, b"<path class=\"g\" d=\"M", time);
+    put_with(out, b" 0V", sheet.plot_height());
+    out.put(b"\"/>\n");
 }
 
-fn put_grid(out: &mut Vec<u8>, sheet: &Sheet, ticks: &[u64]) -> Result<(), NoMemory>
+fn put_grid(out: &mut Draft, sheet: &Sheet, ticks: &[u64])
     requires sheet { IsSheet sheet.now }
-    ensures { OnOk result (out.new.items
-        ≡ out.old.items ++ flat_map (charts.grid_line sheet.now) ticks.now) }
+    ensures { Adds out.old out.new (flat_map (charts.grid_line sheet.now) ticks.now) }
 {
     for time in ticks {
-        put_grid_line(out, sheet, *time)?;
+        put_grid_line(out, sheet, *time);
     }
-    Ok(())
 }
 
-fn put_rows(out: &mut Vec<u8>, sheet: &Sheet, rows: &[ChartRow<'_>]) -> Result<(), NoMemory>
+fn put_rows(out: &mut Draft, sheet: &Sheet, rows: &[ChartRow<'_>])
     requires sheet { IsSheet sheet.now }
     requires few { length rows.now ≤ 2 ^ 20 }
-    ensures { OnOk result (out.new.items
-        ≡ out.old.items ++ numbered (pieces.row_lines sheet.now) 0 (map view_of rows.now)) }
+    ensures { Adds out.old out.new
+        (numbered (pieces.row_lines sheet.now) 0 (map view_of rows.now)) }
 {
     for (place, row) in rows.iter().enumerate() {
-        put_row_lines(out, sheet, place as u64, row)?;
+        put_row_lines(out, sheet, place as u64, row);
     }
-    Ok(())
 }
 
-fn put_plot(
-    out: &mut Vec<u8>,
-    sheet: &Sheet,
-    ticks: &[u64],
-    rows: &[ChartRow<'_>],
-) -> Result<(), NoMemory>
+fn put_plot(out: &mut Draft, sheet: &Sheet, ticks: &[u64], rows: &[ChartRow<'_>])
     requires sheet { IsSheet sheet.now }
     requires few { length rows.now ≤ 2 ^ 20 }
-    ensures { OnOk result (out.new.items
-        ≡ out.old.items ++ charts.plot sheet.now ticks.now (map view_of rows.now)) }
+    ensures { Adds out.old out.new (charts.plot sheet.now ticks.now (map view_of rows.now)) }
 {
-    put_plot_opening(out, sheet)?;
-    put_grid(out, sheet, ticks)?;
-    put_rows(out, sheet, rows)?;
-    put(out, b"</svg>\n")
+    put_plot_opening(out, sheet);
+    put_grid(out, sheet, ticks);
+    put_rows(out, sheet, rows);
+    out.put(b"</svg>\n");
 }
 
 // ---- over the plot
 
-fn put_over(out: &mut Vec<u8>, sheet: &Sheet, rows: &[ChartRow<'_>]) -> Result<(), NoMemory>
+fn put_over(out: &mut Draft, sheet: &Sheet, rows: &[ChartRow<'_>])
     requires sheet { IsSheet sheet.now }
     requires few { length rows.now ≤ 2 ^ 20 }
     requires drawn { All (IsDrawn sheet.now.window) rows.now }
-    ensures { OnOk result (out.new.items
-        ≡ out.old.items ++ numbered (pieces.over_lines sheet.now) 0 (map view_of rows.now)) }
+    ensures { Adds out.old out.new
+        (numbered (pieces.over_lines sheet.now) 0 (map view_of rows.now)) }
 {
     for (place, row) in rows.iter().enumerate() {
-        put_over_lines(out, sheet, place as u64, row)?;
+        put_over_lines(out, sheet, place as u64, row);
     }
-    Ok(())
 }
 
 // ---- the axis
 
-fn put_label(out: &mut Vec<u8>, sheet: &Sheet, top: u64, time: u64) -> Result<(), NoMemory>
+fn put_label(out: &mut Draft, sheet: &Sheet, top: u64, time: u64)
     requires sheet { IsSheet sheet.now }
     requires time { time ≤ 2 ^ 42 }
-    ensures { OnOk result (out.new.items
-        ≡ out.old.items ++ charts.label sheet.now top time) }
+    ensures { Adds out.old out.new (charts.label sheet.now top time) }
 {
-    put_text_at(out, sheet.pixel_of(time), top)?;
-    put(
-        out,
-        b"\" text-anchor=\"middle\" font-size=\"11\" fill=\"#333\">",
-    )?;
-    put_seconds(out, time)?;
-    put(out, b"</text>\n")
+    put_text_at(out, sheet.pixel_of(time), top);
+    out.put(b"\" text-anchor=\"middle\" font-size=\"11\" fill=\"#333\">");
+    put_seconds(out, time);
+    out.put(b"</text>\n");
 }
 
 /// A label above the plot, and one below it.
-fn put_labels(out: &mut Vec<u8>, sheet: &Sheet, time: u64) -> Result<(), NoMemory>
+fn put_labels(out: &mut Draft, sheet: &Sheet, time: u64)
     requires sheet { IsSheet sheet.now }
     requires time { time ≤ 2 ^ 42 }
-    ensures { OnOk result (out.new.items ≡ out.old.items ++ charts.labels sheet.now time) }
+    ensures { Adds out.old out.new (charts.labels sheet.now time) }
 {
-    put_label(out, sheet, 32, time)?;
-    put_label(out, sheet, sheet.plot_end() + 16, time)
+    put_label(out, sheet, 32, time);
+    put_label(out, sheet, sheet.plot_end() + 16, time);
 }
 
-fn put_all_labels(out: &mut Vec<u8>, sheet: &Sheet, ticks: &[u64]) -> Result<(), NoMemory>
+fn put_all_labels(out: &mut Draft, sheet: &Sheet, ticks: &[u64])
     requires sheet { IsSheet sheet.now }
     requires early { All (λ t. t ≤ 2 ^ 42) ticks.now }
-    ensures { OnOk result (out.new.items
-        ≡ out.old.items ++ flat_map (charts.labels sheet.now) ticks.now) }
+    ensures { Adds out.old out.new (flat_map (charts.labels sheet.now) ticks.now) }
 {
     for time in ticks {
-        put_labels(out, sheet, *time)?;
+        put_labels(out, sheet, *time);
     }
-    Ok(())
 }
 
-fn put_axis(out: &mut Vec<u8>, sheet: &Sheet, ticks: &[u64]) -> Result<(), NoMemory>
+fn put_axis(out: &mut Draft, sheet: &Sheet, ticks: &[u64])
     requires sheet { IsSheet sheet.now }
     requires early { All (λ t. t ≤ 2 ^ 42) ticks.now }
-    ensures { OnOk result (out.new.items
-        ≡ out.old.items ++ charts.axis sheet.now ticks.now) }
+    ensures { Adds out.old out.new (charts.axis sheet.now ticks.now) }
 {
-    put_all_labels(out, sheet, ticks)?;
-    put(
-        out,
+    put_all_labels(out, sheet, ticks);
+    out.put(
         b"<text x=\"142\" y=\"32\" text-anchor=\"end\" font-size=\"11\" fill=\"#333\">\
           time in s</text>\n",
-    )
+    );
 }
 
 // ---- all
 
-fn put_upper(
-    out: &mut Vec<u8>,
-    sheet: &Sheet,
-    ticks: &[u64],
-    rows: &[ChartRow<'_>],
-) -> Result<(), NoMemory>
+fn put_upper(out: &mut Draft, sheet: &Sheet, ticks: &[u64], rows: &[ChartRow<'_>])
     requires sheet { IsSheet sheet.now }
     requires few { length rows.now ≤ 2 ^ 20 }
-    ensures { OnOk result (out.new.items
-        ≡ out.old.items ++ charts.upper sheet.now ticks.now (map view_of rows.now)) }
+    ensures { Adds out.old out.new (charts.upper sheet.now ticks.now (map view_of rows.now)) }
 {
-    put_head(out, sheet)?;
-    put_names(out, sheet, rows)?;
-    put_plot(out, sheet, ticks, rows)
+    put_head(out, sheet);
+    put_names(out, sheet, rows);
+    put_plot(out, sheet, ticks, rows);
 }
 
-fn put_lower(
-    out: &mut Vec<u8>,
-    alloc: Global,
-    sheet: &Sheet,
-    ticks: &[u64],
-    rows: &[ChartRow<'_>],
-) -> Result<(), NoMemory>
+fn put_lower(out: &mut Draft, alloc: Global, sheet: &Sheet, ticks: &[u64], rows: &[ChartRow<'_>])
     requires sheet { IsSheet sheet.now }
     requires cpus { sheet.now.cpus ≤ 512 }
     requires few { length rows.now ≤ 2 ^ 20 }
     requires early { All (λ t. t ≤ 2 ^ 42) ticks.now }
     requires drawn { All (IsDrawn sheet.now.window) rows.now }
-    ensures { OnOk result (out.new.items
-        ≡ out.old.items ++ charts.lower sheet.now ticks.now (map view_of rows.now)) }
+    ensures { Adds out.old out.new (charts.lower sheet.now ticks.now (map view_of rows.now)) }
 {
-    put_over(out, sheet, rows)?;
-    put_axis(out, sheet, ticks)?;
-    put_legend(out, alloc, sheet)?;
-    put(out, b"</svg>\n")
+    put_over(out, sheet, rows);
+    put_axis(out, sheet, ticks);
+    put_legend(out, alloc, sheet);
+    out.put(b"</svg>\n");
 }
 
-fn put_chart_of(
-    out: &mut Vec<u8>,
-    alloc: Global,
-    sheet: &Sheet,
-    ticks: &[u64],
-    rows: &[ChartRow<'_>],
-) -> Result<(), NoMemory>
+fn put_chart_of(out: &mut Draft, alloc: Global, sheet: &Sheet, ticks: &[u64], rows: &[ChartRow<'_>])
     requires sheet { IsSheet sheet.now }
     requires cpus { sheet.now.cpus ≤ 512 }
     requires few { length rows.now ≤ 2 ^ 20 }
     requires early { All (λ t. t ≤ 2 ^ 42) ticks.now }
     requires drawn { All (IsDrawn sheet.now.window) rows.now }
-    ensures { OnOk result (out.new.items
-        ≡ out.old.items ++ charts.chart_of sheet.now ticks.now (map view_of rows.now)) }
+    ensures { Adds out.old out.new (charts.chart_of sheet.now ticks.now (map view_of rows.now)) }
 {
-    put_upper(out, sheet, ticks, rows)?;
-    put_lower(out, alloc, sheet, ticks, rows)
+    put_upper(out, sheet, ticks, rows);
+    put_lower(out, alloc, sheet, ticks, rows);
 }
 
 /// Puts the chart of a window behind a text: one SVG file of at most 2^20 rows, of a machine of at
 /// most 512 CPUs. Costs what the window's bars, gaps and marks cost.
-///
-/// # Errors
-/// 12 [`NoMemory`]: a growth was refused; a part of the text may stand behind what stood before.
-pub fn put_chart(
-    out: &mut Vec<u8>,
-    alloc: Global,
-    window: Window,
-    cpus: u64,
-    rows: &[ChartRow<'_>],
-) -> Result<(), NoMemory>
+pub fn put_chart(out: &mut Draft, alloc: Global, window: Window, cpus: u64, rows: &[ChartRow<'_>])
     requires window { IsWindow window }
     requires cpus { cpus ≤ 512 }
     requires few { length rows.now ≤ 2 ^ 20 }
     requires drawn { All (IsDrawn window) rows.now }
-    ensures { OnOk result (out.new.items
-        ≡ out.old.items ++ charts.chart_text window cpus (map view_of rows.now)) }
+    ensures { Adds out.old out.new (charts.chart_text window cpus (map view_of rows.now)) }
 {
-    let ticks = ticks_of(alloc, &window)?;
-    let sheet = sheet_of(window, cpus, rows.len() as u64);
-    put_chart_of(out, alloc, &sheet, &ticks, rows)
+    match ticks_of(alloc, &window) {
+        Ok(ticks) => {
+            let sheet = sheet_of(window, cpus, rows.len() as u64);
+            put_chart_of(out, alloc, &sheet, &ticks, rows);
+        }
+        Err(NoMemory) => out.refuse(),
+    }
 }

@@ -1,7 +1,8 @@
 //! The legend, below the plot.
 
-ghost use Rattle.std.specs.Prelude.{◌≡◌, ◌+◌, ◌*◌, ◌<◌, ◌≤◌, ◌^◌, ◌++◌, All, length, codes, OnOk};
+ghost use Rattle.std.specs.Prelude.{◌≡◌, ◌+◌, ◌*◌, ◌<◌, ◌≤◌, ◌^◌, ◌++◌, All, length, codes};
 ghost use Rattle.run_figures.specs.Lines.{numbered};
+ghost use Rattle.draft.specs.Draft.{Adds};
 ghost use Rattle.chart.specs.Legend as legends;
 ghost use Rattle.chart.specs.private.Sheets.{IsSheet};
 
@@ -9,8 +10,8 @@ use crate::colours::{fill_of, legend_cpus};
 use crate::over::put_number_ink;
 use crate::pieces::put_text_at;
 use crate::sheet::Sheet;
-use crate::texts::{put, put_with};
-use domain_run::NoMemory;
+use crate::texts::put_with;
+use draft::{Draft, NoMemory};
 use std::alloc::Global;
 
 // ---- colours
@@ -23,135 +24,121 @@ fn colour_left(place: u64) -> u64
     150 + place * 28
 }
 
-fn put_colour_place(out: &mut Vec<u8>, sheet: &Sheet, place: u64) -> Result<(), NoMemory>
+fn put_colour_place(out: &mut Draft, sheet: &Sheet, place: u64)
     requires sheet { IsSheet sheet.now }
     requires place { place ≤ 8 }
-    ensures { OnOk result (out.new.items
-        ≡ out.old.items ++ legends.colour_place sheet.now place) }
+    ensures { Adds out.old out.new (legends.colour_place sheet.now place) }
 {
-    put_with(out, b"<rect x=\"", colour_left(place))?;
-    put_with(out, b"\" y=\"", sheet.plot_end() + 32)
+    put_with(out, b"<rect x=\"", colour_left(place));
+    put_with(out, b"\" y=\"", sheet.plot_end() + 32);
 }
 
-fn put_colour_fill(out: &mut Vec<u8>, sheet: &Sheet, cpu: u64) -> Result<(), NoMemory>
+fn put_colour_fill(out: &mut Draft, sheet: &Sheet, cpu: u64)
     requires cpu { cpu < 2 ^ 40 }
-    ensures { OnOk result (out.new.items ≡ out.old.items ++ legends.colour_fill sheet.now cpu) }
+    ensures { Adds out.old out.new (legends.colour_fill sheet.now cpu) }
 {
-    put(out, b"\" width=\"22\" height=\"14\" fill=\"")?;
-    put(out, fill_of(sheet.cpus, cpu))?;
-    put(out, b"\"/>")
+    out.put(b"\" width=\"22\" height=\"14\" fill=\"");
+    out.put(fill_of(sheet.cpus, cpu));
+    out.put(b"\"/>");
 }
 
-fn put_colour_end(out: &mut Vec<u8>, cpu: u64) -> Result<(), NoMemory>
-    ensures { OnOk result (out.new.items ≡ out.old.items ++ legends.colour_end cpu) }
+fn put_colour_end(out: &mut Draft, cpu: u64)
+    ensures { Adds out.old out.new (legends.colour_end cpu) }
 {
-    put_with(out, b"\">", cpu)?;
-    put(out, b"</text>\n")
+    put_with(out, b"\">", cpu);
+    out.put(b"</text>\n");
 }
 
-fn put_colour_number(out: &mut Vec<u8>, sheet: &Sheet, place: u64, cpu: u64) -> Result<(), NoMemory>
+fn put_colour_number(out: &mut Draft, sheet: &Sheet, place: u64, cpu: u64)
     requires sheet { IsSheet sheet.now }
     requires place { place ≤ 8 }
     requires cpu { cpu < 2 ^ 40 }
-    ensures { OnOk result (out.new.items
-        ≡ out.old.items ++ legends.colour_number sheet.now place cpu) }
+    ensures { Adds out.old out.new (legends.colour_number sheet.now place cpu) }
 {
-    put_text_at(out, colour_left(place) + 11, sheet.plot_end() + 43)?;
-    put_number_ink(out, sheet, cpu)?;
-    put_colour_end(out, cpu)
+    put_text_at(out, colour_left(place) + 11, sheet.plot_end() + 43);
+    put_number_ink(out, sheet, cpu);
+    put_colour_end(out, cpu);
 }
 
 /// A box in the CPU's colour, and its number in it.
-fn put_colour(out: &mut Vec<u8>, sheet: &Sheet, place: u64, cpu: u64) -> Result<(), NoMemory>
+fn put_colour(out: &mut Draft, sheet: &Sheet, place: u64, cpu: u64)
     requires sheet { IsSheet sheet.now }
     requires place { place ≤ 8 }
     requires cpu { cpu < 2 ^ 40 }
-    ensures { OnOk result (out.new.items
-        ≡ out.old.items ++ legends.colour_line sheet.now place cpu) }
+    ensures { Adds out.old out.new (legends.colour_line sheet.now place cpu) }
 {
-    put_colour_place(out, sheet, place)?;
-    put_colour_fill(out, sheet, cpu)?;
-    put_colour_number(out, sheet, place, cpu)
+    put_colour_place(out, sheet, place);
+    put_colour_fill(out, sheet, cpu);
+    put_colour_number(out, sheet, place, cpu);
 }
 
-fn put_boxes(out: &mut Vec<u8>, sheet: &Sheet, cpus: &[u64]) -> Result<(), NoMemory>
+fn put_boxes(out: &mut Draft, sheet: &Sheet, cpus: &[u64])
     requires sheet { IsSheet sheet.now }
     requires few { length cpus.now ≤ 8 }
     requires small { All (λ c. c < 2 ^ 40) cpus.now }
-    ensures { OnOk result (out.new.items
-        ≡ out.old.items ++ numbered (legends.colour_line sheet.now) 0 cpus.now) }
+    ensures { Adds out.old out.new (numbered (legends.colour_line sheet.now) 0 cpus.now) }
 {
     for (place, cpu) in cpus.iter().enumerate() {
-        put_colour(out, sheet, place as u64, *cpu)?;
+        put_colour(out, sheet, place as u64, *cpu);
     }
-    Ok(())
 }
 
-fn put_colour_title(out: &mut Vec<u8>, sheet: &Sheet) -> Result<(), NoMemory>
+fn put_colour_title(out: &mut Draft, sheet: &Sheet)
     requires sheet { IsSheet sheet.now }
-    ensures { OnOk result (out.new.items ≡ out.old.items ++ legends.colour_title sheet.now) }
+    ensures { Adds out.old out.new (legends.colour_title sheet.now) }
 {
-    put_with(out, b"<text x=\"142\" y=\"", sheet.plot_end() + 43)?;
-    put(out, b"\" text-anchor=\"end\" font-size=\"11\">CPU</text>\n")
+    put_with(out, b"<text x=\"142\" y=\"", sheet.plot_end() + 43);
+    out.put(b"\" text-anchor=\"end\" font-size=\"11\">CPU</text>\n");
 }
 
-fn put_colours(out: &mut Vec<u8>, sheet: &Sheet, cpus: &[u64]) -> Result<(), NoMemory>
+fn put_colours(out: &mut Draft, sheet: &Sheet, cpus: &[u64])
     requires sheet { IsSheet sheet.now }
     requires few { length cpus.now ≤ 8 }
     requires small { All (λ c. c < 2 ^ 40) cpus.now }
-    ensures { OnOk result (out.new.items
-        ≡ out.old.items ++ legends.colours sheet.now cpus.now) }
+    ensures { Adds out.old out.new (legends.colours sheet.now cpus.now) }
 {
-    put_colour_title(out, sheet)?;
-    put_boxes(out, sheet, cpus)
+    put_colour_title(out, sheet);
+    put_boxes(out, sheet, cpus);
 }
 
 // ---- signs
 
-fn put_sign_place(out: &mut Vec<u8>, left: u64, top: u64) -> Result<(), NoMemory>
-    ensures { OnOk result (out.new.items ≡ out.old.items ++ legends.sign_place left top) }
+fn put_sign_place(out: &mut Draft, left: u64, top: u64)
+    ensures { Adds out.old out.new (legends.sign_place left top) }
 {
-    put_with(out, b"\" d=\"M", left)?;
-    put_with(out, b" ", top)
+    put_with(out, b"\" d=\"M", left);
+    put_with(out, b" ", top);
 }
 
-fn put_sign_path(out: &mut Vec<u8>, path: &[u8]) -> Result<(), NoMemory>
-    ensures { OnOk result (out.new.items ≡ out.old.items ++ legends.sign_path path.now) }
+fn put_sign_path(out: &mut Draft, path: &[u8])
+    ensures { Adds out.old out.new (legends.sign_path path.now) }
 {
-    put(out, path)?;
-    put(out, b"\"/>")
+    out.put(path);
+    out.put(b"\"/>");
 }
 
-fn put_sign_class(out: &mut Vec<u8>, class: &[u8]) -> Result<(), NoMemory>
-    ensures { OnOk result (out.new.items ≡ out.old.items ++ legends.sign_class class.now) }
+fn put_sign_class(out: &mut Draft, class: &[u8])
+    ensures { Adds out.old out.new (legends.sign_class class.now) }
 {
-    put(out, b"<path class=\"")?;
-    put(out, class)
+    out.put(b"<path class=\"");
+    out.put(class);
 }
 
-fn put_sign(
-    out: &mut Vec<u8>,
-    class: &[u8],
-    left: u64,
-    top: u64,
-    path: &[u8],
-) -> Result<(), NoMemory>
-    ensures { OnOk result (out.new.items
-        ≡ out.old.items ++ legends.sign_at class.now left top path.now) }
+fn put_sign(out: &mut Draft, class: &[u8], left: u64, top: u64, path: &[u8])
+    ensures { Adds out.old out.new (legends.sign_at class.now left top path.now) }
 {
-    put_sign_class(out, class)?;
-    put_sign_place(out, left, top)?;
-    put_sign_path(out, path)
+    put_sign_class(out, class);
+    put_sign_place(out, left, top);
+    put_sign_path(out, path);
 }
 
-fn put_meaning(out: &mut Vec<u8>, left: u64, top: u64, word: &[u8]) -> Result<(), NoMemory>
-    ensures { OnOk result (out.new.items
-        ≡ out.old.items ++ legends.meaning left top word.now) }
+fn put_meaning(out: &mut Draft, left: u64, top: u64, word: &[u8])
+    ensures { Adds out.old out.new (legends.meaning left top word.now) }
 {
-    put_text_at(out, left, top)?;
-    put(out, b"\" font-size=\"11\">")?;
-    put(out, word)?;
-    put(out, b"</text>\n")
+    put_text_at(out, left, top);
+    out.put(b"\" font-size=\"11\">");
+    out.put(word);
+    out.put(b"</text>\n");
 }
 
 /// A line or a mark as it is drawn in the legend.
@@ -167,14 +154,14 @@ pub(crate) struct Entry<'a> {
 }
 
 /// A sign, and behind it its meaning.
-fn put_entry(out: &mut Vec<u8>, sheet: &Sheet, left: u64, entry: &Entry<'_>) -> Result<(), NoMemory>
+fn put_entry(out: &mut Draft, sheet: &Sheet, left: u64, entry: &Entry<'_>)
     requires sheet { IsSheet sheet.now }
     requires left { left ≤ 2000 }
     requires top { entry.now.top ≤ 100 }
     requires indent { entry.now.indent ≤ 100 }
-    ensures { OnOk result (out.new.items
-        ≡ out.old.items ++ legends.sign_line sheet.now entry.now.class.now left entry.now.top
-        entry.now.path.now entry.now.indent entry.now.word.now) }
+    ensures { Adds out.old out.new
+        (legends.sign_line sheet.now entry.now.class.now left entry.now.top entry.now.path.now
+        entry.now.indent entry.now.word.now) }
 {
     put_sign(
         out,
@@ -182,15 +169,14 @@ fn put_entry(out: &mut Vec<u8>, sheet: &Sheet, left: u64, entry: &Entry<'_>) -> 
         left,
         sheet.plot_end() + entry.top,
         entry.path,
-    )?;
-    put_meaning(out, left + entry.indent, sheet.plot_end() + 43, entry.word)
+    );
+    put_meaning(out, left + entry.indent, sheet.plot_end() + 43, entry.word);
 }
 
-fn put_line_signs(out: &mut Vec<u8>, sheet: &Sheet, left: u64) -> Result<(), NoMemory>
+fn put_line_signs(out: &mut Draft, sheet: &Sheet, left: u64)
     requires sheet { IsSheet sheet.now }
     requires left { left ≤ 1000 }
-    ensures { OnOk result (out.new.items
-        ≡ out.old.items ++ legends.line_signs sheet.now left) }
+    ensures { Adds out.old out.new (legends.line_signs sheet.now left) }
 {
     let wants = Entry {
         class: b"w",
@@ -206,15 +192,14 @@ fn put_line_signs(out: &mut Vec<u8>, sheet: &Sheet, left: u64) -> Result<(), NoM
         indent: 36,
         word: b"throttled",
     };
-    put_entry(out, sheet, left, &wants)?;
-    put_entry(out, sheet, left + 130, &throttled)
+    put_entry(out, sheet, left, &wants);
+    put_entry(out, sheet, left + 130, &throttled);
 }
 
-fn put_mark_signs(out: &mut Vec<u8>, sheet: &Sheet, left: u64) -> Result<(), NoMemory>
+fn put_mark_signs(out: &mut Draft, sheet: &Sheet, left: u64)
     requires sheet { IsSheet sheet.now }
     requires left { left ≤ 1000 }
-    ensures { OnOk result (out.new.items
-        ≡ out.old.items ++ legends.mark_signs sheet.now left) }
+    ensures { Adds out.old out.new (legends.mark_signs sheet.now left) }
 {
     let released = Entry {
         class: b"r",
@@ -237,39 +222,40 @@ fn put_mark_signs(out: &mut Vec<u8>, sheet: &Sheet, left: u64) -> Result<(), NoM
         indent: 8,
         word: b"ended",
     };
-    put_entry(out, sheet, left + 246, &released)?;
-    put_entry(out, sheet, left + 326, &due)?;
-    put_entry(out, sheet, left + 376, &ended)
+    put_entry(out, sheet, left + 246, &released);
+    put_entry(out, sheet, left + 326, &due);
+    put_entry(out, sheet, left + 376, &ended);
 }
 
-fn put_signs(out: &mut Vec<u8>, sheet: &Sheet, left: u64) -> Result<(), NoMemory>
+fn put_signs(out: &mut Draft, sheet: &Sheet, left: u64)
     requires sheet { IsSheet sheet.now }
     requires left { left ≤ 1000 }
-    ensures { OnOk result (out.new.items ≡ out.old.items ++ legends.signs sheet.now left) }
+    ensures { Adds out.old out.new (legends.signs sheet.now left) }
 {
-    put_line_signs(out, sheet, left)?;
-    put_mark_signs(out, sheet, left)
+    put_line_signs(out, sheet, left);
+    put_mark_signs(out, sheet, left);
 }
 
 // ---- all
 
-fn put_legend_of(out: &mut Vec<u8>, sheet: &Sheet, cpus: &[u64]) -> Result<(), NoMemory>
+fn put_legend_of(out: &mut Draft, sheet: &Sheet, cpus: &[u64])
     requires sheet { IsSheet sheet.now }
     requires few { length cpus.now ≤ 8 }
     requires small { All (λ c. c < 2 ^ 40) cpus.now }
-    ensures { OnOk result (out.new.items
-        ≡ out.old.items ++ legends.legend_of sheet.now cpus.now) }
+    ensures { Adds out.old out.new (legends.legend_of sheet.now cpus.now) }
 {
-    put_colours(out, sheet, cpus)?;
-    put_signs(out, sheet, 170 + cpus.len() as u64 * 28)
+    put_colours(out, sheet, cpus);
+    put_signs(out, sheet, 170 + cpus.len() as u64 * 28);
 }
 
 /// The legend.
-pub(crate) fn put_legend(out: &mut Vec<u8>, alloc: Global, sheet: &Sheet) -> Result<(), NoMemory>
+pub(crate) fn put_legend(out: &mut Draft, alloc: Global, sheet: &Sheet)
     requires sheet { IsSheet sheet.now }
     requires cpus { sheet.now.cpus ≤ 512 }
-    ensures { OnOk result (out.new.items ≡ out.old.items ++ legends.legend sheet.now) }
+    ensures { Adds out.old out.new (legends.legend sheet.now) }
 {
-    let cpus = legend_cpus(alloc, sheet.cpus)?;
-    put_legend_of(out, sheet, &cpus)
+    match legend_cpus(alloc, sheet.cpus) {
+        Ok(cpus) => put_legend_of(out, sheet, &cpus),
+        Err(NoMemory) => out.refuse(),
+    }
 }

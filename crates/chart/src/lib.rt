@@ -17,5 +17,4 @@ mod sheet;
 mod texts;
 
 pub use chart::put_chart;
-pub use domain_run::NoMemory;
 pub use row::ChartRow;

@@ -1,6 +1,7 @@
 //! What stands over the plot: the numbers of CPUs in bars, and the marks.
 
-ghost use Rattle.std.specs.Prelude.{◌≡◌, ◌+◌, ◌<◌, ◌≤◌, ◌^◌, ◌++◌, All, flat_map, codes, OnOk};
+ghost use Rattle.std.specs.Prelude.{◌≡◌, ◌+◌, ◌<◌, ◌≤◌, ◌^◌, ◌++◌, All, flat_map, codes};
+ghost use Rattle.draft.specs.Draft.{Adds};
 ghost use Rattle.chart.specs.Pieces as pieces;
 ghost use Rattle.chart.specs.Rows.{view_of};
 ghost use Rattle.chart.specs.private.Sheets.{IsSheet};
@@ -9,9 +10,9 @@ use crate::colours::ink_of;
 use crate::pieces::{cpu_of, put_text_at, put_title};
 use crate::row::ChartRow;
 use crate::sheet::Sheet;
-use crate::texts::{put, put_seconds, put_with};
+use crate::texts::{put_seconds, put_with};
 use chart_pieces::{Bar, Mark, Sign};
-use domain_run::NoMemory;
+use draft::Draft;
 
 // ---- numbers of CPUs
 
@@ -62,92 +63,69 @@ fn has_number(sheet: &Sheet, base: u32, bar: &Bar) -> bool
     sheet.is_tall() && 1 < sheet.cpus && number_width(cpu_of(base, bar)) <= seen_width(sheet, bar)
 }
 
-fn put_number_place(out: &mut Vec<u8>, sheet: &Sheet, place: u64, bar: &Bar) -> Result<(), NoMemory>
+fn put_number_place(out: &mut Draft, sheet: &Sheet, place: u64, bar: &Bar)
     requires sheet { IsSheet sheet.now }
     requires place { place ≤ 2 ^ 32 }
     requires start { bar.now.start < sheet.now.window.to }
-    ensures { OnOk result (out.new.items
-        ≡ out.old.items ++ pieces.number_place sheet.now place bar.now) }
+    ensures { Adds out.old out.new (pieces.number_place sheet.now place bar.now) }
 {
     let middle = (seen_from(sheet, bar) + seen_to(sheet, bar)) / 2;
     put_text_at(
         out,
         sheet.pixel_of(middle),
         40 + (sheet.row_top(place) + sheet.size.foot),
-    )
+    );
 }
 
 /// The colour of a number on that of a CPU.
-pub(crate) fn put_number_ink(out: &mut Vec<u8>, sheet: &Sheet, cpu: u64) -> Result<(), NoMemory>
+pub(crate) fn put_number_ink(out: &mut Draft, sheet: &Sheet, cpu: u64)
     requires cpu { cpu < 2 ^ 40 }
-    ensures { OnOk result (out.new.items ≡ out.old.items ++ pieces.number_ink sheet.now cpu) }
+    ensures { Adds out.old out.new (pieces.number_ink sheet.now cpu) }
 {
-    put(out, b"\" text-anchor=\"middle\" font-size=\"11\" fill=\"")?;
-    put(out, ink_of(sheet.cpus, cpu))
+    out.put(b"\" text-anchor=\"middle\" font-size=\"11\" fill=\"");
+    out.put(ink_of(sheet.cpus, cpu));
 }
 
-fn put_number_end(out: &mut Vec<u8>, cpu: u64) -> Result<(), NoMemory>
-    ensures { OnOk result (out.new.items ≡ out.old.items ++ pieces.number_end cpu) }
+fn put_number_end(out: &mut Draft, cpu: u64)
+    ensures { Adds out.old out.new (pieces.number_end cpu) }
 {
-    put_with(out, b"\" pointer-events=\"none\">", cpu)?;
-    put(out, b"</text>\n")
+    put_with(out, b"\" pointer-events=\"none\">", cpu);
+    out.put(b"</text>\n");
 }
 
-fn put_number_text(
-    out: &mut Vec<u8>,
-    sheet: &Sheet,
-    place: u64,
-    base: u32,
-    bar: &Bar,
-) -> Result<(), NoMemory>
+fn put_number_text(out: &mut Draft, sheet: &Sheet, place: u64, base: u32, bar: &Bar)
     requires sheet { IsSheet sheet.now }
     requires place { place ≤ 2 ^ 32 }
     requires start { bar.now.start < sheet.now.window.to }
-    ensures { OnOk result (out.new.items
-        ≡ out.old.items ++ pieces.number_text sheet.now place base bar.now) }
+    ensures { Adds out.old out.new (pieces.number_text sheet.now place base bar.now) }
 {
-    put_number_place(out, sheet, place, bar)?;
-    put_number_ink(out, sheet, cpu_of(base, bar))?;
-    put_number_end(out, cpu_of(base, bar))
+    put_number_place(out, sheet, place, bar);
+    put_number_ink(out, sheet, cpu_of(base, bar));
+    put_number_end(out, cpu_of(base, bar));
 }
 
 /// The number of a CPU in a bar that is wide enough.
-fn put_number(
-    out: &mut Vec<u8>,
-    sheet: &Sheet,
-    place: u64,
-    base: u32,
-    bar: &Bar,
-) -> Result<(), NoMemory>
+fn put_number(out: &mut Draft, sheet: &Sheet, place: u64, base: u32, bar: &Bar)
     requires sheet { IsSheet sheet.now }
     requires place { place ≤ 2 ^ 32 }
     requires start { bar.now.start < sheet.now.window.to }
-    ensures { OnOk result (out.new.items
-        ≡ out.old.items ++ pieces.number_line sheet.now place base bar.now) }
+    ensures { Adds out.old out.new (pieces.number_line sheet.now place base bar.now) }
 {
     if has_number(sheet, base, bar) {
-        return put_number_text(out, sheet, place, base, bar);
+        put_number_text(out, sheet, place, base, bar);
+        return;
     }
-    Ok(())
 }
 
-fn put_numbers(
-    out: &mut Vec<u8>,
-    sheet: &Sheet,
-    place: u64,
-    base: u32,
-    bars: &[Bar],
-) -> Result<(), NoMemory>
+fn put_numbers(out: &mut Draft, sheet: &Sheet, place: u64, base: u32, bars: &[Bar])
     requires sheet { IsSheet sheet.now }
     requires place { place ≤ 2 ^ 32 }
     requires starts { All (λ b. b.start < sheet.now.window.to) bars.now }
-    ensures { OnOk result (out.new.items
-        ≡ out.old.items ++ flat_map (pieces.number_line sheet.now place base) bars.now) }
+    ensures { Adds out.old out.new (flat_map (pieces.number_line sheet.now place base) bars.now) }
 {
     for bar in bars {
-        put_number(out, sheet, place, base, bar)?;
+        put_number(out, sheet, place, base, bar);
     }
-    Ok(())
 }
 
 // ---- marks
@@ -193,81 +171,64 @@ fn mark_word(sign: Sign) -> &'static [u8]
     }
 }
 
-fn put_mark_place(out: &mut Vec<u8>, sheet: &Sheet, place: u64, mark: &Mark) -> Result<(), NoMemory>
+fn put_mark_place(out: &mut Draft, sheet: &Sheet, place: u64, mark: &Mark)
     requires sheet { IsSheet sheet.now }
     requires place { place ≤ 2 ^ 32 }
     requires time { mark.now.time ≤ sheet.now.window.to }
-    ensures { OnOk result (out.new.items
-        ≡ out.old.items ++ pieces.mark_place sheet.now place mark.now) }
+    ensures { Adds out.old out.new (pieces.mark_place sheet.now place mark.now) }
 {
-    put_with(out, b"\" d=\"M", sheet.pixel_of(mark.time))?;
-    put_with(out, b" ", 40 + (sheet.row_top(place) + mark_top(mark.sign)))?;
-    put(out, mark_path(mark.sign))
+    put_with(out, b"\" d=\"M", sheet.pixel_of(mark.time));
+    put_with(out, b" ", 40 + (sheet.row_top(place) + mark_top(mark.sign)));
+    out.put(mark_path(mark.sign));
 }
 
-fn put_mark_shape(out: &mut Vec<u8>, sheet: &Sheet, place: u64, mark: &Mark) -> Result<(), NoMemory>
+fn put_mark_shape(out: &mut Draft, sheet: &Sheet, place: u64, mark: &Mark)
     requires sheet { IsSheet sheet.now }
     requires place { place ≤ 2 ^ 32 }
     requires time { mark.now.time ≤ sheet.now.window.to }
-    ensures { OnOk result (out.new.items
-        ≡ out.old.items ++ pieces.mark_shape sheet.now place mark.now) }
+    ensures { Adds out.old out.new (pieces.mark_shape sheet.now place mark.now) }
 {
-    put(out, b"<path class=\"")?;
-    put(out, mark_class(mark.sign))?;
-    put_mark_place(out, sheet, place, mark)
+    out.put(b"<path class=\"");
+    out.put(mark_class(mark.sign));
+    put_mark_place(out, sheet, place, mark);
 }
 
-fn put_mark_said(out: &mut Vec<u8>, mark: &Mark) -> Result<(), NoMemory>
-    ensures { OnOk result (out.new.items ≡ out.old.items ++ pieces.mark_said mark.now) }
+fn put_mark_said(out: &mut Draft, mark: &Mark)
+    ensures { Adds out.old out.new (pieces.mark_said mark.now) }
 {
-    put(out, mark_word(mark.sign))?;
-    put_seconds(out, mark.time)?;
-    put(out, b" s")
+    out.put(mark_word(mark.sign));
+    put_seconds(out, mark.time);
+    out.put(b" s");
 }
 
-fn put_mark_title(out: &mut Vec<u8>, name: &[u8], mark: &Mark) -> Result<(), NoMemory>
-    ensures { OnOk result (out.new.items
-        ≡ out.old.items ++ pieces.mark_title name.now mark.now) }
+fn put_mark_title(out: &mut Draft, name: &[u8], mark: &Mark)
+    ensures { Adds out.old out.new (pieces.mark_title name.now mark.now) }
 {
-    put_title(out, name)?;
-    put_mark_said(out, mark)?;
-    put(out, b"</title></path>\n")
+    put_title(out, name);
+    put_mark_said(out, mark);
+    out.put(b"</title></path>\n");
 }
 
-fn put_mark(
-    out: &mut Vec<u8>,
-    sheet: &Sheet,
-    place: u64,
-    name: &[u8],
-    mark: &Mark,
-) -> Result<(), NoMemory>
+fn put_mark(out: &mut Draft, sheet: &Sheet, place: u64, name: &[u8], mark: &Mark)
     requires sheet { IsSheet sheet.now }
     requires place { place ≤ 2 ^ 32 }
     requires time { mark.now.time ≤ sheet.now.window.to }
-    ensures { OnOk result (out.new.items
-        ≡ out.old.items ++ pieces.mark_line sheet.now place name.now mark.now) }
+    ensures { Adds out.old out.new (pieces.mark_line sheet.now place name.now mark.now) }
 {
-    put_mark_shape(out, sheet, place, mark)?;
-    put_mark_title(out, name, mark)
+    put_mark_shape(out, sheet, place, mark);
+    put_mark_title(out, name, mark);
 }
 
-fn put_marks(
-    out: &mut Vec<u8>,
-    sheet: &Sheet,
-    place: u64,
-    name: &[u8],
-    marks: &[Mark],
-) -> Result<(), NoMemory>
+fn put_marks(out: &mut Draft, sheet: &Sheet, place: u64, name: &[u8], marks: &[Mark])
     requires sheet { IsSheet sheet.now }
     requires place { place ≤ 2 ^ 32 }
     requires times { All (λ m. m.time ≤ sheet.now.window.to) marks.now }
-    ensures { OnOk result (out.new.items
-        ≡ out.old.items ++ flat_map (pieces.mark_line sheet.now place name.now) marks.now) }
+    ensures { Adds out.old out.new
+        (flat_map (pieces.mark_line sheet.now place name.now) marks.now) }
 {
     for mark in marks {
-        put_mark(out, sheet, place, name, mark)?;
+        put_mark(out, sheet, place, name, mark);
     }
-    Ok(())
 }
 
 fn has_marks(sheet: &Sheet, row: &ChartRow<'_>) -> bool
@@ -277,40 +238,28 @@ fn has_marks(sheet: &Sheet, row: &ChartRow<'_>) -> bool
     sheet.is_tall() && drawn.marks.len() <= 170
 }
 
-fn put_mark_lines(
-    out: &mut Vec<u8>,
-    sheet: &Sheet,
-    place: u64,
-    row: &ChartRow<'_>,
-) -> Result<(), NoMemory>
+fn put_mark_lines(out: &mut Draft, sheet: &Sheet, place: u64, row: &ChartRow<'_>)
     requires sheet { IsSheet sheet.now }
     requires place { place ≤ 2 ^ 32 }
     requires times { All (λ m. m.time ≤ sheet.now.window.to) row.now.row.now.marks }
-    ensures { OnOk result (out.new.items
-        ≡ out.old.items ++ pieces.mark_lines sheet.now place (view_of row.now)) }
+    ensures { Adds out.old out.new (pieces.mark_lines sheet.now place (view_of row.now)) }
 {
     if has_marks(sheet, row) {
         let drawn = row.row;
-        return put_marks(out, sheet, place, row.name, &drawn.marks);
+        put_marks(out, sheet, place, row.name, &drawn.marks);
+        return;
     }
-    Ok(())
 }
 
 /// What stands of a row over the plot.
-pub(crate) fn put_over_lines(
-    out: &mut Vec<u8>,
-    sheet: &Sheet,
-    place: u64,
-    row: &ChartRow<'_>,
-) -> Result<(), NoMemory>
+pub(crate) fn put_over_lines(out: &mut Draft, sheet: &Sheet, place: u64, row: &ChartRow<'_>)
     requires sheet { IsSheet sheet.now }
     requires place { place ≤ 2 ^ 32 }
     requires starts { All (λ b. b.start < sheet.now.window.to) row.now.row.now.bars }
     requires times { All (λ m. m.time ≤ sheet.now.window.to) row.now.row.now.marks }
-    ensures { OnOk result (out.new.items
-        ≡ out.old.items ++ pieces.over_lines sheet.now place (view_of row.now)) }
+    ensures { Adds out.old out.new (pieces.over_lines sheet.now place (view_of row.now)) }
 {
     let drawn = row.row;
-    put_numbers(out, sheet, place, row.base, &drawn.bars)?;
-    put_mark_lines(out, sheet, place, row)
+    put_numbers(out, sheet, place, row.base, &drawn.bars);
+    put_mark_lines(out, sheet, place, row);
 }

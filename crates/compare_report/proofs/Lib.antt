@@ -3,4 +3,3 @@ mod OneMore
 mod Lengths
 mod Reports
 mod Answering
-mod Texts

@@ -12,7 +12,7 @@ use crate::findings::findings_of;
 use crate::options::{CompareOptions, noise_asked, shift_asked};
 use crate::row::Span;
 use crate::text::text_of;
-use compare_table::NoMemory;
+use draft::NoMemory;
 use std::alloc::Global;
 use trace_compare::{
     Compared, Names, Step, TaskRuns, compare, first_start_of, last_end_of, runs_of_tasks,

@@ -1,18 +1,20 @@
 //! The text of a report.
 
-ghost use Rattle.std.specs.Prelude.{◌≡◌, ◌++◌, IfOk, OnOk, map, sum_by};
+ghost use Rattle.std.specs.Prelude.{◌≡◌, IfOk, sum_by};
 ghost use Rattle.std.specs.Option.{option_map};
 ghost use Rattle.std.specs.List.{flat_map};
 ghost use Rattle.compare_table.specs.Table.{row_line};
+ghost use Rattle.draft.specs.Draft.{Adds};
 ghost use Rattle.compare_report.specs.First.{IsFirst};
 ghost use Rattle.compare_report.specs.Text.{shift_told, cpus_told, differences_told, told, other_told, missing_starts, other_starts, missing_at, other_at, IsTextOf};
 
 use crate::finding::{Finding, Missing};
 use crate::first::earliest;
 use compare_table::{
-    NoMemory, Place, Shift, put_cpus, put_header, put_missing, put_no_difference, put_other,
-    put_row, put_shift,
+    Place, Shift, put_cpus, put_header, put_missing, put_no_difference, put_other, put_row,
+    put_shift,
 };
+use draft::{Draft, NoMemory};
 use std::alloc::{AllocError, Global};
 use trace_compare::NO_SHIFT;
 
@@ -27,14 +29,12 @@ fn shift_of(shift: u64) -> Shift
 }
 
 /// Puts the rows of tasks behind a text.
-fn put_rows(out: &mut Vec<u8>, findings: &[Finding<'_>]) -> Result<(), NoMemory>
-    ensures { OnOk result (out.new.items ≡ out.old.items
-        ++ flat_map (λ f. row_line f.row) findings.now) }
+fn put_rows(out: &mut Draft, findings: &[Finding<'_>])
+    ensures { Adds out.old out.new (flat_map (λ f. row_line f.row) findings.now) }
 {
     for finding in findings {
-        put_row(out, &finding.row)?;
+        put_row(out, &finding.row);
     }
-    Ok(())
 }
 
 /// How many matched runs of all tasks were on the same CPU.
@@ -60,34 +60,26 @@ fn matched_in(findings: &[Finding<'_>]) -> u128
 }
 
 /// Puts the line on CPUs behind a text, where it is asked for.
-fn put_asked_cpus(out: &mut Vec<u8>, cpus: bool, findings: &[Finding<'_>]) -> Result<(), NoMemory>
-    ensures { OnOk result (out.new.items ≡ out.old.items ++ cpus_told cpus findings.now) }
+fn put_asked_cpus(out: &mut Draft, cpus: bool, findings: &[Finding<'_>])
+    ensures { Adds out.old out.new (cpus_told cpus findings.now) }
 {
     if cpus {
-        put_cpus(out, same_of(findings), matched_in(findings))
-    } else {
-        Ok(())
+        put_cpus(out, same_of(findings), matched_in(findings));
     }
 }
 
 /// Puts the line of a recorded run behind a text, if there is one.
-fn put_some_other(out: &mut Vec<u8>, other: Option<Place<'_>>) -> Result<(), NoMemory>
-    ensures { OnOk result (out.new.items ≡ out.old.items ++ other_told other.entry) }
+fn put_some_other(out: &mut Draft, other: Option<Place<'_>>)
+    ensures { Adds out.old out.new (other_told other.entry) }
 {
-    match other {
-        None => Ok(()),
-        Some(place) => put_other(out, &place),
+    if let Some(place) = other {
+        put_other(out, &place);
     }
 }
 
 /// Puts the lines of the first differences behind a text.
-fn put_differences(
-    out: &mut Vec<u8>,
-    missing: Option<Missing<'_>>,
-    other: Option<Place<'_>>,
-) -> Result<(), NoMemory>
-    ensures { OnOk result (out.new.items ≡ out.old.items
-        ++ differences_told missing.entry other.entry) }
+fn put_differences(out: &mut Draft, missing: Option<Missing<'_>>, other: Option<Place<'_>>)
+    ensures { Adds out.old out.new (differences_told missing.entry other.entry) }
 {
     match missing {
         None => match other {
@@ -95,8 +87,8 @@ fn put_differences(
             Some(place) => put_other(out, &place),
         },
         Some(found) => {
-            put_missing(out, &found.place, found.nearest)?;
-            put_some_other(out, other)
+            put_missing(out, &found.place, found.nearest);
+            put_some_other(out, other);
         }
     }
 }
@@ -167,21 +159,20 @@ fn other_of<'a>(findings: &[Finding<'a>], task: Option<usize>) -> Option<Place<'
 
 /// Puts the whole text behind another.
 fn put_all(
-    out: &mut Vec<u8>,
+    out: &mut Draft,
     cpus: bool,
     shift: u64,
     findings: &[Finding<'_>],
     missing: Option<Missing<'_>>,
     other: Option<Place<'_>>,
-) -> Result<(), NoMemory>
-    ensures { OnOk result (out.new.items ≡ out.old.items
-        ++ told cpus shift findings.now missing.entry other.entry) }
+)
+    ensures { Adds out.old out.new (told cpus shift findings.now missing.entry other.entry) }
 {
-    put_shift(out, shift_of(shift))?;
-    put_header(out)?;
-    put_rows(out, findings)?;
-    put_asked_cpus(out, cpus, findings)?;
-    put_differences(out, missing, other)
+    put_shift(out, shift_of(shift));
+    put_header(out);
+    put_rows(out, findings);
+    put_asked_cpus(out, cpus, findings);
+    put_differences(out, missing, other);
 }
 
 /// The text of findings.
@@ -195,7 +186,7 @@ pub(crate) fn text_of(
 {
     let missing = first_missing(alloc, findings)?;
     let other = first_other(alloc, findings)?;
-    let mut out = Vec::new(alloc);
+    let mut out = Draft::new(alloc);
     put_all(
         &mut out,
         cpus,
@@ -203,6 +194,6 @@ pub(crate) fn text_of(
         findings,
         missing_of(findings, missing),
         other_of(findings, other),
-    )?;
-    Ok(out)
+    );
+    out.into_text()
 }

@@ -1,77 +1,65 @@
 //! The lines of the first differences.
 
-ghost use Rattle.std.specs.Prelude.{◌≡◌, ◌++◌, OnOk};
 ghost use Rattle.compare_table.specs.Table.{missing_line, nearest_text, no_difference, other_line, place_text, stretch_text};
+ghost use Rattle.draft.specs.Draft.{Adds};
 
 use crate::row::{Place, Stretch};
-use crate::text::{put, put_decimal, put_seconds};
-use no_memory::NoMemory;
+use crate::text::put_seconds;
+use draft::Draft;
 
-fn put_stretch(out: &mut Vec<u8>, stretch: Stretch) -> Result<(), NoMemory>
-    ensures { OnOk result (out.new.items ≡ out.old.items ++ stretch_text stretch) }
+fn put_stretch(out: &mut Draft, stretch: Stretch)
+    ensures { Adds out.old out.new (stretch_text stretch) }
 {
-    put_seconds(out, stretch.start)?;
-    put(out, b" to ")?;
-    put_seconds(out, stretch.end)?;
-    put(out, b" s")
+    put_seconds(out, stretch.start);
+    out.put(b" to ");
+    put_seconds(out, stretch.end);
+    out.put(b" s");
 }
 
-fn put_place(out: &mut Vec<u8>, place: &Place<'_>) -> Result<(), NoMemory>
-    ensures { OnOk result (out.new.items ≡ out.old.items ++ place_text place.now) }
+fn put_place(out: &mut Draft, place: &Place<'_>)
+    ensures { Adds out.old out.new (place_text place.now) }
 {
-    put_decimal(out, place.number)?;
-    put(out, b" of ")?;
-    put(out, place.name)?;
-    put(out, b", ")?;
-    put_stretch(out, place.run)
+    out.put_decimal(place.number);
+    out.put(b" of ");
+    out.put(place.name);
+    out.put(b", ");
+    put_stretch(out, place.run);
 }
 
-fn put_nearest(out: &mut Vec<u8>, nearest: Option<Stretch>) -> Result<(), NoMemory>
-    ensures { OnOk result (out.new.items ≡ out.old.items ++ nearest_text nearest) }
+fn put_nearest(out: &mut Draft, nearest: Option<Stretch>)
+    ensures { Adds out.old out.new (nearest_text nearest) }
 {
     let Some(nearest) = nearest else {
-        return put(out, b", and nothing was recorded of this task\n");
+        out.put(b", and nothing was recorded of this task\n");
+        return;
     };
-    put(out, b", nearest recorded ")?;
-    put_stretch(out, nearest)?;
-    put(out, b"\n")
+    out.put(b", nearest recorded ");
+    put_stretch(out, nearest);
+    out.put(b"\n");
 }
 
 /// Puts the line of the first run of the model that nothing recorded matches behind a text, with
 /// the recorded run that is nearest, if the task has any.
-///
-/// # Errors
-/// 12 [`NoMemory`]: a growth was refused; a part of the line may stand behind the text.
-pub fn put_missing(
-    out: &mut Vec<u8>,
-    place: &Place<'_>,
-    nearest: Option<Stretch>,
-) -> Result<(), NoMemory>
-    ensures { OnOk result (out.new.items ≡ out.old.items ++ missing_line place.now nearest) }
+pub fn put_missing(out: &mut Draft, place: &Place<'_>, nearest: Option<Stretch>)
+    ensures { Adds out.old out.new (missing_line place.now nearest) }
 {
-    put(out, b"first difference: model run ")?;
-    put_place(out, place)?;
-    put_nearest(out, nearest)
+    out.put(b"first difference: model run ");
+    put_place(out, place);
+    put_nearest(out, nearest);
 }
 
 /// Puts the line of the first recorded run that matches none of the model behind a text.
-///
-/// # Errors
-/// 12 [`NoMemory`]: a growth was refused; a part of the line may stand behind the text.
-pub fn put_other(out: &mut Vec<u8>, place: &Place<'_>) -> Result<(), NoMemory>
-    ensures { OnOk result (out.new.items ≡ out.old.items ++ other_line place.now) }
+pub fn put_other(out: &mut Draft, place: &Place<'_>)
+    ensures { Adds out.old out.new (other_line place.now) }
 {
-    put(out, b"first difference: recorded run ")?;
-    put_place(out, place)?;
-    put(out, b"\n")
+    out.put(b"first difference: recorded run ");
+    put_place(out, place);
+    out.put(b"\n");
 }
 
 /// Puts the line that there is no difference behind a text.
-///
-/// # Errors
-/// 12 [`NoMemory`]: a growth was refused; a part of the line may stand behind the text.
-pub fn put_no_difference(out: &mut Vec<u8>) -> Result<(), NoMemory>
-    ensures { OnOk result (out.new.items ≡ out.old.items ++ no_difference) }
+pub fn put_no_difference(out: &mut Draft)
+    ensures { Adds out.old out.new no_difference }
 {
-    put(out, b"first difference: none\n")
+    out.put(b"first difference: none\n");
 }

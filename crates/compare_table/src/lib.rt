@@ -12,7 +12,6 @@ mod text;
 mod writing;
 
 pub use differing::{put_missing, put_no_difference, put_other};
-pub use no_memory::NoMemory;
 pub use quantiles::spread;
 pub use row::{Place, Row, Shift, Spread, Stretch};
 pub use writing::{put_cpus, put_header, put_row, put_shift};

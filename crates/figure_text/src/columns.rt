@@ -1,100 +1,83 @@
 //! Columns put behind what stands before.
 
-ghost use Rattle.std.specs.Prelude.{◌≡◌, ◌<◌, ◌≤◌, ◌^◌, ◌++◌, codes, decimal, replicate, OnOk};
+ghost use Rattle.std.specs.Prelude.{◌≡◌, ◌<◌, ◌≤◌, ◌^◌, codes, decimal};
 ghost use Rattle.std.specs.Fmt.{signed_decimal};
 ghost use Rattle.figure_text.specs.Columns as columns;
 ghost use Rattle.run_figures.specs.Lines.{digits_in};
+ghost use Rattle.draft.specs.Draft.{Adds};
 
-use domain_run::NoMemory;
+use draft::Draft;
 use itoa::Buffer;
 
-pub(crate) fn put(out: &mut Vec<u8>, text: &[u8]) -> Result<(), NoMemory>
-    ensures { OnOk result (out.new.items ≡ out.old.items ++ text.now) }
-{
-    out.extend_from_slice(text)?;
-    Ok(())
-}
-
-/// The same byte so many times.
-fn put_fill(out: &mut Vec<u8>, byte: u8, count: usize) -> Result<(), NoMemory>
-    requires { count ≤ 15 }
-    ensures { OnOk result (out.new.items ≡ out.old.items ++ replicate count byte) }
-{
-    let len = out.len();
-    out.resize(len + count, byte)?;
-    Ok(())
-}
-
 /// A text at the right of a column.
-pub(crate) fn put_right(out: &mut Vec<u8>, width: usize, text: &[u8]) -> Result<(), NoMemory>
+pub(crate) fn put_right(out: &mut Draft, width: usize, text: &[u8])
     requires { width ≤ 15 }
-    ensures { OnOk result (out.new.items ≡ out.old.items ++ columns.right width text.now) }
+    ensures { Adds out.old out.new (columns.right width text.now) }
 {
-    put_fill(out, b' ', width.saturating_sub(text.len()))?;
-    put(out, text)
+    out.fill(b' ', width.saturating_sub(text.len()));
+    out.put(text);
 }
 
 /// A space, and a text at the right of a column.
-pub(crate) fn put_column(out: &mut Vec<u8>, width: usize, text: &[u8]) -> Result<(), NoMemory>
+pub(crate) fn put_column(out: &mut Draft, width: usize, text: &[u8])
     requires { width ≤ 15 }
-    ensures { OnOk result (out.new.items ≡ out.old.items ++ columns.column width text.now) }
+    ensures { Adds out.old out.new (columns.column width text.now) }
 {
-    put(out, b" ")?;
-    put_right(out, width, text)
+    out.put(b" ");
+    put_right(out, width, text);
 }
 
 /// A space, and a number at the right of a column.
-pub(crate) fn put_number(out: &mut Vec<u8>, width: usize, n: u64) -> Result<(), NoMemory>
+pub(crate) fn put_number(out: &mut Draft, width: usize, n: u64)
     requires { width ≤ 15 }
-    ensures { OnOk result (out.new.items ≡ out.old.items ++ columns.column width (decimal n)) }
+    ensures { Adds out.old out.new (columns.column width (decimal n)) }
 {
     let mut buffer = Buffer::new();
-    put_column(out, width, buffer.format(n).as_bytes())
+    put_column(out, width, buffer.format(n).as_bytes());
 }
 
 /// The same of a number that may be greater.
-pub(crate) fn put_wide(out: &mut Vec<u8>, width: usize, n: u128) -> Result<(), NoMemory>
+pub(crate) fn put_wide(out: &mut Draft, width: usize, n: u128)
     requires { width ≤ 15 }
-    ensures { OnOk result (out.new.items ≡ out.old.items ++ columns.column width (decimal n)) }
+    ensures { Adds out.old out.new (columns.column width (decimal n)) }
 {
     let mut buffer = Buffer::new();
-    put_column(out, width, buffer.format(n).as_bytes())
+    put_column(out, width, buffer.format(n).as_bytes());
 }
 
 /// The same of a number that may be below 0.
-pub(crate) fn put_signed(out: &mut Vec<u8>, width: usize, n: i128) -> Result<(), NoMemory>
+pub(crate) fn put_signed(out: &mut Draft, width: usize, n: i128)
     requires { width ≤ 15 }
-    ensures { OnOk result (out.new.items ≡ out.old.items
-        ++ columns.column width (signed_decimal n)) }
+    ensures { Adds out.old out.new (columns.column width (signed_decimal n)) }
 {
     let mut buffer = Buffer::new();
-    put_column(out, width, buffer.format(n).as_bytes())
+    put_column(out, width, buffer.format(n).as_bytes());
 }
 
 /// A space, and a dash at the right of a column.
-pub(crate) fn put_dash(out: &mut Vec<u8>, width: usize) -> Result<(), NoMemory>
+pub(crate) fn put_dash(out: &mut Draft, width: usize)
     requires { width ≤ 15 }
-    ensures { OnOk result (out.new.items ≡ out.old.items ++ columns.column width (codes "-")) }
+    ensures { Adds out.old out.new (columns.column width (codes "-")) }
 {
-    put_column(out, width, b"-")
+    put_column(out, width, b"-");
 }
 
 /// The number that is shown for a task.
-pub(crate) fn put_pid(out: &mut Vec<u8>, number: u32) -> Result<(), NoMemory>
-    ensures { OnOk result (out.new.items ≡ out.old.items ++ columns.column 6 (columns.pid number)) }
+pub(crate) fn put_pid(out: &mut Draft, number: u32)
+    ensures { Adds out.old out.new (columns.column 6 (columns.pid number)) }
 {
-    put_number(out, 6, 1000 + u64::from(number))
+    put_number(out, 6, 1000 + u64::from(number));
 }
 
 /// A number in at least so many digits.
-pub(crate) fn put_digits(out: &mut Vec<u8>, width: usize, n: u64) -> Result<(), NoMemory>
+pub(crate) fn put_digits(out: &mut Draft, width: usize, n: u64)
     requires { width ≤ 15 }
-    ensures { OnOk result (out.new.items ≡ out.old.items ++ digits_in width n) }
+    ensures { Adds out.old out.new (digits_in width n) }
 {
     let mut buffer = Buffer::new();
     let digits = buffer.format(n).as_bytes();
-    put_fill(out, b'0', width.saturating_sub(digits.len()))?;
-    put(out, digits)
+    out.fill(b'0', width.saturating_sub(digits.len()));
+    out.put(digits);
 }
 
 /// A part of a whole, in hundredths of a per cent.
@@ -109,18 +92,18 @@ fn hundredths(part: u128, whole: u64) -> u128
 }
 
 /// Hundredths of a per cent in a column of seven.
-fn put_per_cent(out: &mut Vec<u8>, n: u128) -> Result<(), NoMemory>
-    ensures { OnOk result (out.new.items ≡ out.old.items ++ columns.per_cent n) }
+fn put_per_cent(out: &mut Draft, n: u128)
+    ensures { Adds out.old out.new (columns.per_cent n) }
 {
-    put_wide(out, 4, n / 100)?;
-    put(out, b".")?;
-    put_digits(out, 2, (n % 100) as u64)
+    put_wide(out, 4, n / 100);
+    out.put(b".");
+    put_digits(out, 2, (n % 100) as u64);
 }
 
 /// A part of a whole in a column of seven.
-pub(crate) fn put_share(out: &mut Vec<u8>, part: u128, whole: u64) -> Result<(), NoMemory>
+pub(crate) fn put_share(out: &mut Draft, part: u128, whole: u64)
     requires { part < 2 ^ 108 }
-    ensures { OnOk result (out.new.items ≡ out.old.items ++ columns.share part whole) }
+    ensures { Adds out.old out.new (columns.share part whole) }
 {
-    put_per_cent(out, hundredths(part, whole))
+    put_per_cent(out, hundredths(part, whole));
 }

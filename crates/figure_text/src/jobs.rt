@@ -1,12 +1,13 @@
 //! The text of jobs.
 
-ghost use Rattle.std.specs.Prelude.{◌≡◌, ◌++◌, OnOk, map};
+ghost use Rattle.std.specs.Prelude.{map};
 ghost use Rattle.run_figures.specs.Lines.{numbered};
+ghost use Rattle.draft.specs.Draft.{Adds};
 ghost use Rattle.figure_text.specs.Jobs as texts;
 
-use crate::columns::{put, put_dash, put_number, put_pid, put_right, put_signed};
+use crate::columns::{put_dash, put_number, put_pid, put_right, put_signed};
 use crate::names::name_of;
-use domain_run::NoMemory;
+use draft::Draft;
 use indexmap::IndexMap;
 use run_figures::{Job, TaskJobs};
 
@@ -20,65 +21,53 @@ pub struct DomainJobs<'a> {
 }
 
 /// The columns of its end.
-fn put_end(out: &mut Vec<u8>, job: &Job) -> Result<(), NoMemory>
-    ensures { OnOk result (out.new.items ≡ out.old.items
-        ++ texts.end_columns job.now job.now.ended) }
+fn put_end(out: &mut Draft, job: &Job)
+    ensures { Adds out.old out.new (texts.end_columns job.now job.now.ended) }
 {
     match job.ended {
         None => {
-            put_dash(out, 11)?;
-            put_dash(out, 11)?;
-            put_dash(out, 11)
+            put_dash(out, 11);
+            put_dash(out, 11);
+            put_dash(out, 11);
         }
         Some(end) => {
-            put_number(out, 11, end)?;
-            put_number(out, 11, end.saturating_sub(job.release))?;
-            put_signed(out, 11, i128::from(job.deadline) - i128::from(end))
+            put_number(out, 11, end);
+            put_number(out, 11, end.saturating_sub(job.release));
+            put_signed(out, 11, i128::from(job.deadline) - i128::from(end));
         }
     }
 }
 
 /// The columns of whose job it is, and which of its jobs.
-fn put_name(out: &mut Vec<u8>, name: &[u8], number: u32, place: usize) -> Result<(), NoMemory>
-    ensures { OnOk result (out.new.items
-        ≡ out.old.items ++ texts.job_name name.now number place) }
+fn put_name(out: &mut Draft, name: &[u8], number: u32, place: usize)
+    ensures { Adds out.old out.new (texts.job_name name.now number place) }
 {
-    put_right(out, 15, name)?;
-    put_pid(out, number)?;
-    put_number(out, 6, place as u64)
+    put_right(out, 15, name);
+    put_pid(out, number);
+    put_number(out, 6, place as u64);
 }
 
-fn put_job(
-    out: &mut Vec<u8>,
-    name: &[u8],
-    number: u32,
-    place: usize,
-    job: &Job,
-) -> Result<(), NoMemory>
-    ensures { OnOk result (out.new.items
-        ≡ out.old.items ++ texts.job_line name.now number place job.now) }
+fn put_job(out: &mut Draft, name: &[u8], number: u32, place: usize, job: &Job)
+    ensures { Adds out.old out.new (texts.job_line name.now number place job.now) }
 {
-    put_name(out, name, number, place)?;
-    put_number(out, 11, job.release)?;
-    put_end(out, job)?;
-    put_number(out, 9, job.throttled)?;
-    put(out, b"\n")
+    put_name(out, name, number, place);
+    put_number(out, 11, job.release);
+    put_end(out, job);
+    put_number(out, 9, job.throttled);
+    out.put(b"\n");
 }
 
 /// The lines of a task's jobs.
-fn put_task(out: &mut Vec<u8>, name: &[u8], number: u32, jobs: &[Job]) -> Result<(), NoMemory>
-    ensures { OnOk result (out.new.items
-        ≡ out.old.items ++ numbered (texts.job_line name.now number) 0 jobs.now) }
+fn put_task(out: &mut Draft, name: &[u8], number: u32, jobs: &[Job])
+    ensures { Adds out.old out.new (numbered (texts.job_line name.now number) 0 jobs.now) }
 {
     for (place, job) in jobs.iter().enumerate() {
-        put_job(out, name, number, place, job)?;
+        put_job(out, name, number, place, job);
     }
-    Ok(())
 }
 
-fn put_domain(out: &mut Vec<u8>, domain: &DomainJobs<'_>) -> Result<(), NoMemory>
-    ensures { OnOk result (out.new.items
-        ≡ out.old.items ++ texts.domain_lines (texts.view_of domain.now)) }
+fn put_domain(out: &mut Draft, domain: &DomainJobs<'_>)
+    ensures { Adds out.old out.new (texts.domain_lines (texts.view_of domain.now)) }
 {
     for task in domain.tasks {
         put_task(
@@ -86,26 +75,19 @@ fn put_domain(out: &mut Vec<u8>, domain: &DomainJobs<'_>) -> Result<(), NoMemory
             name_of(domain.names, task.number),
             task.number,
             &task.jobs,
-        )?;
+        );
     }
-    Ok(())
 }
 
 /// Puts the jobs of all domains behind a text: a header, and a line for each job, by domain, by
 /// task, and in their order.
-///
-/// # Errors
-/// 12 [`NoMemory`]: a growth was refused; a part of the text may stand behind what stood before.
-pub fn put_jobs(out: &mut Vec<u8>, domains: &[DomainJobs<'_>]) -> Result<(), NoMemory>
-    ensures { OnOk result (out.new.items
-        ≡ out.old.items ++ texts.jobs_text (map texts.view_of domains.now)) }
+pub fn put_jobs(out: &mut Draft, domains: &[DomainJobs<'_>])
+    ensures { Adds out.old out.new (texts.jobs_text (map texts.view_of domains.now)) }
 {
-    put(
-        out,
+    out.put(
         b"#          task    pid    job     release         end    response       slack throttled\n",
-    )?;
+    );
     for domain in domains {
-        put_domain(out, domain)?;
+        put_domain(out, domain);
     }
-    Ok(())
 }

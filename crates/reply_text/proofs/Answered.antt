@@ -35,12 +35,11 @@ recorded_is d (e ∷ entries) legal =
     ap (λ (r : Option Reply). line_with e r ++ recorded_lines entries) first
     ∙ ap (λ (ls : List ℕ). (answered_line e (reply_to d e.call) ++ codes "\n") ++ ls) (recorded_is (after_call d e.call) entries others)
 
--- a section's first line, and those of its calls
-pub headed : (s : SectionView) (out line all lines : List ℕ) → line ≡ (out ++ domain_line s) ++ codes "\n" → lines ≡ text_of (answered_lines (opened s.cpus s.limit) s.entries) → all ≡ line ++ lines → all ≡ out ++ text_of (section_replies s)
-headed s out line all lines first others whole =
-    whole ∙ ap (λ (x : List ℕ). x ++ lines) (first ∙ append_assoc out (domain_line s) (codes "\n"))
-    ∙ ap (λ (x : List ℕ). (out ++ (domain_line s ++ codes "\n")) ++ x) others
-    ∙ append_assoc out (domain_line s ++ codes "\n") (text_of (answered_lines (opened s.cpus s.limit) s.entries))
+-- a section's first line, a line break, and the lines of its calls
+pub headed : (s : SectionView) (lines : List ℕ) → lines ≡ text_of (answered_lines (opened s.cpus s.limit) s.entries) → domain_line s ++ (codes "\n" ++ lines) ≡ text_of (section_replies s)
+headed s lines others =
+    sym (append_assoc (domain_line s) (codes "\n") lines)
+    ∙ ap (λ (x : List ℕ). (domain_line s ++ codes "\n") ++ x) others
 
 abbrev line_break : List ℕ → List ℕ
 line_break line = line ++ codes "\n"
@@ -60,14 +59,8 @@ history_more s sections out more was put =
     ∙ sym (flat_map-append line_break (flat_map section_replies sections) (section_replies s))
     ∙ sym (ap text_of (flat_map-append section_replies sections (s ∷ []) ∙ ap (λ (ls : List (List ℕ)). flat_map section_replies sections ++ ls) (append-nil (section_replies s))))
 
--- a section's lines, where its first line was put down, then a line break, and then those of its calls
-pub section_put : (s : SectionView) (d : Domain) (entries : List Entry) (out line begun : List ℕ) → line ≡ out ++ domain_line s → begun ≡ line ++ codes "\n" → d ≡ opened s.cpus s.limit
-    → entries ≡ s.entries → begun ++ text_of (answered_lines d entries) ≡ out ++ text_of (section_replies s)
-section_put s d entries out line begun first broken domain all =
-    let lines : List ℕ = text_of (answered_lines (opened s.cpus s.limit) s.entries) in
-    ap (λ (x : Domain). begun ++ text_of (answered_lines x entries)) domain
-    ∙ ap (λ (es : List Entry). begun ++ text_of (answered_lines (opened s.cpus s.limit) es)) all
-    ∙ ap (λ (x : List ℕ). x ++ lines) (broken ∙ ap (λ (x : List ℕ). x ++ codes "\n") first)
-    ∙ append_assoc (out ++ domain_line s) (codes "\n") lines
-    ∙ append_assoc out (domain_line s) (codes "\n" ++ lines)
-    ∙ sym (ap (λ (x : List ℕ). out ++ x) (append_assoc (domain_line s) (codes "\n") lines))
+-- the lines of a section's calls, on the domain and of the entries that are the section's
+pub lines_of : (s : SectionView) (d : Domain) (entries : List Entry) → d ≡ opened s.cpus s.limit → entries ≡ s.entries → text_of (answered_lines d entries) ≡ text_of (answered_lines (opened s.cpus s.limit) s.entries)
+lines_of s d entries domain all =
+    ap (λ (x : Domain). text_of (answered_lines x entries)) domain
+    ∙ ap (λ (es : List Entry). text_of (answered_lines (opened s.cpus s.limit) es)) all

@@ -1,43 +1,44 @@
 //! The replies that histories have.
 
-ghost use Rattle.std.specs.Prelude.{◌≡◌, ◌++◌, All, IfOk, OnOk, IsSome};
+ghost use Rattle.std.specs.Prelude.{◌≡◌, IfOk};
+ghost use Rattle.draft.specs.Draft.{Adds};
 ghost use Rattle.calls_text.specs.Histories.{AreLegal};
 ghost use Rattle.calls_text.specs.Histories.{IsLegal};
 ghost use Rattle.calls_text.specs.Spelling.{text_of};
 ghost use Rattle.reply_text.specs.Replies.{section_replies, replies_of};
 ghost use Rattle.reply_text.specs.private.Recorded.{recorded_line, recorded_lines};
 
-use crate::text::{put, put_answered};
+use crate::text::put_answered;
 use calls_text::{Entry, NoMemory, Section, put_domain};
+use draft::Draft;
 use std::alloc::Global;
 
 /// The line of an entry with the reply that it has.
-fn put_entry(out: &mut Vec<u8>, entry: &Entry) -> Result<(), NoMemory>
-    ensures { OnOk result (out.new.items ≡ out.old.items ++ recorded_line entry.now) }
+fn put_entry(out: &mut Draft, entry: &Entry)
+    ensures { Adds out.old out.new (recorded_line entry.now) }
 {
     match entry.reply {
         Some(reply) => put_answered(out, entry, reply),
-        None => Ok(()),
+        None => {}
     }
 }
 
-fn put_entries(out: &mut Vec<u8>, entries: &[Entry]) -> Result<(), NoMemory>
-    ensures { OnOk result (out.new.items ≡ out.old.items ++ recorded_lines entries.now) }
+fn put_entries(out: &mut Draft, entries: &[Entry])
+    ensures { Adds out.old out.new (recorded_lines entries.now) }
 {
     for entry in entries {
-        put_entry(out, entry)?;
+        put_entry(out, entry);
     }
-    Ok(())
 }
 
 /// The lines of a history.
-fn put_history(out: &mut Vec<u8>, history: &Section) -> Result<(), NoMemory>
+fn put_history(out: &mut Draft, history: &Section)
     requires legal { IsLegal history.now.cpus history.now.limit history.now.entries }
-    ensures { OnOk result (out.new.items ≡ out.old.items ++ text_of (section_replies history.now)) }
+    ensures { Adds out.old out.new (text_of (section_replies history.now)) }
 {
-    put_domain(out, history)?;
-    put(out, b"\n")?;
-    put_entries(out, &history.entries)
+    put_domain(out, history);
+    out.put(b"\n");
+    put_entries(out, &history.entries);
 }
 
 /// The lines of histories, each call's with the reply that it got. No call is made again.
@@ -48,9 +49,9 @@ pub fn write_recorded(alloc: Global, histories: &[Section]) -> Result<Vec<u8>, N
     requires legal { AreLegal histories.now }
     ensures { IfOk result (λ v. v.items ≡ replies_of histories.now) }
 {
-    let mut out = Vec::new(alloc);
+    let mut out = Draft::new(alloc);
     for history in histories {
-        put_history(&mut out, history)?;
+        put_history(&mut out, history);
     }
-    Ok(out)
+    out.into_text()
 }

@@ -1,38 +1,41 @@
 //! The replies of calls that are made.
 
 ghost use Rattle.std.specs.Prelude.{◌≡◌, ◌≤◌, ◌*◌, ◌+◌, ◌^◌, ◌++◌, All, IfOk, OnOk, length, codes};
+ghost use Rattle.draft.specs.Draft.{Adds};
 ghost use Rattle.calls_text.specs.Limits.{IsEntry, IsSection};
 ghost use Rattle.calls_text.specs.Spelling.{text_of};
 ghost use Rattle.domain_run.specs.Calls.{reply_to, after_call};
 ghost use Rattle.reply_text.specs.Replies.{answered_line, answered_lines, section_replies, replies_of};
 
 use crate::making::make;
-use crate::text::{put, put_answer, put_asked};
+use crate::text::{put_answer, put_asked};
 use calls_text::{Entry, NoMemory, Section, put_domain};
 use domain_run::State;
+use draft::Draft;
 use std::alloc::Global;
 use std::collections::VecDeque;
 
 /// Makes the call of an entry, and puts down its line.
-fn put_made(out: &mut Vec<u8>, state: &mut State, entry: Entry) -> Result<(), NoMemory>
+fn put_made(out: &mut Draft, state: &mut State, entry: Entry) -> Result<(), NoMemory>
     requires entry { IsEntry entry }
     requires early { state.old.time + 60000000 ≤ 2 ^ 42 }
-    ensures text { OnOk result (out.new.items
-        ≡ out.old.items ++ (answered_line entry (reply_to state.old entry.call) ++ codes "\n")) }
+    ensures text { OnOk result (Adds out.old out.new
+        (answered_line entry (reply_to state.old entry.call) ++ codes "\n")) }
     ensures state { OnOk result (state.new ≡ after_call state.old entry.call) }
     ensures time { OnOk result (state.new.time ≤ state.old.time + 60000000) }
 {
-    put_asked(out, &entry)?;
+    put_asked(out, &entry);
     let reply = make(state, entry.call)?;
-    put_answer(out, reply)
+    put_answer(out, reply);
+    Ok(())
 }
 
 /// Makes the calls of entries, and puts down their lines.
-fn put_all_made(out: &mut Vec<u8>, state: &mut State, entries: Vec<Entry>) -> Result<(), NoMemory>
+fn put_all_made(out: &mut Draft, state: &mut State, entries: Vec<Entry>) -> Result<(), NoMemory>
     requires entries { All IsEntry entries.items }
     requires early { state.old.time + length entries.items * 60000000 ≤ 2 ^ 42 }
-    ensures { OnOk result (out.new.items
-        ≡ out.old.items ++ text_of (answered_lines state.old entries.items)) }
+    ensures { OnOk result (Adds out.old out.new
+        (text_of (answered_lines state.old entries.items))) }
 {
     let mut left = VecDeque::from_vec(entries);
     while let Some(entry) = left.pop_front() {
@@ -42,12 +45,12 @@ fn put_all_made(out: &mut Vec<u8>, state: &mut State, entries: Vec<Entry>) -> Re
 }
 
 /// Makes the calls of a section on a domain of its own, and puts down its lines.
-fn put_section(alloc: Global, out: &mut Vec<u8>, section: Section) -> Result<(), NoMemory>
+fn put_section(alloc: Global, out: &mut Draft, section: Section) -> Result<(), NoMemory>
     requires section { IsSection section }
-    ensures { OnOk result (out.new.items ≡ out.old.items ++ text_of (section_replies section)) }
+    ensures { OnOk result (Adds out.old out.new (text_of (section_replies section))) }
 {
-    put_domain(out, &section)?;
-    put(out, b"\n")?;
+    put_domain(out, &section);
+    out.put(b"\n");
     let Section {
         cpus,
         limit,
@@ -69,10 +72,10 @@ pub fn write_replies(alloc: Global, sections: Vec<Section>) -> Result<Vec<u8>, N
     requires sections { All IsSection sections.items }
     ensures { IfOk result (λ v. v.items ≡ replies_of sections.items) }
 {
-    let mut out = Vec::new(alloc);
+    let mut out = Draft::new(alloc);
     let mut left = VecDeque::from_vec(sections);
     while let Some(section) = left.pop_front() {
         put_section(alloc, &mut out, section)?;
     }
-    Ok(out)
+    out.into_text()
 }

@@ -1,5 +1,6 @@
-use Rattle.std.proofs.Common.{◌≡◌, ℕ, List, ◌++◌, map, sym, ap, subst, ◌∙◌}
+use Rattle.std.proofs.Common.{◌≡◌, map, sym, ap, subst, ◌∙◌}
 use Rattle.std.specs.Prelude.{All, flat_map}
+use Rattle.draft.proofs.CallerLemmas.{finished, as_text}
 use Rattle.chart.specs.Rows as charts
 use Rattle.chart.specs.Chart as whole
 use Rattle.calls_trace.specs.declared.charting.DrawnRun.{DrawnRun}
@@ -16,6 +17,6 @@ returns c =
     let rows = map charts.view_of c.deref.result.now in
     let made = λ (d : DrawnRun). rows_in d.window (view_of d.placed.now) in
     let are : rows ≡ flat_map made c.args.drawn.now = ap (map charts.view_of) c.deref.ensures.value ∙ c.in_ok-rows.ensures.rows in
-    c.in_ok-put_chart.ensures
-    ∙ ap (λ (front : List ℕ). front ++ whole.chart_text w c.args.cpus rows) c.new-text.ensures.items
-    ∙ ap (whole.chart_text w c.args.cpus) are
+    finished (λ v. v.items) c.into_text.result c.new-text.result c.put_chart.new.out _ c.new-text.ensures.text
+    (as_text c.new-text.result c.put_chart.new.out _ _ (ap (whole.chart_text w c.args.cpus) are) c.put_chart.ensures)
+    c.into_text.ensures.text c.into_text.ensures.ok

@@ -1,5 +1,6 @@
-use Rattle.std.proofs.Common.{◌≡◌, ℕ, List, ◌++◌, map, sym, ap, subst, ◌∙◌}
+use Rattle.std.proofs.Common.{◌≡◌, map, sym, ap, subst, ◌∙◌}
 use Rattle.std.specs.Prelude.{All}
+use Rattle.draft.proofs.CallerLemmas.{finished, as_text}
 use Rattle.figure_text.specs.Summary as summaries
 use Rattle.calls_trace.specs.private.Counting.{counted_as}
 use Rattle.calls_trace.proofs.figures.figures_text.Goals as goal
@@ -10,6 +11,6 @@ put_summary-requires-clause-short c = subst (All summaries.IsShort) (sym c.deref
 pub returns : goal.returns
 returns c =
     let views : map summaries.view_of c.deref.result.now ≡ map counted_as c.args.counted.now = ap (map summaries.view_of) c.deref.ensures.value ∙ c.in_ok-domains.ensures.views in
-    c.in_ok-put_summary.ensures
-    ∙ ap (λ (front : List ℕ). front ++ summaries.summary_text (map summaries.view_of c.deref.result.now)) c.new-text.ensures.items
-    ∙ ap summaries.summary_text views
+    finished (λ v. v.items) c.into_text.result c.new-text.result c.put_summary.new.out _ c.new-text.ensures.text
+    (as_text c.new-text.result c.put_summary.new.out _ _ (ap summaries.summary_text views) c.put_summary.ensures)
+    c.into_text.ensures.text c.into_text.ensures.ok

@@ -6,15 +6,15 @@ use Rattle.chart.specs.Axis.{ticks_of}
 use Rattle.chart.specs.Sizes.{sheet_of}
 use Rattle.chart.specs.Rows.{view_of, IsDrawn}
 use Rattle.chart.specs.Chart.{chart_of}
-use Rattle.chart.proofs.Lines.{as_text}
+use Rattle.draft.proofs.CallerLemmas.{as_text}
 use Rattle.chart.proofs.chart.put_chart.Goals as goal
 
-pub returns : goal.returns
-returns c =
+pub returns-in-Ok : goal.returns-in-Ok
+returns-in-Ok c =
     let window = c.args.window in
     let rows = map view_of c.args.rows.now in
-    as_text c.put_chart_of.result _ _ _ _
-    (ap (λ (ticks : List ℕ). chart_of c.sheet_of-sheet.result ticks rows) (c.deref.ensures.value ∙ c.in_ok-ticks.ensures.ticks)
+    as_text c.args.out.now c.put_chart_of.new.out _ _
+    (ap (λ (ticks : List ℕ). chart_of c.sheet_of-sheet.result ticks rows) (c.deref.ensures.value ∙ c.in-Ok.ensures.ticks)
     ∙ ap (λ (s : Sheet). chart_of s (ticks_of window) rows) c.sheet_of-sheet.ensures.sheet
     ∙ ap (λ n. chart_of (sheet_of window c.args.cpus n) (ticks_of window) rows) (sym (length-map c.args.rows.now view_of)))
     c.put_chart_of.ensures

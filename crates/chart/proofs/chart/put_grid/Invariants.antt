@@ -1,7 +1,8 @@
 use Rattle.std.proofs.Common.{◌≡◌, ◌++◌, take}
 use Rattle.std.specs.Prelude.{flat_map}
 use Rattle.chart.specs.Chart.{grid_line}
+use Rattle.draft.specs.Draft.{Adds}
 use Rattle.chart.proofs.chart.put_grid.Given as goal
 
 abbrev pub invariant-loop-time : goal.invariant-loop-time
-invariant-loop-time l = l.out.items ≡ l.initial.out.items ++ flat_map (grid_line l.sheet) (take l.time-index l.ticks)
+invariant-loop-time l = Adds l.initial.out l.out (flat_map (grid_line l.sheet) (take l.time-index l.ticks))

@@ -1,11 +1,11 @@
 use Rattle.std.proofs.Common.{◌++◌, ap, ◌∙◌}
-use Rattle.chart.proofs.Lines.{joined4}
+use Rattle.draft.proofs.CallerLemmas.{joined4, as_text}
 use Rattle.chart.proofs.chart.put_head.Goals as goal
 
 pub returns : goal.returns
 returns c =
-    joined4 c.put_background.result c.args.out.now.items c.put_opening.new.out.items c.put_chart_title.new.out.items c.put.new.out.items c.put_background.new.out.items _ _ _ _
-    c.in_ok-put_opening.ensures
-    c.in_ok-put_chart_title.ensures
-    (c.in_ok-put.ensures ∙ ap (λ t. c.put_chart_title.new.out.items ++ t) c.style.ensures)
+    joined4 c.args.out.now c.put_opening.new.out c.put_chart_title.new.out c.put.new.self c.put_background.new.out _ _ _ _
+    c.put_opening.ensures
+    c.put_chart_title.ensures
+    (as_text c.put_chart_title.new.out c.put.new.self _ _ (ap (λ t. t) c.style.ensures) c.put.ensures)
     c.put_background.ensures

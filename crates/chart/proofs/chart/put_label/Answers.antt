@@ -1,12 +1,12 @@
 use Rattle.std.proofs.Common.{◌++◌, ap, ◌∙◌}
 use Rattle.chart.specs.Pieces.{text_at}
-use Rattle.chart.proofs.Lines.{joined4}
+use Rattle.draft.proofs.CallerLemmas.{joined4, as_text}
 use Rattle.chart.proofs.chart.put_label.Goals as goal
 
 pub returns : goal.returns
 returns c =
-    joined4 c.put-2.result c.args.out.now.items c.put_text_at.new.out.items c.put.new.out.items c.put_seconds.new.out.items c.put-2.new.out.items _ _ _ _
-    (c.in_ok-put_text_at.ensures ∙ ap (λ x. c.args.out.now.items ++ text_at x c.args.top) c.pixel_of.ensures)
-    c.in_ok-put.ensures
-    c.in_ok-put_seconds.ensures
+    joined4 c.args.out.now c.put_text_at.new.out c.put.new.self c.put_seconds.new.out c.put-2.new.self _ _ _ _
+    (as_text c.args.out.now c.put_text_at.new.out _ _ (ap (λ x. text_at x c.args.top) c.pixel_of.ensures) c.put_text_at.ensures)
+    c.put.ensures
+    c.put_seconds.ensures
     c.put-2.ensures

@@ -1,9 +1,9 @@
 use Rattle.std.proofs.Common.{◌+◌, ap}
 use Rattle.chart.specs.Chart.{label}
-use Rattle.chart.proofs.Lines.{joined, as_text}
+use Rattle.draft.proofs.CallerLemmas.{joined, as_text}
 use Rattle.chart.proofs.chart.put_labels.Goals as goal
 
 pub returns : goal.returns
 returns c =
-    joined c.put_label-2.result _ _ _ _ _ c.in_ok-put_label.ensures
-    (as_text c.put_label-2.result _ _ _ _ (ap (λ end. label c.args.sheet.now (end + 16) c.args.time) c.plot_end.ensures.end) c.put_label-2.ensures)
+    joined c.args.out.now c.put_label.new.out c.put_label-2.new.out _ _ c.put_label.ensures
+    (as_text c.put_label.new.out c.put_label-2.new.out _ _ (ap (λ end. label c.args.sheet.now (end + 16) c.args.time) c.plot_end.ensures.end) c.put_label-2.ensures)

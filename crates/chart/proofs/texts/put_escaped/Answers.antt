@@ -1,8 +1,5 @@
 use Rattle.chart.proofs.Escaping.{text_plain}
 use Rattle.chart.proofs.texts.put_escaped.Goals as goal
 
-pub returns-in_err-put_byte-clause-plain : goal.returns-in_err-put_byte-clause-plain
-returns-in_err-put_byte-clause-plain c = text_plain c.args.text.now
-
 pub returns-clause-plain : goal.returns-clause-plain
 returns-clause-plain c = text_plain c.args.text.now

@@ -14,6 +14,6 @@ loop-number-preserved c =
     let d = c.index-domains-number.result in
     let few : IsOfMachine d = subst IsOfMachine (sym c.index-domains-number.is) (c.requires.few c.loop-number.number d c.loop-number-test.true) in
     record {
-      put = one_more_domain c.args.out.now.items c.loop-number.out.items c.put_cpus_of.new.out.items c.loop-number.base c.args.domains.now c.loop-number.number d c.loop-number-test.true c.index-domains-number.is c.loop-number.invariant.put c.in_ok-put_cpus_of.ensures;
+      put = one_more_domain c.args.out.now c.loop-number.out c.put_cpus_of.new.out c.loop-number.base c.args.domains.now c.loop-number.number d c.loop-number-test.true c.index-domains-number.is c.loop-number.invariant.put c.put_cpus_of.ensures;
       few = omega (arith, few, c.loop-number.invariant.few);
     }

@@ -5,6 +5,6 @@ use Rattle.figure_text.proofs.summary.put_cpus.Given as goal
 
 abbrev pub invariant-loop-number : goal.invariant-loop-number
 invariant-loop-number l = record {
-  put : ArePut l.initial.out.items l.out.items l.base (map view_of (take l.number l.domains));
+  put : ArePut l.initial.out l.out l.base (map view_of (take l.number l.domains));
   few : l.base ≤ l.number * 64;
 }

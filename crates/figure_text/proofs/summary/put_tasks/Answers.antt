@@ -1,9 +1,10 @@
-use Rattle.std.proofs.Common.{◌≡◌, ◌+◌, ◌++◌, List, subst, ap, ◌∙◌, sym, arith}
+use Rattle.std.proofs.Common.{ℕ, List, subst, ap, ◌∙◌, sym, arith}
 use Rattle.std.proofs.lemmas.List.{take_all}
 use Rattle.figure_text.specs.declared.summary.DomainSummary.{DomainSummary}
 use Rattle.run_figures.specs.Lines.{numbered}
 use Rattle.figure_text.specs.Summary.{view_of, tasks_of, IsShort}
-use Rattle.figure_text.proofs.Lines.{numbered_more, numbered-map}
+use Rattle.draft.proofs.CallerLemmas.{as_text}
+use Rattle.figure_text.proofs.Lines.{more_numbered, numbered-map}
 use Rattle.figure_text.proofs.summary.put_tasks.Goals as goal
 
 pub put_tasks_of-requires : goal.put_tasks_of-requires
@@ -14,11 +15,14 @@ put_tasks_of-requires c =
 
 pub loop-number-preserved : goal.loop-number-preserved
 loop-number-preserved c =
-    numbered_more (λ k d. tasks_of k (view_of d)) 0 c.args.domains.now c.loop-number.number c.index-domains-number.result c.args.out.now.items c.loop-number.out.items c.put_tasks_of.new.out.items c.loop-number-test.true c.index-domains-number.is
-    c.loop-number.invariant (c.in_ok-put_tasks_of.ensures ∙ (let z : c.loop-number.number ≡ 0 + c.loop-number.number = omega arith in ap (λ k. c.loop-number.out.items ++ tasks_of k (view_of c.index-domains-number.result)) z))
+    let line : ℕ → DomainSummary → List ℕ = λ k d. tasks_of k (view_of d) in
+    more_numbered line 0 c.args.domains.now c.loop-number.number c.loop-number.number c.index-domains-number.result c.args.out.now c.loop-number.out c.put_tasks_of.new.out c.loop-number-test.true (omega arith)
+    c.loop-number.invariant (as_text c.loop-number.out c.put_tasks_of.new.out _ _ (ap (line c.loop-number.number) c.index-domains-number.is) c.put_tasks_of.ensures)
 
 pub returns : goal.returns
 returns c =
+    let line : ℕ → DomainSummary → List ℕ = λ k d. tasks_of k (view_of d) in
+    as_text c.args.out.now c.loop-number.out _ _
+    (ap (λ (ds : List DomainSummary). numbered line 0 ds) (take_all c.loop-number.number c.args.domains.now c.loop-number-test.false)
+    ∙ sym (numbered-map tasks_of view_of 0 c.args.domains.now))
     c.loop-number.invariant
-    ∙ ap (λ (ds : List DomainSummary). c.args.out.now.items ++ numbered (λ k d. tasks_of k (view_of d)) 0 ds) (take_all c.loop-number.number c.args.domains.now c.loop-number-test.false)
-    ∙ ap (λ t. c.args.out.now.items ++ t) (sym (numbered-map tasks_of view_of 0 c.args.domains.now))

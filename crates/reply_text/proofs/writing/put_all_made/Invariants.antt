@@ -1,5 +1,5 @@
 use Rattle.std.proofs.Common.{◌≡◌, ◌+◌, ◌*◌, ◌≤◌, ◌^◌, ◌++◌, length}
-use Rattle.std.specs.Prelude.{All}
+use Rattle.std.specs.Prelude.{true, All}
 use Rattle.calls_text.specs.Limits.{IsEntry}
 use Rattle.calls_text.specs.Spelling.{text_of}
 use Rattle.reply_text.specs.Replies.{answered_lines}
@@ -8,7 +8,7 @@ use Rattle.reply_text.proofs.writing.put_all_made.Given as goal
 -- the lines so far, and those of the calls that are left, from the state so far
 abbrev pub invariant-loop-entry : goal.invariant-loop-entry
 invariant-loop-entry l = record {
-  text : l.out.items ++ text_of (answered_lines l.state l.left.items) ≡ l.initial.out.items ++ text_of (answered_lines l.initial.state l.initial.left.items);
+  text : l.out.whole ≡ true → (l.initial.out.whole ≡ true) × (l.out.text ++ text_of (answered_lines l.state l.left.items) ≡ l.initial.out.text ++ text_of (answered_lines l.initial.state l.initial.left.items));
   entries : All IsEntry l.left.items;
   early : l.state.time + length l.left.items * 60000000 ≤ 2 ^ 42;
 }

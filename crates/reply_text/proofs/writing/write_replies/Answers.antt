@@ -11,6 +11,6 @@ loop-section-preserved c =
     let left = c.pop_front.new.self.items in
     let first : c.loop-section.left.items ≡ s ∷ left = c.in-Some.ensures.items in
     record {
-      text = section_more s left c.loop-section.left.items c.loop-section.out.items c.put_section.new.out.items _ first c.in_ok-put_section.ensures i.text;
+      text = λ whole. let put = c.in_ok-put_section.ensures whole in section_more s left c.loop-section.left.items c.loop-section.out.text c.put_section.new.out.text _ first put.1 (i.text put.0);
       sections = All-rest IsSection s left c.loop-section.left.items first i.sections;
     }
