@@ -1,7 +1,8 @@
 //! How a comparison of two traces ends.
 
-ghost use Rattle.std.specs.Prelude.{◌≡◌};
+ghost use Rattle.std.specs.Prelude.{◌≡◌, ◌++◌};
 ghost use Rattle.std.specs.Fmt.{WritesOnOk};
+ghost use Rattle.dl_session.specs.Lines.{one_line};
 ghost use Rattle.dl_session.specs.Comparing.{name_of, compare_status, compare_text, comparison_status, IsEndOfComparison};
 
 use crate::fault::write_one_line;
@@ -77,6 +78,15 @@ fn status_of(fault: CompareFault) -> u8
     }
 }
 
+/// Writes words, and behind them a name on one line.
+fn write_named<W: fmt::Write>(f: &mut fmt::Formatter<W>, words: &str, name: &str) -> fmt::Result
+    ensures { WritesOnOk W.write_str_gives f.old result
+        (words.now ++ one_line name.now) f.new }
+{
+    f.write_str(words)?;
+    write_one_line(f, name)
+}
+
 /// Writes the line of a fault, without the program's name and the LF.
 fn write_fault<W: fmt::Write>(
     f: &mut fmt::Formatter<W>,
@@ -90,13 +100,9 @@ fn write_fault<W: fmt::Write>(
             write!(f, "trace line {line} in ")?;
             write_one_line(f, names.of(input))
         }
-        CompareFault::NoSwitch(input) => {
-            f.write_str("no switch in ")?;
-            write_one_line(f, names.of(input))
-        }
+        CompareFault::NoSwitch(input) => write_named(f, "no switch in ", names.of(input)),
         CompareFault::Read(input) | CompareFault::Endless(input) => {
-            f.write_str("read failed in ")?;
-            write_one_line(f, names.of(input))
+            write_named(f, "read failed in ", names.of(input))
         }
         CompareFault::Write { written } => write!(f, "write failed after {written}"),
         CompareFault::Memory => f.write_str("out of memory"),
@@ -115,8 +121,7 @@ impl fmt::Display for ComparisonEnding<'_> {
             ComparisonEnding::Done => Ok(()),
             ComparisonEnding::BothStdin => f.write_str("dlsim: both traces are standard input\n"),
             ComparisonEnding::NotOpened(name) => {
-                f.write_str("dlsim: cannot open ")?;
-                write_one_line(f, name)?;
+                write_named(f, "dlsim: cannot open ", name)?;
                 f.write_str("\n")
             }
             ComparisonEnding::Fault(fault, names) => {
