@@ -1,4 +1,6 @@
 ghost use Rattle.std.specs.Prelude.{◌≡◌, ◌<◌, ◌≤◌, IfOk, All, length};
+ghost use Rattle.bw_gate.specs.Pieces.{cpus_of};
+ghost use Rattle.call_book.specs.Book.{IsPassOf};
 ghost use Rattle.calls_text.specs.Limits.{IsCall, IsEntry};
 
 use bw_gate::{Blank, Gate, Room, Take, Ticket, used_of};
@@ -14,7 +16,6 @@ use std::thread::Threads;
 
 mod memory;
 mod moves;
-mod rates;
 
 // A gate of one domain of one CPU, its book with one client, and the client's blanks.
 struct Desk {
@@ -25,49 +26,44 @@ struct Desk {
     ghost own: { domain.gate ≡ gate },
     ghost first: { domain.domain ≡ 0 },
     ghost one: { 0 < length gate.terms.cpus },
-    ghost spine: { pass.spine ≡ domain.spine },
-    ghost some: { 0 < pass.client },
-    ghost most: { pass.client ≤ domain.clients },
+    ghost pass_of: { IsPassOf domain pass },
     ghost only: { domain.clients ≡ 1 },
     ghost blanks_own: { All (λ b. b.gate ≡ gate) blanks.items },
 }
 
-// What a gate of one domain has room for.
-fn room_of(cpus: u32, limit: u64) -> Room
-    ensures { (result.cpus ≡ cpus) × (result.limit ≡ limit) }
+// The book of one of a gate's domains of one CPU, with the pass of its one client.
+fn book_of(
+    rt: &impl Abort,
+    alloc: Global,
+    gate: &Gate,
+    place: usize,
+    limit: u64,
+    history: usize,
+) -> Result<(Domain, Pass), NoMemory>
+    requires cpus { cpus_of gate.now place ≡ 1 }
+    requires limit { (10485 ≤ limit) × (limit ≤ 1048576) }
+    requires history { (0 < history) × (history ≤ 65536) }
+    ensures gate { IfOk result (λ r. r.0.gate ≡ gate.now) }
+    ensures place { IfOk result (λ r. r.0.domain ≡ place) }
+    ensures only { IfOk result (λ r. r.0.clients ≡ 1) }
+    ensures pass { IfOk result (λ r. IsPassOf r.0 r.1) }
 {
-    let cpus = u64::from(cpus);
-    Room { cpus, limit }
+    let (domain, mut passes) = Domain::open(alloc, gate, place, 1, limit, 1, history)?;
+    let Some(pass) = passes.pop() else {
+        panic!(rt; "no pass")
+    };
+    Ok((domain, pass))
 }
 
+// A gate of one domain of one CPU, with eight pieces, and its book.
 fn opened(rt: &impl Abort, alloc: Global, limit: u64, history: usize) -> Result<Desk, NoMemory>
     requires limit { (10485 ≤ limit) × (limit ≤ 1048576) }
     requires history { (0 < history) × (history ≤ 65536) }
 {
-    opened_with(rt, alloc, 1, limit, history, 8)
-}
-
-// The same with so many CPUs and pieces.
-fn opened_with(
-    rt: &impl Abort,
-    alloc: Global,
-    cpus: u32,
-    limit: u64,
-    history: usize,
-    pieces: usize,
-) -> Result<Desk, NoMemory>
-    requires cpus { (0 < cpus) × (cpus ≤ 64) }
-    requires limit { (10485 ≤ limit) × (limit ≤ 1048576) }
-    requires history { (0 < history) × (history ≤ 65536) }
-    requires pieces { (0 < pieces) × (pieces ≤ 4096) }
-{
-    let Ok((gate, blanks)) = Gate::open(alloc, &[room_of(cpus, limit)], pieces) else {
+    let Ok((gate, blanks)) = Gate::open(alloc, &[Room { cpus: 1, limit }], 8) else {
         return Err(NoMemory);
     };
-    let (domain, mut passes) = Domain::open(alloc, &gate, 0, cpus, limit, 1, history)?;
-    let Some(pass) = passes.pop() else {
-        panic!(rt; "no pass")
-    };
+    let (domain, pass) = book_of(rt, alloc, &gate, 0, limit, history)?;
     Ok(Desk {
         gate,
         domain,
@@ -279,9 +275,9 @@ fn refused_by_the_word(rt: HostRuntime) -> Result<(), Fail> {
     let (state, word, entries) = closed(rt.alloc(), desk);
     let ends = (state.limit(), state.sum(), word, entries.len());
     drop(state);
-    assert_eq!(rt; limit, Reply::Busy { seen: 262144 });
+    assert!(rt; limit == Reply::Busy { seen: 262144 });
     let busy = Reply::Busy { seen: 524288 };
-    assert_eq!(rt; got?.as_slice(), [Reply::Admitted, busy].as_slice());
-    assert_eq!(rt; ends, (524288, 262144, 262144, 3));
+    assert!(rt; got?.as_slice() == [Reply::Admitted, busy].as_slice());
+    assert!(rt; ends == (524288, 262144, 262144, 3));
     Ok(())
 }

@@ -35,8 +35,8 @@ fn an_advance_stops_where_the_buffer_is_full(rt: HostRuntime) -> Result<(), Fail
     buffered.forget_switches();
     let left = (1_u64 << 42).saturating_sub(buffered.state().now());
     let more = buffered.advance(10000_u64.saturating_sub(made).min(left));
-    assert_eq!(rt; made.saturating_add(more), 10000);
+    assert!(rt; made.saturating_add(more) == 10000);
     assert!(rt; all.ends_with(buffered.switches()));
-    assert_eq!(rt; all.len().saturating_sub(first), buffered.switches().len());
+    assert!(rt; all.len().saturating_sub(first) == buffered.switches().len());
     Ok(())
 }

@@ -1,5 +1,5 @@
-//! The tests of a domain and of its jumps, apart from both, so that the gate proves each of those
-//! crates once.
+//! The tests of plans and charges, of a domain and of its jumps, apart from them, so that the gate
+//! proves each of those crates once.
 #![tactic(auto)]
 
 #[cfg(test)]
@@ -8,5 +8,9 @@ mod buffered;
 mod of_domain;
 #[cfg(test)]
 mod of_jumps;
+#[cfg(test)]
+mod of_ticks;
+#[cfg(test)]
+mod seen;
 #[cfg(test)]
 mod workers;

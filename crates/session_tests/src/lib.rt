@@ -3,6 +3,8 @@
 #![tactic(auto)]
 
 #[cfg(test)]
+mod begun;
+#[cfg(test)]
 mod of_sessions;
 #[cfg(test)]
 mod of_texts;

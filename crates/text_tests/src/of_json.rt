@@ -45,7 +45,9 @@ false  => Bool(false)
 
 #[test]
 fn every_kind_of_value(rt: HostRuntime) -> Result<(), Fail> {
-    assert_eq!(rt; first_wrong(rt.alloc(), VALUES)?, None);
+    if let Some(row) = first_wrong(rt.alloc(), VALUES)? {
+        panic!(rt; "{row}")
+    }
     Ok(())
 }
 
@@ -58,19 +60,25 @@ const NESTED: &str =
 
 #[test]
 fn depth_and_keys(rt: HostRuntime) -> Result<(), Fail> {
-    assert_eq!(rt; first_wrong(rt.alloc(), NESTED)?, None);
+    if let Some(row) = first_wrong(rt.alloc(), NESTED)? {
+        panic!(rt; "{row}")
+    }
     Ok(())
 }
 
-#[test]
-fn a_fault_behind_a_long_text(rt: HostRuntime) -> Result<(), Fail> {
-    let alloc = rt.alloc();
+fn long_text(alloc: Global) -> Result<String, AllocError> {
     let mut text = String::from_str(alloc, "[")?;
     for _ in 0..300 {
         text.push_str(r#"{"k":[1,-2.5e3,"x\n",null]},"#)?;
     }
     text.push_str("01]")?;
-    let given = printed(alloc, text.as_bytes())?;
-    assert_eq!(rt; given.as_str(), "json 10 at 8402");
+    Ok(text)
+}
+
+#[test]
+fn a_fault_behind_a_long_text(rt: HostRuntime) -> Result<(), Fail> {
+    let text = long_text(rt.alloc())?;
+    let given = printed(rt.alloc(), text.as_bytes())?;
+    assert!(rt; given.as_str() == "json 10 at 8402");
     Ok(())
 }

@@ -16,18 +16,32 @@ fn given(alloc: Global, text: &str) -> Result<String, AllocError> {
     }
 }
 
-/// A row is members, ` => ` and an answer. With the members between front and back, a text that is
-/// refused gives the answer, and the scenario of another one has the answer in it.
+/// What members between front and back give.
+fn given_between(
+    alloc: Global,
+    front: &str,
+    members: &str,
+    back: &str,
+) -> Result<String, AllocError> {
+    let text = format!(in alloc; "{front}{members}{back}")?;
+    given(alloc, text.as_str())
+}
+
+/// A text that is refused gives the answer, and the scenario of another one has the answer in it.
+fn has_answer(given: &str, answer: &str) -> bool {
+    if answer.starts_with("scenario ") {
+        return given == answer;
+    }
+    given.contains(answer)
+}
+
+/// A row is members, ` => ` and an answer.
 fn is_right(alloc: Global, front: &str, row: &str, back: &str) -> Result<bool, AllocError> {
     let Some((members, answer)) = row.split_once(" => ") else {
         return Ok(false);
     };
-    let text = format!(in alloc; "{front}{members}{back}")?;
-    let given = given(alloc, &text)?;
-    if answer.starts_with("scenario ") {
-        return Ok(given.as_str() == answer);
-    }
-    Ok(given.as_str().contains(answer))
+    let given = given_between(alloc, front, members, back)?;
+    Ok(has_answer(given.as_str(), answer))
 }
 
 /// The first of these rows that is wrong.

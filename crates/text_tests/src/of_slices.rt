@@ -8,10 +8,11 @@ ghost use Rattle.switch_text.specs.Runs.{IsRun};
 
 use crate::fakes::Taker;
 use counted_io::Counted;
-use domain_run::{PrevState, Switch};
+use domain_run::{NoMemory, PrevState, Switch};
 use indexmap::IndexMap;
 use std::alloc::Global;
 use std::io::{ErrorKind, Write};
+use std::process::Abort;
 use std::test::Fail;
 use switch_text::{Run, Slices, TraceRoom, WriteFault, write_slices, write_trace};
 
@@ -114,24 +115,54 @@ fn write_both<W: Write>(
     write_slices(&mut two_slices(names), room, writer)
 }
 
-#[test]
-fn slices_are_written_as_a_trace(rt: HostRuntime) -> Result<(), Fail> {
-    let names = one_name(rt.alloc())?;
+/// The trace of both slices, written while they come.
+fn sliced(rt: &impl Abort, alloc: Global) -> Result<Vec<u8>, Fail> {
+    let room = TraceRoom::open(alloc)?;
+    let names = one_name(alloc)?;
+    let mut writer = Counted::new(Vec::new(alloc));
+    assert!(rt; write_both(&names, room, &mut writer).is_ok());
+    Ok(writer.into_inner())
+}
+
+/// The trace of both as two runs, written at once.
+fn at_once(rt: &impl Abort, alloc: Global) -> Result<Vec<u8>, Fail> {
+    let names = one_name(alloc)?;
     let slices = two_slices(&names);
     let runs = [
         one_switch(slices.names, &slices.first),
         one_switch(slices.names, &slices.second),
     ];
-    let mut at_once = Counted::new(Vec::new(rt.alloc()));
-    assert!(rt; write_trace(&runs, &mut at_once).is_ok());
-    let mut sliced = Counted::new(Vec::new(rt.alloc()));
-    let room = TraceRoom::open(rt.alloc())?;
-    assert!(rt; write_both(&names, room, &mut sliced).is_ok());
-    let at_once: Vec<u8> = at_once.into_inner();
-    let sliced: Vec<u8> = sliced.into_inner();
-    assert_eq!(rt; sliced.as_slice(), TEXT);
-    assert_eq!(rt; at_once.as_slice(), TEXT);
+    let mut writer = Counted::new(Vec::new(alloc));
+    assert!(rt; write_trace(&runs, &mut writer).is_ok());
+    Ok(writer.into_inner())
+}
+
+#[test]
+fn slices_are_written_as_a_trace(rt: HostRuntime) -> Result<(), Fail> {
+    let at_once = at_once(&rt, rt.alloc())?;
+    assert!(rt; at_once.as_slice() == TEXT);
+    let sliced = sliced(&rt, rt.alloc())?;
+    assert!(rt; sliced.as_slice() == TEXT);
     Ok(())
+}
+
+/// Whether a writer that fails once it has taken so many bytes ends so: with this number told, one
+/// fault, and the front of the text.
+fn ends_there(
+    alloc: Global,
+    names: &IndexMap<u32, String>,
+    taken: usize,
+) -> Result<bool, NoMemory>
+    requires { HasName names.now 1 }
+{
+    let room = TraceRoom::open(alloc)?;
+    let kind = Some(ErrorKind::Interrupted);
+    let mut writer = Counted::new(Taker::new(alloc, 7, taken, kind));
+    let told = write_both(names, room, &mut writer).err();
+    let is_told = told.is_some_and(|fault| fault.written == taken as u64);
+    let faults = writer.faults();
+    let written = writer.into_inner().taken;
+    Ok(is_told && faults == 1 && written.len() == taken && TEXT.starts_with(&written))
 }
 
 // In the header, in the line of the first slice, in that of the second.
@@ -139,17 +170,7 @@ fn slices_are_written_as_a_trace(rt: HostRuntime) -> Result<(), Fail> {
 fn a_writer_fails_in_each_slice(rt: HostRuntime) -> Result<(), Fail> {
     let names = one_name(rt.alloc())?;
     for taken in [3, 100, 240, TEXT.len() - 1] {
-        let kind = Some(ErrorKind::Interrupted);
-        let mut writer = Counted::new(Taker::new(rt.alloc(), 7, taken, kind));
-        let room = TraceRoom::open(rt.alloc())?;
-        let ended = write_both(&names, room, &mut writer);
-        assert!(rt;
-            matches!(ended, Err(fault) if fault.written == taken as u64),
-            "{taken}"
-        );
-        assert_eq!(rt; writer.faults(), 1);
-        let writer = writer.into_inner();
-        assert_eq!(rt; writer.taken.as_slice(), &TEXT[..taken]);
+        assert!(rt; ends_there(rt.alloc(), &names, taken)?, "{taken}");
     }
     Ok(())
 }

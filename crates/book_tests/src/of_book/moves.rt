@@ -3,8 +3,8 @@ ghost use Rattle.std.specs.Prelude.{◌≡◌, ◌<◌, All, IfOk, length};
 ghost use Rattle.bw_gate.specs.Pieces.{cpus_of};
 ghost use Rattle.call_book.specs.Book.{IsPassOf};
 
-use super::{Desk, end, next_blank, replies, room_of};
-use bw_gate::{Blank, Gate, Take, Ticket, used_of};
+use super::{Desk, book_of, end, next_blank, replies};
+use bw_gate::{Blank, Gate, Room, Take, Ticket, used_of};
 use call_book::{Closed, Domain, Move, Pass, Prepared, move_task};
 use domain_run::{NoMemory, Reply};
 use std::alloc::Global;
@@ -31,33 +31,17 @@ fn two_domains(alloc: Global) -> Result<(Gate, Vec<Blank>), NoMemory>
     ensures cpus { IfOk result (λ r. (cpus_of r.0 0 ≡ 1) × (cpus_of r.0 1 ≡ 1)) }
     ensures own { IfOk result (λ r. All (λ b. b.gate ≡ r.0) r.1.items) }
 {
-    Gate::open(alloc, &[room_of(1, 1048576), room_of(1, 1048576)], 8)
-}
-
-// The book of one of them, with the pass of its one client.
-fn book_of(
-    rt: &impl Abort,
-    alloc: Global,
-    gate: &Gate,
-    place: usize,
-) -> Result<(Domain, Pass), NoMemory>
-    requires { cpus_of gate.now place ≡ 1 }
-    ensures gate { IfOk result (λ r. r.0.gate ≡ gate.now) }
-    ensures place { IfOk result (λ r. r.0.domain ≡ place) }
-    ensures only { IfOk result (λ r. r.0.clients ≡ 1) }
-    ensures pass { IfOk result (λ r. IsPassOf r.0 r.1) }
-{
-    let (domain, mut passes) = Domain::open(alloc, gate, place, 1, 1048576, 1, 9)?;
-    let Some(pass) = passes.pop() else {
-        panic!(rt; "no pass")
+    let room = Room {
+        cpus: 1,
+        limit: 1048576,
     };
-    Ok((domain, pass))
+    Gate::open(alloc, &[room, room], 8)
 }
 
 fn opened_two(rt: &impl Abort, alloc: Global) -> Result<Pair, NoMemory> {
     let (gate, blanks) = two_domains(alloc)?;
-    let (domain, pass) = book_of(rt, alloc, &gate, 0)?;
-    let Ok((to, into)) = book_of(rt, alloc, &gate, 1) else {
+    let (domain, pass) = book_of(rt, alloc, &gate, 0, 1048576, 9)?;
+    let Ok((to, into)) = book_of(rt, alloc, &gate, 1, 1048576, 9) else {
         panic!(rt; "no memory")
     };
     let desk = Desk {
@@ -242,11 +226,9 @@ fn move_of_a_changed_task(rt: HostRuntime) -> Result<(), Fail> {
     let made = answers(&rt, rt.alloc(), &mut pair, &[CHANGE, NOTHING]);
     let ends = ends(&rt, rt.alloc(), pair);
     let (stale, gone) = ((262144, 524288), (262144, 262144));
-    assert_eq!(rt;
-        made?.as_slice(),
-        [("stale", stale, stale), ("moved", gone, gone)].as_slice()
-    );
-    assert_eq!(rt; ends, [(0, 0, 4), (262144, 262144, 1)]);
+    let wanted = [("stale", stale, stale), ("moved", gone, gone)];
+    assert!(rt; ends == [(0, 0, 4), (262144, 262144, 1)]);
+    assert!(rt; made?.as_slice() == wanted.as_slice());
     Ok(())
 }
 
@@ -257,7 +239,7 @@ fn move_of_an_ended_task(rt: HostRuntime) -> Result<(), Fail> {
     let made = answers(&rt, rt.alloc(), &mut pair, &[END]);
     let ends = ends(&rt, rt.alloc(), pair);
     let both = (524288, 524288);
-    assert_eq!(rt; made?.as_slice(), [("not listed", both, both)].as_slice());
-    assert_eq!(rt; ends, [(524288, 524288, 2), (0, 0, 0)]);
+    assert!(rt; ends == [(524288, 524288, 2), (0, 0, 0)]);
+    assert!(rt; made?.as_slice() == [("not listed", both, both)].as_slice());
     Ok(())
 }

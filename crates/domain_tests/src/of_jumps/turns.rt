@@ -2,89 +2,16 @@
 
 use super::by_workers::advanced;
 use super::{HALF_OF_8_US, three};
+use crate::seen::{Tally, Told};
 use crate::workers::{admitted, forever, single_ticks};
 use domain_run::{Event, State};
-use jump_run::{Silent, Turn};
+use jump_run::Silent;
 use std::alloc::{AllocError, Global};
-use std::fs;
-use std::io::Read;
 use std::sync::Wait;
-use std::sync::atomic::{AtomicUsize, Ordering};
 use std::test::Fail;
 use std::thread::Threads;
 
-/// The number of the thread that calls, as Linux tells it, or else 0.
-fn thread_number(rt: &HostRuntime) -> usize {
-    let mut bytes = [0; 32];
-    let Ok(mut file) = fs::open(rt, "/proc/thread-self/stat") else {
-        return 0;
-    };
-    if file.read(&mut bytes).is_err() {
-        return 0;
-    }
-    let mut number: usize = 0;
-    for byte in bytes {
-        if !byte.is_ascii_digit() {
-            return number;
-        }
-        number = number
-            .wrapping_mul(10)
-            .wrapping_add(usize::from(byte.wrapping_sub(48)));
-    }
-    number
-}
-
-/// The turns of an advance: how often each piece was begun and ended, a hexadecimal digit for each,
-/// the lowest for piece 0; all turns in their order, the last one in the lowest digit, 1 where
-/// piece 0 begins, 2 where it ends; and how many were taken in another thread than the caller's.
-#[derive(Drop)]
-struct Turns {
-    rt: HostRuntime,
-    caller: usize,
-    begun: AtomicUsize,
-    ended: AtomicUsize,
-    order: AtomicUsize,
-    elsewhere: AtomicUsize,
-}
-
-fn digit(piece: usize) -> usize {
-    match piece {
-        0 => 0x1,
-        1 => 0x10,
-        2 => 0x100,
-        3 => 0x1000,
-        4 => 0x10000,
-        5 => 0x100000,
-        6 => 0x1000000,
-        7 => 0x10000000,
-        _ => 0x100000000,
-    }
-}
-
-impl Turns {
-    fn add(&self, turns: &AtomicUsize, piece: usize, kind: usize) {
-        turns.fetch_add(digit(piece), Ordering::SeqCst);
-        let seen = self.order.load(Ordering::SeqCst);
-        self.order
-            .store(seen.wrapping_mul(16).wrapping_add(kind), Ordering::SeqCst);
-        if thread_number(&self.rt) != self.caller {
-            self.elsewhere.fetch_add(1, Ordering::SeqCst);
-        }
-    }
-}
-
-impl Turn for Turns {
-    fn begin(&self, piece: usize) {
-        self.add(&self.begun, piece, 1);
-    }
-
-    fn end(&self, piece: usize) {
-        self.add(&self.ended, piece, 2);
-    }
-}
-
-/// The turns of so many ticks more, by so many workers: how often each piece was begun and ended,
-/// their order, and how many were taken elsewhere.
+/// The turns of so many ticks more, by so many workers.
 fn turns_of<R: Threads + Wait>(
     rt: &R,
     host: HostRuntime,
@@ -92,24 +19,10 @@ fn turns_of<R: Threads + Wait>(
     state: &mut State,
     ticks: u64,
     workers: usize,
-) -> ((usize, usize), usize, usize) {
-    let turns = Turns {
-        rt: host,
-        caller: thread_number(&host),
-        begun: AtomicUsize::new(0),
-        ended: AtomicUsize::new(0),
-        order: AtomicUsize::new(0),
-        elsewhere: AtomicUsize::new(0),
-    };
-    advanced(rt, alloc, state, ticks, workers, &turns);
-    let begun = turns.begun.load(Ordering::SeqCst);
-    let ended = turns.ended.load(Ordering::SeqCst);
-    let order = turns.order.load(Ordering::SeqCst);
-    (
-        (begun, ended),
-        order,
-        turns.elsewhere.load(Ordering::SeqCst),
-    )
+) -> Told {
+    let tally = Tally::new(host);
+    advanced(rt, alloc, state, ticks, workers, &tally);
+    tally.told()
 }
 
 /// A jump has the turns of its plans and then those of its charges, also where it is cut short; a
@@ -120,8 +33,8 @@ fn turns_of_one_piece(rt: HostRuntime) -> Result<(), Fail> {
     for (tasks, workers) in [(1, 1), (2, 1), (3, 1), (1, 3), (1, 8)] {
         let mut states = admitted(alloc, 3, &three()[..tasks])?;
         for (ticks, order) in [(1, 0x1212), (3, 0x1212), (4, 0), (16, 0x12121212)] {
-            let (_, told, _) = turns_of(&rt, rt, alloc, &mut states[0], ticks, workers);
-            assert_eq!(rt; told, order);
+            let told = turns_of(&rt, rt, alloc, &mut states[0], ticks, workers);
+            assert!(rt; told.order == order, "{tasks} tasks, {workers} workers, {ticks} ticks");
         }
     }
     Ok(())
@@ -135,8 +48,8 @@ fn one_jump_of_many_ticks(rt: HostRuntime) -> Result<(), Fail> {
     let tasks = [forever((1000, 2000, 2000), &LONG)];
     for workers in [1, 2, 8] {
         let mut states = admitted(rt.alloc(), 1, &tasks)?;
-        let (_, order, _) = turns_of(&rt, rt, rt.alloc(), &mut states[0], 1000, workers);
-        assert_eq!(rt; order, 0x1212);
+        let told = turns_of(&rt, rt, rt.alloc(), &mut states[0], 1000, workers);
+        assert!(rt; told.order == 0x1212, "{workers} workers");
     }
     Ok(())
 }
@@ -158,8 +71,8 @@ fn pieces_of_each_step(rt: HostRuntime) -> Result<(), Fail> {
         (9, 9, 0x222222222, 36),
     ] {
         let mut states = admitted(rt.alloc(), 9, &nine[..tasks])?;
-        let (turns, _, others) = turns_of(&rt, rt, rt.alloc(), &mut states[0], 4, workers);
-        assert_eq!(rt; (turns, others), ((twos, twos), elsewhere));
+        let told = turns_of(&rt, rt, rt.alloc(), &mut states[0], 4, workers);
+        assert!(rt; told.is(twos, elsewhere), "{tasks} tasks, {workers} workers");
     }
     Ok(())
 }

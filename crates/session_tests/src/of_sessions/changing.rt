@@ -1,10 +1,11 @@
 // Eight clients that admit, regrade and leave on one domain, while a ninth changes its limit.
 ghost use Rattle.std.specs.Prelude.{◌≡◌, ◌<◌, length};
 
-use super::clients::make;
+use super::clients::make_all;
 use super::storm::{arrive, entries_of};
+use crate::begun::{clients_of, parts_on};
 use call_book::{Call, Entry, NoMemory, Reply};
-use session::{Client, Names, Options, Parts, Print, Report, Session, Shared};
+use session::{Client, Names, Parts, Report, Session, Shared};
 use std::alloc::Global;
 use std::marker::Brand;
 use std::sync::Wait;
@@ -50,14 +51,12 @@ fn play<N: Names, R: Threads + Wait>(
     let Some(text) = text_of(alloc, client.number()) else {
         return client;
     };
-    let Some(mut entries) = entries_of(alloc, text.as_bytes()) else {
+    let Some(entries) = entries_of(alloc, text.as_bytes()) else {
         return client;
     };
-    entries.reverse();
+    let mut answers = Vec::new(alloc);
     arrive(here, 9);
-    while let Some(entry) = entries.pop() {
-        let _ = make(rt, alloc, shared, &mut client, entry.call);
-    }
+    make_all(rt, alloc, shared, &mut client, entries, &mut answers);
     client
 }
 
@@ -70,12 +69,7 @@ fn change<N: Names + Send + Sync, R: Threads + Wait + Sync>(
     requires { N.id ≡ parts }
 {
     let mut session: Session<N> = Session::open(parts);
-    let mut clients = Vec::new(alloc);
-    for number in 1..10 {
-        if let Some(client) = session.client(number) {
-            let _ = clients.push(client);
-        }
-    }
+    let clients = clients_of(alloc, &mut session, 9);
     session.domains();
     let shared = session.shared();
     let here = AtomicUsize::new(0);
@@ -129,24 +123,22 @@ fn limit_of(entries: &Vec<Entry>) -> u64 {
     now
 }
 
+// Whether the one domain's word and cap are those that its history leaves, and all pieces came
+// home.
+fn are_kept(report: &Report) -> bool {
+    let Some(history) = report.histories.first() else {
+        return false;
+    };
+    let (sum, limit) = (sum_of(&history.entries), limit_of(&history.entries));
+    report.home == 256 + 9
+        && report.words.as_slice() == [sum].as_slice()
+        && report.caps.as_slice() == [limit.wrapping_mul(4)].as_slice()
+}
+
 #[test]
 fn limit_changes_while_clients_run(rt: HostRuntime) -> Result<(), Fail> {
-    let options = Options {
-        domains: vec![in rt.alloc(); 4]?,
-        limit: 1048576,
-        clients: 9,
-        workers: 1,
-        history: 1024,
-        reclaim: false,
-        print: Print::Trace,
-    };
-    let parts = Parts::open(rt.alloc(), &options)?;
+    let parts = parts_on(rt.alloc(), vec![in rt.alloc(); 4]?, 1048576, 9, 1024)?;
     let report = change_in(&rt, rt.alloc(), parts)?;
-    assert_eq!(rt; report.home, 256 + 9);
-    for history in &report.histories {
-        let (sum, limit) = (sum_of(&history.entries), limit_of(&history.entries));
-        assert_eq!(rt; report.words.as_slice(), [sum].as_slice());
-        assert_eq!(rt; report.caps.as_slice(), [limit.wrapping_mul(4)].as_slice());
-    }
+    assert!(rt; are_kept(&report));
     Ok(())
 }

@@ -1,11 +1,12 @@
 // The calls of one client of a session, given as the calls of a text.
-ghost use Rattle.std.specs.Prelude.{◌≡◌, ◌+◌, ◌<◌, ◌≤◌, length, vec_capacity, IfOk, All};
+ghost use Rattle.std.specs.Prelude.{◌≡◌, ◌<◌, ◌≤◌, length, IfOk, All};
 ghost use Rattle.calls_text.specs.Limits.{IsCall, IsEntry, IsSection};
 
+use crate::begun::{clients_of, parts_on};
 use attr_check::{Params, SchedAttr};
 use call_book::{Call, Entry, NoMemory, Section, read_calls};
 use rtapp_scenario::TaskSpec;
-use session::{Answer, Client, Names, Options, Parts, Print, Refusal, Report, Session, Shares};
+use session::{Answer, Client, Names, Parts, Refusal, Report, Session, Shares};
 use std::alloc::{AllocError, Global};
 use std::fmt::Write;
 use std::marker::Brand;
@@ -67,31 +68,42 @@ pub(super) fn make<N: Names, S: Shares<N>, R: Threads + Wait>(
     }
 }
 
+// Makes these calls on domain 0, one after the other.
+pub(super) fn make_all<N: Names, S: Shares<N>, R: Threads + Wait>(
+    rt: &R,
+    alloc: Global,
+    session: &S,
+    client: &mut Client<N>,
+    mut entries: Vec<Entry>,
+    answers: &mut Vec<Answer>,
+)
+    requires entries { All IsEntry entries.items }
+    requires place { 0 < length N.id.cpu_sets }
+{
+    entries.reverse();
+    while let Some(entry) = entries.pop() {
+        let _ = answers.push(make(rt, alloc, session, client, entry.call));
+    }
+}
+
 // Makes the calls of these entries by client 1 on domain 0, and ends the session.
 fn made<N: Names, R: Abort + Threads + Wait>(
     rt: &R,
     alloc: Global,
     parts: Parts,
-    mut entries: Vec<Entry>,
-    mut answers: Vec<Answer>,
-) -> Result<(Vec<Answer>, Report), NoMemory>
+    entries: Vec<Entry>,
+    answers: &mut Vec<Answer>,
+) -> Result<Report, NoMemory>
     requires names { N.id ≡ parts }
     requires entries { All IsEntry entries.items }
-    requires room { length entries.items + length answers.items ≤ vec_capacity answers }
 {
     let mut session: Session<N> = Session::open(parts);
-    let Some(mut client) = session.client(1) else {
-        panic!(rt; "no client")
-    };
+    let mut clients = clients_of(alloc, &mut session, 1);
     session.domains();
-    entries.reverse();
-    while let Some(entry) = entries.pop() {
-        answers.push_reserved(make(rt, alloc, &session, &mut client, entry.call));
+    if let Some(client) = clients.first_mut() {
+        make_all(rt, alloc, &session, client, entries, answers);
     }
-    let mut clients = Vec::new(alloc);
-    let _ = clients.push(client);
-    let report = session.close(alloc, clients)?;
-    Ok((answers, report))
+    session.close(alloc, clients)
 }
 
 fn made_in<R: Abort + Threads + Wait>(
@@ -99,10 +111,9 @@ fn made_in<R: Abort + Threads + Wait>(
     alloc: Global,
     parts: Parts,
     entries: Vec<Entry>,
-    answers: Vec<Answer>,
-) -> Result<(Vec<Answer>, Report), NoMemory>
-    requires entries { All IsEntry entries.items }
-    requires room { length entries.items + length answers.items ≤ vec_capacity answers }
+    answers: &mut Vec<Answer>,
+) -> Result<Report, NoMemory>
+    requires { All IsEntry entries.items }
 {
     made::<Brand, R>(rt, alloc, parts, entries, answers)
 }
@@ -116,6 +127,27 @@ fn section_of(rt: &impl Abort, alloc: Global, text: &[u8]) -> Result<Section, Fa
         panic!(rt; "no section")
     };
     Ok(section)
+}
+
+// The parts of a session with one client on a domain.
+fn parts_of(alloc: Global, cpus: u32, limit: u64, history: usize) -> Result<Parts, NoMemory>
+    requires cpus { (0 < cpus) × (cpus ≤ 64) }
+    requires limit { (10485 ≤ limit) × (limit ≤ 1048576) }
+    requires history { (0 < history) × (history ≤ 65536) }
+{
+    parts_on(alloc, vec![in alloc; cpus]?, limit, 1, history)
+}
+
+// What these answers say.
+fn said_by(alloc: Global, answers: &[Answer]) -> Result<String, Fail> {
+    let mut said = String::new(alloc);
+    for answer in answers {
+        match answer {
+            Ok(reply) => write!(said, "{reply:?}; ")?,
+            Err(refusal) => write!(said, "{refusal}; ")?,
+        }
+    }
+    Ok(said)
 }
 
 // Makes the calls of a text in a session of its domain, with room for so many: the answers, and
@@ -133,26 +165,10 @@ fn ran<R: Abort + Threads + Wait>(
         limit,
         entries,
     } = section_of(rt, alloc, text)?;
-    let options = Options {
-        domains: vec![in alloc; cpus]?,
-        limit,
-        clients: 1,
-        workers: 1,
-        history,
-        reclaim: false,
-        print: Print::Trace,
-    };
-    let answers = Vec::with_capacity(alloc, entries.len())?;
-    let parts = Parts::open(alloc, &options)?;
-    let (answers, report) = made_in(rt, alloc, parts, entries, answers)?;
-    let mut said = String::new(alloc);
-    for answer in &answers {
-        match answer {
-            Ok(reply) => write!(said, "{reply:?}; ")?,
-            Err(refusal) => write!(said, "{refusal}; ")?,
-        }
-    }
-    Ok((said, report))
+    let mut answers = Vec::new(alloc);
+    let parts = parts_of(alloc, cpus, limit, history)?;
+    let report = made_in(rt, alloc, parts, entries, &mut answers)?;
+    Ok((said_by(alloc, &answers)?, report))
 }
 
 // How many calls stand in the first domain's history.
@@ -251,15 +267,27 @@ const ROWS: [Row; 11] = [
     ),
 ];
 
+// Whether a session of one domain left so many entries, this word and this cap, and all pieces
+// came home.
+fn has_left(report: &Report, left: &(usize, u64, u64)) -> bool {
+    let (calls, word, cap) = left;
+    entered(report) == *calls
+        && report.home == 257
+        && report.words.as_slice() == [*word].as_slice()
+        && report.caps.as_slice() == [*cap].as_slice()
+}
+
+fn is_right<R: Abort + Threads + Wait>(rt: &R, alloc: Global, row: &Row) -> Result<bool, Fail> {
+    let (room, text, wanted, left) = row;
+    let (said, report) = ran(rt, alloc, text, (*room).clamp(1, 65536))?;
+    Ok(said.as_str() == *wanted && has_left(&report, left))
+}
+
 // Each row's calls in a session of its own, with all pieces home in the end.
 #[test]
 fn rows_of_one_client(rt: HostRuntime) -> Result<(), Fail> {
-    for (room, text, wanted, (calls, word, cap)) in ROWS {
-        let (said, report) = ran(&rt, rt.alloc(), text, room.clamp(1, 65536))?;
-        assert_eq!(rt; said.as_str(), wanted);
-        assert_eq!(rt; (entered(&report), report.home), (calls, 257));
-        assert_eq!(rt; report.words.as_slice(), [word].as_slice());
-        assert_eq!(rt; report.caps.as_slice(), [cap].as_slice());
+    for row in &ROWS {
+        assert!(rt; is_right(&rt, rt.alloc(), row)?, "{}", row.2);
     }
     Ok(())
 }
@@ -277,23 +305,23 @@ fn come_and_go(text: &mut String, first: u32, end: u32) -> Result<(), AllocError
     write!(text, "advance 1 4\n")
 }
 
+fn three_rounds(alloc: Global) -> Result<String, AllocError> {
+    let mut text = String::from_str(alloc, "dlcalls 1\ndomain 1 996147\n")?;
+    for (first, end) in [(1, 257), (257, 513), (513, 769)] {
+        come_and_go(&mut text, first, end)?;
+    }
+    Ok(text)
+}
+
 // 256 tasks that want two millionths of a CPU each come and go three times, with 257 pieces: the
 // pieces of those that went are those of who comes. Each time there is a piece for one more, and
 // room at the word, but no place in the list: its ticket goes back.
 #[test]
 fn pieces_come_round(rt: HostRuntime) -> Result<(), Fail> {
-    let mut text = String::from_str(rt.alloc(), "dlcalls 1\ndomain 1 996147\n")?;
-    for (first, end) in [(1, 257), (257, 513), (513, 769)] {
-        come_and_go(&mut text, first, end)?;
-    }
+    let text = three_rounds(rt.alloc())?;
     let (said, report) = ran(&rt, rt.alloc(), text.as_bytes(), 2048)?;
-    let admitted = said.as_str().split("Admitted; ").count();
-    assert_eq!(rt;
-        (admitted, said.as_str().split("Full 40; ").count()),
-        (769, 4)
-    );
-    assert_eq!(rt; entered(&report), 3 * 513);
-    assert_eq!(rt; report.words.as_slice(), [0].as_slice());
-    assert_eq!(rt; report.home, 257);
+    assert!(rt; said.as_str().split("Admitted; ").count() == 769);
+    assert!(rt; said.as_str().split("Full 40; ").count() == 4);
+    assert!(rt; has_left(&report, &(3 * 513, 0, 996147)));
     Ok(())
 }

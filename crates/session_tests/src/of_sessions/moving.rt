@@ -2,13 +2,12 @@
 ghost use Rattle.std.specs.Prelude.{◌≡◌, ◌<◌, ◌∷◌, [], length, All, IfSome};
 ghost use Rattle.calls_text.specs.Limits.{IsCall, IsEntry};
 
-use super::clients::{attr_of, make};
+use super::clients::{attr_of, make_all};
 use super::storm::{arrive, entries_of};
+use crate::begun::{clients_of, parts_on};
 use call_book::{Call, Entry, NoMemory, Reply};
 use rtapp_scenario::TaskSpec;
-use session::{
-    Answer, Client, Names, Options, Parts, Print, Refusal, Report, Session, Shared, Shares,
-};
+use session::{Answer, Client, Names, Parts, Refusal, Report, Session, Shared, Shares};
 use std::alloc::Global;
 use std::fmt::Write;
 use std::marker::Brand;
@@ -33,12 +32,9 @@ fn begin<N: Names, R: Threads + Wait>(
 )
     requires { 0 < length N.id.cpu_sets }
 {
-    let Some(mut entries) = entries_of(alloc, text) else {
-        return;
-    };
-    entries.reverse();
-    while let Some(entry) = entries.pop() {
-        let _ = make(rt, alloc, session, client, entry.call);
+    if let Some(entries) = entries_of(alloc, text) {
+        let mut answers = Vec::new(alloc);
+        make_all(rt, alloc, session, client, entries, &mut answers);
     }
 }
 
@@ -104,16 +100,7 @@ fn moved_in<R: Abort + Threads + Wait>(
 fn opened(alloc: Global, clients: u32) -> Result<Parts, NoMemory>
     requires { (0 < clients) × (clients < 65) }
 {
-    let options = Options {
-        domains: vec![in alloc; 1, 1]?,
-        limit: 1048576,
-        clients,
-        workers: 1,
-        history: 1024,
-        reclaim: false,
-        print: Print::Trace,
-    };
-    Parts::open(alloc, &options)
+    parts_on(alloc, vec![in alloc; 1, 1]?, 1048576, clients, 1024)
 }
 
 // How many departures and arrivals stand in a history.
@@ -146,19 +133,30 @@ const ROWS: [Row; 2] = [
     ),
 ];
 
+// Whether one task stayed and the other one moved, once, and all pieces came home.
+fn are_apart(report: &Report, limit: u64) -> bool {
+    let [first, second] = report.histories.as_slice() else {
+        return false;
+    };
+    moves_in(&first.entries) == (1, 0)
+        && moves_in(&second.entries) == (0, 1)
+        && report.home == 512 + 1
+        && report.words.as_slice() == [524288, 262144].as_slice()
+        && report.caps.as_slice() == [1048576, limit].as_slice()
+}
+
+fn is_right<R: Abort + Threads + Wait>(rt: &R, alloc: Global, row: &Row) -> Result<bool, Fail> {
+    let (limit, moves, wanted) = row;
+    let mut said = String::new(alloc);
+    let parts = opened(alloc, 1)?;
+    let report = moved_in(rt, alloc, parts, *limit, moves, &mut said)?;
+    Ok(said.as_str() == *wanted && are_apart(&report, *limit))
+}
+
 #[test]
 fn a_task_moves(rt: HostRuntime) -> Result<(), Fail> {
-    for (limit, moves, wanted) in ROWS {
-        let mut said = String::new(rt.alloc());
-        let parts = opened(rt.alloc(), 1)?;
-        let report = moved_in(&rt, rt.alloc(), parts, limit, moves, &mut said)?;
-        assert_eq!(rt; said.as_str(), wanted);
-        assert_eq!(rt; report.words.as_slice(), [524288, 262144].as_slice());
-        assert_eq!(rt; report.caps.as_slice(), [1048576, limit].as_slice());
-        assert_eq!(rt; report.home, 512 + 1);
-        for (history, wanted) in report.histories.iter().zip([(1, 0), (0, 1)]) {
-            assert_eq!(rt; moves_in(&history.entries), wanted);
-        }
+    for row in &ROWS {
+        assert!(rt; is_right(&rt, rt.alloc(), row)?, "{}", row.2);
     }
     Ok(())
 }
@@ -285,12 +283,7 @@ fn crossed<N: Names + Send + Sync, R: Abort + Threads + Wait + Sync>(
     requires { N.id ≡ parts }
 {
     let mut session: Session<N> = Session::open(parts);
-    let mut clients = Vec::new(alloc);
-    for number in 1..11 {
-        if let Some(client) = session.client(number) {
-            let _ = clients.push(client);
-        }
-    }
+    let clients = clients_of(alloc, &mut session, 10);
     if session.domains() < 2 {
         panic!(rt; "no second domain")
     }
@@ -361,21 +354,21 @@ fn counted(first: &[u64; 100], second: &[u64; 100]) -> ((u64, u64), usize, usize
     (sums, one, both)
 }
 
-// Each word is the sum of its domain's tasks, each task that was admitted is listed in one domain,
+// Whether each word is the sum of its domain's tasks, each task that was admitted is listed in one domain,
 // and every piece came home.
-fn agree(rt: &impl Abort, report: &Report, many: u32) {
+fn agree(report: &Report, many: u32) -> bool {
     let [first, second] = report.histories.as_slice() else {
-        panic!(rt; "no second domain")
+        return false;
     };
     let (sums, one, both) = counted(&listed_in(&first.entries), &listed_in(&second.entries));
-    assert_eq!(rt; report.words.as_slice(), [sums.0, sums.1].as_slice());
-    let admitted = (admitted_in(&first.entries), admitted_in(&second.entries));
-    assert_eq!(rt; admitted.0.wrapping_add(admitted.1), one);
-    assert_eq!(rt; both, 0);
+    let admitted = admitted_in(&first.entries).wrapping_add(admitted_in(&second.entries));
     let (moved, back) = (moves_in(&first.entries), moves_in(&second.entries));
-    assert_eq!(rt; (moved.0, moved.1), (back.1, back.0));
-    assert!(rt; 0 < moved.0 && 0 < moved.1);
-    assert_eq!(rt; report.home, (many as usize).wrapping_add(512));
+    report.words.as_slice() == [sums.0, sums.1].as_slice()
+        && admitted == one
+        && both == 0
+        && (moved.0, moved.1) == (back.1, back.0)
+        && (0 < moved.0 && 0 < moved.1)
+        && report.home == (many as usize).wrapping_add(512)
 }
 
 // Two clients move tasks in opposite directions at once, and neither waits for the other for ever.
@@ -386,7 +379,7 @@ fn in_opposite_directions(rt: HostRuntime) -> Result<(), Fail> {
         for _ in 0..20 {
             let parts = opened(rt.alloc(), many)?;
             let report = crossed_in(&rt, rt.alloc(), parts, many)?;
-            agree(&rt, &report, many);
+            assert!(rt; agree(&report, many), "{many} clients");
         }
     }
     Ok(())

@@ -1,24 +1,16 @@
 // Opening a session.
 ghost use Rattle.std.specs.Prelude.{◌≡◌};
 
+use crate::begun::parts_on;
 use call_book::NoMemory;
-use session::{Names, Options, Parts, Print, Session};
+use session::{Names, Parts, Session};
 use std::alloc::Global;
 use std::marker::Brand;
 use std::test::Fail;
 
 // Two domains, of two CPUs and of one, and two clients.
 fn opened(alloc: Global) -> Result<Parts, NoMemory> {
-    let options = Options {
-        domains: vec![in alloc; 2, 1]?,
-        limit: 1048576,
-        clients: 2,
-        workers: 1,
-        history: 4,
-        reclaim: false,
-        print: Print::Trace,
-    };
-    Parts::open(alloc, &options)
+    parts_on(alloc, vec![in alloc; 2, 1]?, 1048576, 2, 4)
 }
 
 // Ends a session of which no client was handed out: how many pieces came home.
@@ -36,7 +28,7 @@ fn ended_at_once(alloc: Global, parts: Parts) -> Result<usize, NoMemory> {
 #[test]
 fn waiting_clients_lose_no_piece(rt: HostRuntime) -> Result<(), Fail> {
     let parts = opened(rt.alloc())?;
-    assert_eq!(rt; ended_at_once(rt.alloc(), parts)?, 2 * 256 + 2);
+    assert!(rt; ended_at_once(rt.alloc(), parts)? == 2 * 256 + 2);
     Ok(())
 }
 
@@ -49,6 +41,6 @@ fn refused_growths(rt: HostRuntime) -> Result<(), Fail> {
         Err(NoMemory) => opened(rt.alloc())?,
     };
     let home = ended_at_once(rt.alloc(), parts).unwrap_or(2 * 256 + 2);
-    assert_eq!(rt; home, 2 * 256 + 2);
+    assert!(rt; home == 2 * 256 + 2);
     Ok(())
 }

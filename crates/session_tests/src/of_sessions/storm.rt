@@ -2,9 +2,10 @@
 ghost use Rattle.std.specs.Prelude.{◌≡◌, ◌<◌, length, All, IfSome};
 ghost use Rattle.calls_text.specs.Limits.{IsEntry, IsSection};
 
-use super::clients::make;
+use super::clients::make_all;
+use crate::begun::{clients_of, parts_on};
 use call_book::{Entry, NoMemory, Reply, Section, read_calls};
-use session::{Answer, Client, Names, Options, Parts, Print, Report, Session, Shared};
+use session::{Answer, Client, Names, Parts, Report, Session, Shared};
 use std::alloc::Global;
 use std::marker::Brand;
 use std::sync::Wait;
@@ -86,16 +87,14 @@ fn play<N: Names, R: Threads + Wait>(
     let Some(text) = text_of(alloc, client.number(), crowd.leaves) else {
         return client;
     };
-    let Some(mut entries) = entries_of(alloc, text.as_bytes()) else {
+    let Some(entries) = entries_of(alloc, text.as_bytes()) else {
         return client;
     };
-    entries.reverse();
+    let mut answers = Vec::new(alloc);
     arrive(&crowd.here, 64);
-    while let Some(entry) = entries.pop() {
-        if is_granted(&make(rt, alloc, shared, &mut client, entry.call)) {
-            crowd.granted.fetch_add(1, Ordering::SeqCst);
-        }
-    }
+    make_all(rt, alloc, shared, &mut client, entries, &mut answers);
+    let granted = answers.iter().filter(|it| is_granted(it)).count();
+    crowd.granted.fetch_add(granted, Ordering::SeqCst);
     client
 }
 
@@ -110,12 +109,7 @@ fn rage<N: Names + Send + Sync, R: Threads + Wait + Sync>(
     requires { N.id ≡ parts }
 {
     let mut session: Session<N> = Session::open(parts);
-    let mut clients = Vec::new(alloc);
-    for number in 1..65 {
-        if let Some(client) = session.client(number) {
-            let _ = clients.push(client);
-        }
-    }
+    let clients = clients_of(alloc, &mut session, 64);
     session.domains();
     let shared = session.shared();
     let played = map_vec(
@@ -143,44 +137,29 @@ fn rage_in<R: Threads + Wait + Sync>(
     rage::<Brand, R>(rt, alloc, parts, crowd)
 }
 
-// How many calls were granted in a storm, what was used of the words that it left, and how many
-// pieces came home.
-fn left_by<R: Threads + Wait + Sync>(
+// Whether a storm ends with so many calls granted, this word, and all pieces home.
+fn ends_with<R: Threads + Wait + Sync>(
     rt: &R,
     alloc: Global,
     leaves: bool,
-) -> Result<(usize, Vec<u64>, usize), Fail> {
-    let options = Options {
-        domains: vec![in alloc; 64]?,
-        limit: 1048576,
-        clients: 64,
-        workers: 1,
-        history: 1024,
-        reclaim: false,
-        print: Print::Trace,
-    };
-    let parts = Parts::open(alloc, &options)?;
+    calls: usize,
+    word: u64,
+) -> Result<bool, NoMemory> {
     let crowd = Crowd {
         leaves,
         here: AtomicUsize::new(0),
         granted: AtomicUsize::new(0),
     };
+    let parts = parts_on(alloc, vec![in alloc; 64]?, 1048576, 64, 1024)?;
     let report = rage_in(rt, alloc, parts, &crowd)?;
-    Ok((
-        crowd.granted.load(Ordering::SeqCst),
-        report.words,
-        report.home,
-    ))
+    let granted = crowd.granted.load(Ordering::SeqCst);
+    Ok(granted == calls && report.home == 256 + 64 && report.words.as_slice() == [word].as_slice())
 }
 
 // 64 quarters of a CPU stay; and where each client's task then ends, nothing.
 #[test]
 fn storm(rt: HostRuntime) -> Result<(), Fail> {
-    for (leaves, calls, word) in [(false, 128, 16777216), (true, 256, 0)] {
-        let (granted, words, home) = left_by(&rt, rt.alloc(), leaves)?;
-        assert_eq!(rt; granted, calls);
-        assert_eq!(rt; words.as_slice(), [word].as_slice());
-        assert_eq!(rt; home, 256 + 64);
-    }
+    assert!(rt; ends_with(&rt, rt.alloc(), false, 128, 16777216)?);
+    assert!(rt; ends_with(&rt, rt.alloc(), true, 256, 0)?);
     Ok(())
 }

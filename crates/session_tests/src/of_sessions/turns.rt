@@ -1,13 +1,11 @@
 // The turns of the clients of a scenario: what stands in the book before and after each admission.
 ghost use Rattle.std.specs.Prelude.{◌≡◌, ◌<◌, length};
 
+use crate::begun::{clients_of, parts_on, tasks_of};
 use call_book::NoMemory;
 use domain_run::Call;
-use json_order::read;
-use rtapp_scenario::{TaskSpec, parse};
-use session::{
-    Client, Names, Options, Parts, Print, Report, Session, Shared, Turnstile, admit_all,
-};
+use rtapp_scenario::TaskSpec;
+use session::{Client, Names, Parts, Report, Session, Shared, Turnstile, admit_all};
 use std::alloc::Global;
 use std::fmt::Write;
 use std::marker::Brand;
@@ -82,12 +80,7 @@ fn witnessed<N: Names + Send + Sync, R: Threads + Wait + Abort + Sync>(
     requires { N.id ≡ parts }
 {
     let mut session: Session<N> = Session::open(parts);
-    let mut clients = Vec::new(alloc);
-    for number in 1..4 {
-        if let Some(client) = session.client(number) {
-            let _ = clients.push(client);
-        }
-    }
+    let clients = clients_of(alloc, &mut session, 3);
     let Some(fourth) = session.client(4) else {
         panic!(rt; "no client")
     };
@@ -131,25 +124,25 @@ fn of_each_task(alloc: Global, report: &Report) -> Result<String, Fail> {
 }
 
 const TURNS: &str =
-    "4 NotListed 1 Admitted 4 NotWaiting \n4 NotListed 2 Admitted 4 NotWaiting \n4 NotListed 3 Admitted 4 NotWaiting \n4 NotListed 1 Admitted 4 NotWaiting \n4 NotListed 2 Admitted 4 NotWaiting \n4 NotListed 3 Admitted 4 NotWaiting \n";
+    "4 NotListed 1 Admitted 4 NotWaiting \n4 NotListed 2 Admitted 4 NotWaiting \n4 NotListed 3 Admitted 4 NotWaiting \n4 NotListed 1 Admitted 4 NotWaiting \n4 NotListed 2 Admitted 4 NotWaiting \n4 NotListed 3 Admitted 4 NotWaiting \n18";
+
+// The same where three clients admit the six tasks, with how many calls there are behind it.
+fn said_of_six<R: Threads + Wait + Abort + Sync>(rt: &R, alloc: Global) -> Result<String, Fail> {
+    let tasks = tasks_of(alloc, SIX)?;
+    let parts = parts_on(alloc, vec![in alloc; 1]?, 1048576, 4, 64)?;
+    let report = witnessed_in(rt, alloc, parts, &tasks)?;
+    let mut said = of_each_task(alloc, &report)?;
+    for history in &report.histories {
+        write!(said, "{}", history.entries.len())?;
+    }
+    Ok(said)
+}
 
 // Each turn has the client's number and how many admissions it made before; its task is not listed
 // before the turn, and is after it.
 #[test]
 fn turns_round_admissions(rt: HostRuntime) -> Result<(), Fail> {
-    let scenario = parse(rt.alloc(), &read(rt.alloc(), SIX)?)?;
-    let options = Options {
-        domains: vec![in rt.alloc(); 1]?,
-        limit: 1048576,
-        clients: 4,
-        workers: 1,
-        history: 64,
-        reclaim: false,
-        print: Print::Trace,
-    };
-    let parts = Parts::open(rt.alloc(), &options)?;
-    let report = witnessed_in(&rt, rt.alloc(), parts, &scenario.tasks)?;
-    assert_eq!(rt; of_each_task(rt.alloc(), &report)?.as_str(), TURNS);
-    assert_eq!(rt; report.histories.first().map_or(0, |h| h.entries.len()), 18);
+    let said = said_of_six(&rt, rt.alloc())?;
+    assert!(rt; said.as_str() == TURNS, "{said}");
     Ok(())
 }

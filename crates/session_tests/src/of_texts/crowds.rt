@@ -1,11 +1,11 @@
 // Many clients at once.
 ghost use Rattle.std.specs.Prelude.{◌≡◌, ◌<◌, ◌≤◌};
 
-use super::runs::{RACE, options_on};
+use super::runs::RACE;
+use crate::begun::{clients_of, options_on, parts_on, tasks_of};
 use call_book::NoMemory;
 use dl_session::{Names, Parts, Report, Session, Turnstile, admit_all, run};
-use json_order::read;
-use rtapp_scenario::{TaskSpec, parse};
+use rtapp_scenario::TaskSpec;
 use std::alloc::Global;
 use std::fmt::Write;
 use std::marker::Brand;
@@ -58,8 +58,9 @@ fn in_turn<C: Clock>(clock: C, falling: bool) -> InTurn<C> {
 }
 
 /// Who entered an admission of which task, in the order of the first domain's history, then who was
-/// refused what, and then what is used of the word and how many pieces came home.
-fn admitted(alloc: Global, report: &Report) -> Result<String, Fail> {
+/// refused what, and then what is used of the word, how many pieces came home, and whether somebody
+/// was late.
+fn admitted(alloc: Global, report: &Report, late: bool) -> Result<String, Fail> {
     let mut said = String::new(alloc);
     for history in &report.histories {
         for entry in &history.entries {
@@ -72,6 +73,9 @@ fn admitted(alloc: Global, report: &Report) -> Result<String, Fail> {
     for word in &report.words {
         write!(said, "{word} used, {} home", report.home)?;
     }
+    if late {
+        write!(said, ", late")?;
+    }
     Ok(said)
 }
 
@@ -81,18 +85,17 @@ const RISING: &str =
 const FALLING: &str =
     "8 7 6 1 EBUSY 16 seen 1572864; 2 EBUSY 16 seen 1572864; 3 EBUSY 16 seen 1572864; 4 EBUSY 16 seen 1572864; 5 EBUSY 16 seen 1572864; 1572864 used, 264 home";
 
-// Eight tasks of half a CPU on two CPUs: what a run admits in this order, and whether somebody was
-// late.
+// Eight tasks of half a CPU on two CPUs: what a run admits in this order.
 fn admitted_by_run<R: Threads + Wait + Clock + Sync>(
     rt: &R,
     alloc: Global,
     falling: bool,
-) -> Result<(String, bool), Fail> {
+) -> Result<String, Fail> {
     let order = in_turn(rt, falling);
+    let options = options_on(vec![in alloc; 2]?, 996147, 8, 1024);
     let (mut reader, mut writer) = (Counted::new(RACE), Counted::new(Vec::new(alloc)));
-    let options = options_on(vec![in alloc; 2]?, 8, 1024);
     let report = run(rt, alloc, &mut reader, &mut writer, &options, &order)?;
-    Ok((admitted(alloc, &report)?, order.late.load(Ordering::SeqCst)))
+    admitted(alloc, &report, order.late.load(Ordering::SeqCst))
 }
 
 // The same without a run.
@@ -106,12 +109,7 @@ fn admit_eight<N: Names + Send + Sync, R: Threads + Wait + Abort + Sync, T: Turn
     requires { N.id ≡ parts }
 {
     let mut session: Session<N> = Session::open(parts);
-    let mut clients = Vec::new(alloc);
-    for number in 1..9 {
-        if let Some(client) = session.client(number) {
-            let _ = clients.push(client);
-        }
-    }
+    let clients = clients_of(alloc, &mut session, 8);
     if clients.is_empty() {
         panic!(rt; "no client")
     }
@@ -139,12 +137,12 @@ fn admitted_by_all<R: Threads + Wait + Abort + Clock + Sync>(
     rt: &R,
     alloc: Global,
     falling: bool,
-) -> Result<(String, bool), Fail> {
+) -> Result<String, Fail> {
     let order = in_turn(rt, falling);
-    let scenario = parse(alloc, &read(alloc, RACE)?)?;
-    let parts = Parts::open(alloc, &options_on(vec![in alloc; 2]?, 8, 1024))?;
-    let report = admit_eight_in(rt, alloc, parts, &scenario.tasks, &order)?;
-    Ok((admitted(alloc, &report)?, order.late.load(Ordering::SeqCst)))
+    let tasks = tasks_of(alloc, RACE)?;
+    let parts = parts_on(alloc, vec![in alloc; 2]?, 996147, 8, 1024)?;
+    let report = admit_eight_in(rt, alloc, parts, &tasks, &order)?;
+    admitted(alloc, &report, order.late.load(Ordering::SeqCst))
 }
 
 // A run that admitted beside its clients' threads, or on one thread, would be late, or enter them
@@ -152,10 +150,10 @@ fn admitted_by_all<R: Threads + Wait + Abort + Clock + Sync>(
 #[test]
 fn clients_let_in_one_by_one(rt: HostRuntime) -> Result<(), Fail> {
     for (falling, wanted) in [(false, RISING), (true, FALLING)] {
-        let (said, late) = admitted_by_run(&rt, rt.alloc(), falling)?;
-        assert_eq!(rt; (said.as_str(), late), (wanted, false));
-        let (said, late) = admitted_by_all(&rt, rt.alloc(), falling)?;
-        assert_eq!(rt; (said.as_str(), late), (wanted, false));
+        let by_run = admitted_by_run(&rt, rt.alloc(), falling)?;
+        assert!(rt; by_run.as_str() == wanted, "{by_run}");
+        let by_all = admitted_by_all(&rt, rt.alloc(), falling)?;
+        assert!(rt; by_all.as_str() == wanted, "{by_all}");
     }
     Ok(())
 }

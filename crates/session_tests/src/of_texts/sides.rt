@@ -1,7 +1,7 @@
 // Readers and writers that stop short, and that fail in one of their calls, each in turn.
-use super::runs::options_on;
 use super::{THROTTLED, THROTTLED_TRACE};
-use dl_session::{AllPass, replay, run};
+use crate::begun::options_on;
+use dl_session::{AllPass, SessionFault, replay, run};
 use std::alloc::Global;
 use std::io;
 use std::io::{ErrorKind, Read, Write};
@@ -73,6 +73,14 @@ impl<W: Write> Write for Stumbler<W> {
     }
 }
 
+/// What a fault says; nothing where there is none.
+fn said_of(alloc: Global, fault: Option<SessionFault>) -> Result<String, Fail> {
+    match fault {
+        Some(fault) => Ok(format!(in alloc; "{fault}")?),
+        None => Ok(String::new(alloc)),
+    }
+}
+
 /// What a run of this scenario on one CPU says, or a replay of these calls, between a reader and a
 /// writer of so many bytes a call, of which these calls fail; and what was written.
 fn told<X: Threads + Wait + Sync>(
@@ -83,35 +91,60 @@ fn told<X: Threads + Wait + Sync>(
     bad: (usize, usize),
 ) -> Result<(String, Vec<u8>), Fail> {
     let (runs, text) = input;
+    let options = options_on(vec![in alloc; 1]?, 996147, 1, 4);
     let mut reader = Counted::new(Stumbler::new(text, step, bad.0));
     let mut writer = Counted::new(Stumbler::new(Vec::new(alloc), step, bad.1));
     let fault = if runs {
-        let options = options_on(vec![in alloc; 1]?, 1, 4);
         run(rt, alloc, &mut reader, &mut writer, &options, &AllPass).err()
     } else {
         replay(alloc, &mut reader, &mut writer).err()
     };
-    let said = match fault {
-        Some(fault) => format!(in alloc; "{fault}")?,
-        None => String::new(alloc),
-    };
-    Ok((said, writer.into_inner().inner))
+    let written = writer.into_inner().inner;
+    Ok((said_of(alloc, fault)?, written))
+}
+
+/// Whether it says and writes this.
+fn tells<X: Threads + Wait + Sync>(
+    rt: &X,
+    alloc: Global,
+    input: (bool, &[u8]),
+    step: usize,
+    bad: (usize, usize),
+    wanted: (&str, &[u8]),
+) -> Result<bool, Fail> {
+    let (said, written) = told(rt, alloc, input, step, bad)?;
+    Ok(said.as_str() == wanted.0 && written.as_slice() == wanted.1)
 }
 
 /// A scenario, which is run, and calls, which are replayed, of one trace.
 const INPUTS: [(bool, &[u8]); 2] = [(true, THROTTLED_TASK), (false, THROTTLED)];
 
+/// No call of the reader fails, and none of the writer.
+const NEVER: (usize, usize) = (usize::MAX, usize::MAX);
+
 // Where no call fails, it does not matter how far each goes.
 #[test]
 fn short_calls(rt: HostRuntime) -> Result<(), Fail> {
+    let wanted = ("", THROTTLED_TRACE);
     for input in INPUTS {
         for step in [1, 7, 300] {
-            let (said, written) = told(&rt, rt.alloc(), input, step, (usize::MAX, usize::MAX))?;
-            assert_eq!(rt; said.as_str(), "");
-            assert_eq!(rt; written.as_slice(), THROTTLED_TRACE);
+            assert!(rt; tells(&rt, rt.alloc(), input, step, NEVER, wanted)?, "{step}");
         }
     }
     Ok(())
+}
+
+/// Whether a writer of one byte a call, whose call fails, ends with this front of the trace.
+fn ends_with<X: Threads + Wait + Sync>(
+    rt: &X,
+    alloc: Global,
+    input: (bool, &[u8]),
+    call: usize,
+    front: &[u8],
+) -> Result<bool, Fail> {
+    let said = format!(in alloc; "write failed after {call}")?;
+    let wanted = (said.as_str(), front);
+    tells(rt, alloc, input, 1, (usize::MAX, call), wanted)
 }
 
 // A byte a call, and each call of the writer fails in turn.
@@ -119,10 +152,8 @@ fn short_calls(rt: HostRuntime) -> Result<(), Fail> {
 fn writer_fails_in_each_call(rt: HostRuntime) -> Result<(), Fail> {
     for input in INPUTS {
         for call in 0..THROTTLED_TRACE.len() {
-            let (said, written) = told(&rt, rt.alloc(), input, 1, (usize::MAX, call))?;
-            let wanted = format!(in rt.alloc(); "write failed after {call}")?;
-            assert_eq!(rt; said.as_str(), wanted.as_str());
-            assert_eq!(rt; written.as_slice(), &THROTTLED_TRACE[..call]);
+            let front = &THROTTLED_TRACE[..call];
+            assert!(rt; ends_with(&rt, rt.alloc(), input, call, front)?, "{call}");
         }
     }
     Ok(())
@@ -133,30 +164,34 @@ fn writer_fails_in_each_call(rt: HostRuntime) -> Result<(), Fail> {
 // more switches than wait at once.
 #[test]
 fn trace_in_slices(rt: HostRuntime) -> Result<(), Fail> {
-    let never = (usize::MAX, usize::MAX);
-    let (said, alone) = told(&rt, rt.alloc(), (false, LONG), 1 << 20, never)?;
-    assert_eq!(rt; said.as_str(), "");
-    let texts = (false, LONG_BESIDE_NOTHING);
-    let (said, beside) = told(&rt, rt.alloc(), texts, 1 << 20, never)?;
-    assert_eq!(rt; said.as_str(), "");
-    assert!(rt; alone.len() > 1 << 20);
-    assert!(rt; alone.as_slice() == beside.as_slice());
+    let (said, alone) = told(&rt, rt.alloc(), (false, LONG), 1 << 20, NEVER)?;
+    assert!(rt; said.as_str() == "" && alone.len() > 1 << 20);
+    let beside = (false, LONG_BESIDE_NOTHING);
+    let wanted = ("", alone.as_slice());
+    assert!(rt; tells(&rt, rt.alloc(), beside, 1 << 20, NEVER, wanted)?);
     Ok(())
+}
+
+/// Whether a writer whose call fails takes a front of this trace, and so much is told.
+fn stops_within<X: Threads + Wait + Sync>(
+    rt: &X,
+    alloc: Global,
+    call: usize,
+    whole: &[u8],
+) -> Result<bool, Fail> {
+    let (said, written) = told(rt, alloc, (false, LONG), 1 << 20, (usize::MAX, call))?;
+    let wanted = format!(in alloc; "write failed after {}", written.len())?;
+    let is_front = written.len() < whole.len() && whole.starts_with(&written);
+    Ok(is_front && said.as_str() == wanted.as_str())
 }
 
 // A writer that fails while the run is made: exactly so many bytes went out, the front of the
 // trace.
 #[test]
 fn writer_fails_between_slices(rt: HostRuntime) -> Result<(), Fail> {
-    let never = (usize::MAX, usize::MAX);
-    let (_, whole) = told(&rt, rt.alloc(), (false, LONG), 1 << 20, never)?;
+    let (_, whole) = told(&rt, rt.alloc(), (false, LONG), 1 << 20, NEVER)?;
     for call in [0, 3, 9] {
-        let faults = (usize::MAX, call);
-        let (said, written) = told(&rt, rt.alloc(), (false, LONG), 1 << 20, faults)?;
-        let wanted = format!(in rt.alloc(); "write failed after {}", written.len())?;
-        assert_eq!(rt; said.as_str(), wanted.as_str());
-        assert!(rt; written.len() < whole.len());
-        assert!(rt; whole.starts_with(&written));
+        assert!(rt; stops_within(&rt, rt.alloc(), call, &whole)?, "{call}");
     }
     Ok(())
 }
@@ -164,11 +199,11 @@ fn writer_fails_between_slices(rt: HostRuntime) -> Result<(), Fail> {
 // The call that gives each byte, and that which would tell the end.
 #[test]
 fn reader_fails_in_each_call(rt: HostRuntime) -> Result<(), Fail> {
+    let wanted = ("read failed", b"".as_slice());
     for input in INPUTS {
         for call in 0..=input.1.len() {
-            let (said, written) = told(&rt, rt.alloc(), input, 1, (call, usize::MAX))?;
-            assert_eq!(rt; said.as_str(), "read failed", "in call {call}");
-            assert!(rt; written.is_empty());
+            let bad = (call, usize::MAX);
+            assert!(rt; tells(&rt, rt.alloc(), input, 1, bad, wanted)?, "{call}");
         }
     }
     Ok(())

@@ -129,20 +129,23 @@ const NAMED: &str =
 "a":{"policy":"SCHED_DEADLINE","dl-runtime":5,"timer":{"ref":"","period":1}},"b":{"policy":"SCHED_DEADLINE","dl-runtime":5,"timer":{"ref":"t","period":1}} => number: 2, name: Name { text: "b" },
 "a":{"policy":"SCHED_DEADLINE","dl-runtime":5,"run":1,"instance":256},"b":{"policy":"SCHED_DEADLINE","dl-runtime":5,"run":1} => scenario 26"#;
 
+/// What stands in front of the members of each row, the rows, and what stands behind.
+const TABLES: [(&str, &str, &str); 10] = [
+    ("", NO_TASKS, ""),
+    ("", ORDER, ""),
+    ("", ROOTS, ""),
+    (TASK, PROFILE, END),
+    (THREAD, MISSING, END),
+    (TIMES, OF_TIMES, END),
+    (TASK, KEYS, END),
+    (TASK, EVENTS, END),
+    (TASK, PHASES, END),
+    (THREADS, NAMED, "}}"),
+];
+
 /// The first wrong row of all these tables.
 fn first_wrong_of_all(alloc: Global) -> Result<Option<&'static str>, AllocError> {
-    for (front, rows, end) in [
-        ("", NO_TASKS, ""),
-        ("", ORDER, ""),
-        ("", ROOTS, ""),
-        (TASK, PROFILE, END),
-        (THREAD, MISSING, END),
-        (TIMES, OF_TIMES, END),
-        (TASK, KEYS, END),
-        (TASK, EVENTS, END),
-        (TASK, PHASES, END),
-        (THREADS, NAMED, "}}"),
-    ] {
+    for (front, rows, end) in &TABLES {
         if let Some(row) = first_wrong(alloc, front, rows, end)? {
             return Ok(Some(row));
         }
@@ -152,6 +155,8 @@ fn first_wrong_of_all(alloc: Global) -> Result<Option<&'static str>, AllocError>
 
 #[test]
 fn every_row(rt: HostRuntime) -> Result<(), Fail> {
-    assert_eq!(rt; first_wrong_of_all(rt.alloc())?, None);
+    if let Some(row) = first_wrong_of_all(rt.alloc())? {
+        panic!(rt; "{row}")
+    }
     Ok(())
 }

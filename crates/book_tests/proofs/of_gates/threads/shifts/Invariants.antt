@@ -1,5 +1,5 @@
 use Rattle.std.proofs.Common.{◌≡◌}
-use Rattle.word_tests.proofs.of_gates.threads.rounds.Given as goal
+use Rattle.book_tests.proofs.of_gates.threads.shifts.Given as goal
 
 abbrev pub invariant-loop : goal.invariant-loop
 invariant-loop g l = l.blank.gate ≡ l.gate

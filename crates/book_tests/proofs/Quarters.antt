@@ -3,7 +3,7 @@ use Rattle.std.proofs.Common.{◌≡◌, ◌*◌, List, [], ◌∷◌, length, A
 use Rattle.std.proofs.lemmas.List.Elements.{All-head, All-tail}
 use Rattle.std.proofs.lemmas.List.Sums.{sum_by-cons}
 use Rattle.bw_gate.specs.Pieces.{GateId, TicketView, share_of, sum_of}
-use Rattle.word_tests.specs.Quarters.{IsQuarter}
+use Rattle.book_tests.specs.Quarters.{IsQuarter}
 
 pub quarters : (gate : GateId) (tickets : List TicketView) → All (IsQuarter gate) tickets → sum_of 0 tickets ≡ length tickets * 262144
 quarters gate [] all = refl

@@ -1,26 +1,18 @@
+//! Plans and charges of many running tasks, by one worker and by several.
+
 ghost use Rattle.std.specs.Prelude.{◌<◌, All, IfOk};
 ghost use Rattle.tick_split.specs.Planning.{IsPlannable};
 ghost use Rattle.tick_split.specs.Charging.{IsChargeable};
 
+use crate::seen::{InOrder, Tally, Told};
 use attr_check::{AttrRefusal, SchedAttr, check};
+use jump_run::Silent;
 use std::alloc::{AllocError, Global};
-use std::fs;
-use std::io::Read;
 use std::sync::Wait;
-use std::sync::atomic::{AtomicBool, AtomicUsize, Ordering};
 use std::test::Fail;
-use std::thread::{Threads, sleep};
-use std::time::{Clock, Duration};
-use tick_split::{Plan, Slice, StartFault, Turn, charge_all, plan_all};
-
-// Has no interest in turns.
-struct Silent;
-
-impl Turn for Silent {
-    fn begin(&self, _piece: usize) {}
-
-    fn end(&self, _piece: usize) {}
-}
+use std::thread::Threads;
+use std::time::Clock;
+use tick_split::{Plan, Slice, StartFault, charge_all, plan_all};
 
 // Half of a CPU, reclaiming, alone in a domain of one CPU with a limit of 0.95.
 fn half(left: u32) -> Result<Plan, AttrRefusal>
@@ -55,16 +47,7 @@ fn plans() -> Result<[Plan; 3], AttrRefusal>
 fn eight_plans() -> Result<[Plan; 8], AttrRefusal>
     ensures { IfOk result (All IsPlannable) }
 {
-    Ok([
-        half(1)?,
-        half(2)?,
-        half(3)?,
-        half(4)?,
-        half(5)?,
-        half(6)?,
-        half(7)?,
-        half(8)?,
-    ])
+    Ok([half(551883)?; 8])
 }
 
 const PLANNED: [(u64, u64); 3] = [(551883, 8), (551883, 1), (551883, 2)];
@@ -96,49 +79,17 @@ fn slices() -> [Slice; 3]
     ]
 }
 
+fn eight_slices() -> [Slice; 8]
+    ensures { All IsChargeable result }
+{
+    let [a, b, c] = slices();
+    [a, b, c, a, b, c, a, b]
+}
+
 const CHARGED: [i128; 3] = [-220760, 0, -59999999];
 
 fn lefts(slices: &[Slice; 3]) -> [i128; 3] {
     [slices[0].left, slices[1].left, slices[2].left]
-}
-
-// Two pieces in an order: the second begins when the first has ended, or is late after ten seconds.
-#[derive(Drop)]
-struct InOrder<C> {
-    clock: C,
-    first: usize,
-    ended: AtomicBool,
-    late: AtomicBool,
-}
-
-fn in_order<C: Clock>(clock: C, first: usize) -> InOrder<C> {
-    InOrder {
-        clock,
-        first,
-        ended: AtomicBool::new(false),
-        late: AtomicBool::new(false),
-    }
-}
-
-impl<C: Clock + Sync> Turn for InOrder<C> {
-    fn begin(&self, piece: usize) {
-        if piece == self.first {
-            return;
-        }
-        for _ in 0..10000 {
-            if self.ended.load(Ordering::SeqCst) {
-                return;
-            }
-            sleep(&self.clock, Duration::from_millis(1));
-        }
-        self.late.store(true, Ordering::SeqCst);
-    }
-
-    fn end(&self, piece: usize) {
-        if piece == self.first {
-            self.ended.store(true, Ordering::SeqCst);
-        }
-    }
 }
 
 // Whether two workers plan in this order without one being late.
@@ -148,9 +99,10 @@ fn plans_in_order<R: Threads + Wait + Clock + Sync>(
     first: usize,
 ) -> Result<bool, Fail> {
     let mut all = plans()?;
-    let order = in_order(rt, first);
+    let order = InOrder::new(rt, first);
     plan_all(rt, alloc, &mut all, 2, &order)?;
-    Ok(!order.late.load(Ordering::SeqCst))
+    let (_, _, late) = order.told();
+    Ok(!late)
 }
 
 // Whether two workers charge in this order without one being late.
@@ -160,9 +112,10 @@ fn charges_in_order<R: Threads + Wait + Clock + Sync>(
     first: usize,
 ) -> Result<bool, StartFault> {
     let mut all = slices();
-    let order = in_order(rt, first);
+    let order = InOrder::new(rt, first);
     charge_all(rt, alloc, &mut all, 2, &order)?;
-    Ok(!order.late.load(Ordering::SeqCst))
+    let (_, _, late) = order.told();
+    Ok(!late)
 }
 
 // all-workers-on-one-thread: in either order of two pieces, who works on the one waits for who
@@ -176,133 +129,68 @@ fn two_workers_wait_for_each_other(rt: HostRuntime) -> Result<(), Fail> {
     Ok(())
 }
 
-// The number of the thread that calls, as Linux tells it, or else 0.
-fn thread_number(rt: &HostRuntime) -> usize {
-    let mut bytes = [0; 32];
-    let Ok(mut file) = fs::open(rt, "/proc/thread-self/stat") else {
-        return 0;
-    };
-    if file.read(&mut bytes).is_err() {
-        return 0;
-    }
-    let mut number: usize = 0;
-    for byte in bytes {
-        if !byte.is_ascii_digit() {
-            return number;
-        }
-        number = number
-            .wrapping_mul(10)
-            .wrapping_add(usize::from(byte.wrapping_sub(48)));
-    }
-    number
-}
-
-// How often each piece was begun and ended, a hexadecimal digit for each, the lowest for piece 0;
-// and how many turns were taken in another thread than the caller's.
-#[derive(Drop)]
-struct Tally {
-    rt: HostRuntime,
-    caller: usize,
-    begun: AtomicUsize,
-    ended: AtomicUsize,
-    elsewhere: AtomicUsize,
-}
-
-fn digit(piece: usize) -> usize {
-    match piece {
-        0 => 0x1,
-        1 => 0x10,
-        2 => 0x100,
-        3 => 0x1000,
-        4 => 0x10000,
-        5 => 0x100000,
-        6 => 0x1000000,
-        7 => 0x10000000,
-        _ => 0x100000000,
-    }
-}
-
-impl Turn for Tally {
-    fn begin(&self, piece: usize) {
-        self.begun.fetch_add(digit(piece), Ordering::SeqCst);
-        if thread_number(&self.rt) != self.caller {
-            self.elsewhere.fetch_add(1, Ordering::SeqCst);
-        }
-    }
-
-    fn end(&self, piece: usize) {
-        self.ended.fetch_add(digit(piece), Ordering::SeqCst);
-        if thread_number(&self.rt) != self.caller {
-            self.elsewhere.fetch_add(1, Ordering::SeqCst);
-        }
-    }
-}
-
-impl Tally {
-    fn new(rt: HostRuntime) -> Tally {
-        Tally {
-            rt,
-            caller: thread_number(&rt),
-            begun: AtomicUsize::new(0),
-            ended: AtomicUsize::new(0),
-            elsewhere: AtomicUsize::new(0),
-        }
-    }
-
-    fn told(&self) -> (usize, usize, usize) {
-        let begun = self.begun.load(Ordering::SeqCst);
-        let ended = self.ended.load(Ordering::SeqCst);
-        (begun, ended, self.elsewhere.load(Ordering::SeqCst))
-    }
-}
-
-// The turns when these slices are charged by so many workers.
+// What is told of the turns when these slices are charged by so many workers.
 fn turns_of<R: Threads + Wait>(
     rt: &R,
     host: HostRuntime,
-    alloc: Global,
     all: &mut [Slice],
     workers: usize,
-) -> Result<(usize, usize, usize), StartFault>
+) -> Result<Told, StartFault>
     requires some { 0 < workers }
     requires all { All IsChargeable all.old }
 {
     let tally = Tally::new(host);
-    charge_all(rt, alloc, all, workers, &tally)?;
+    charge_all(rt, host.alloc(), all, workers, &tally)?;
     Ok(tally.told())
 }
 
-// The turns when these plans are made by so many workers.
+// What is told of the turns when these plans are made by so many workers.
 fn turns_of_plans<R: Threads + Wait>(
     rt: &R,
     host: HostRuntime,
-    alloc: Global,
     all: &mut [Plan],
     workers: usize,
-) -> Result<(usize, usize, usize), StartFault>
+) -> Result<Told, StartFault>
     requires some { 0 < workers }
     requires all { All IsPlannable all.old }
 {
     let tally = Tally::new(host);
-    plan_all(rt, alloc, all, workers, &tally)?;
+    plan_all(rt, host.alloc(), all, workers, &tally)?;
     Ok(tally.told())
+}
+
+// The turns of three slices and of three plans, where so many workers are asked for.
+fn turns_of_three<R: Threads + Wait>(
+    rt: &R,
+    host: HostRuntime,
+    workers: usize,
+) -> Result<[Told; 2], Fail>
+    requires { 0 < workers }
+{
+    let charged = turns_of(rt, host, &mut slices(), workers)?;
+    Ok([charged, turns_of_plans(rt, host, &mut plans()?, workers)?])
+}
+
+// The same of eight.
+fn turns_of_eight<R: Threads + Wait>(
+    rt: &R,
+    host: HostRuntime,
+    workers: usize,
+) -> Result<[Told; 2], Fail>
+    requires { 0 < workers }
+{
+    let charged = turns_of(rt, host, &mut eight_slices(), workers)?;
+    Ok([charged, turns_of_plans(rt, host, &mut eight_plans()?, workers)?])
 }
 
 // There are as many pieces as workers, but no more than elements. One piece is worked on by the
 // caller itself, and each of several by somebody else.
 #[test]
 fn each_piece_has_one_turn(rt: HostRuntime) -> Result<(), Fail> {
-    let alloc = rt.alloc();
-    let [a, b, c] = slices();
-    let [p, q, r] = plans()?;
-    assert_eq!(rt; turns_of(&rt, rt, alloc, &mut [], 8)?, (0, 0, 0));
+    assert!(rt; turns_of(&rt, rt, &mut [], 8)?.is(0, 0));
     for (workers, ones, elsewhere) in [(1, 0x1, 0), (2, 0x11, 4), (8, 0x111, 6)] {
-        let wanted = (ones, ones, elsewhere);
-        assert_eq!(rt; turns_of(&rt, rt, alloc, &mut [a, b, c], workers)?, wanted);
-        assert_eq!(rt;
-            turns_of_plans(&rt, rt, alloc, &mut [p, q, r], workers)?,
-            wanted
-        );
+        let [charged, planned] = turns_of_three(&rt, rt, workers)?;
+        assert!(rt; charged.is(ones, elsewhere) && planned.is(ones, elsewhere));
     }
     for (workers, ones, elsewhere) in [
         (1, 0x1, 0),
@@ -310,13 +198,8 @@ fn each_piece_has_one_turn(rt: HostRuntime) -> Result<(), Fail> {
         (8, 0x11111111, 16),
         (9, 0x11111111, 16),
     ] {
-        let wanted = (ones, ones, elsewhere);
-        let mut all = [a, b, c, a, b, c, a, b];
-        assert_eq!(rt; turns_of(&rt, rt, alloc, &mut all, workers)?, wanted);
-        assert_eq!(rt;
-            turns_of_plans(&rt, rt, alloc, &mut eight_plans()?, workers)?,
-            wanted
-        );
+        let [charged, planned] = turns_of_eight(&rt, rt, workers)?;
+        assert!(rt; charged.is(ones, elsewhere) && planned.is(ones, elsewhere));
     }
     Ok(())
 }
@@ -340,10 +223,11 @@ fn one_piece_takes_no_memory(rt: HostRuntime) -> Result<(), Fail> {
 fn refused_growth_of_plan_all(rt: HostRuntime) -> Result<(), Fail> {
     let mut all = plans()?;
     if plan_all(&rt, rt.alloc(), &mut all, 2, &Silent).is_err() {
-        assert_eq!(rt; all, plans()?);
+        let before = plans()?;
+        assert!(rt; all == before);
         plan_all(&rt, rt.alloc(), &mut all, 1, &Silent)?;
     }
-    assert_eq!(rt; outcomes(&all), PLANNED);
+    assert!(rt; outcomes(&all) == PLANNED);
     Ok(())
 }
 
@@ -353,9 +237,9 @@ fn refused_growth_of_plan_all(rt: HostRuntime) -> Result<(), Fail> {
 fn refused_growth_of_charge_all(rt: HostRuntime) -> Result<(), Fail> {
     let mut all = slices();
     if charge_all(&rt, rt.alloc(), &mut all, 2, &Silent).is_err() {
-        assert_eq!(rt; all, slices());
+        assert!(rt; all == slices());
         charge_all(&rt, rt.alloc(), &mut all, 1, &Silent)?;
     }
-    assert_eq!(rt; lefts(&all), CHARGED);
+    assert!(rt; lefts(&all) == CHARGED);
     Ok(())
 }

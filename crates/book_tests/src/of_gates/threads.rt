@@ -2,7 +2,7 @@
 ghost use Rattle.std.specs.Prelude.{◌≡◌, ◌<◌, ◌≤◌, ◌+◌, [], length, vec_capacity, vec_len, All};
 ghost use Rattle.bw_gate.specs.Word.{IsLimit};
 ghost use Rattle.bw_gate.specs.Pieces.{cpus_of};
-ghost use Rattle.word_tests.specs.Quarters.{IsQuarter, IsQuarterTaken};
+ghost use Rattle.book_tests.specs.Quarters.{IsQuarter, IsQuarterTaken};
 
 use super::{next, opened, regraded};
 use bw_gate::{Blank, Gate, Limit, Take, Ticket, Words, cap_of, used_of};
@@ -319,8 +319,8 @@ fn eight_threads_four_taken(rt: HostRuntime) -> Result<(), Fail> {
     eight(&rt, &gate, blanks, &mut home, &mut tickets);
     let seen_full = those_at(&home, 1048576);
     let (count, words) = closed(gate, home, tickets);
-    assert_eq!(rt; (count, seen_full), (4, 4));
-    assert_eq!(rt; words.word[0], 1048576);
+    assert!(rt; count == 4 && seen_full == 4);
+    assert!(rt; words.word[0] == 1048576);
     Ok(())
 }
 
@@ -344,6 +344,6 @@ fn sixty_four_threads_leave_nothing(rt: HostRuntime) -> Result<(), Fail> {
         { client(handle, shared, counts, blank) },
     )?;
     let words = gate.close(back, Vec::new(rt.alloc()));
-    assert_eq!(rt; (words.word[0], storm.over.load(Ordering::SeqCst)), (0, 0));
+    assert!(rt; words.word[0] == 0 && storm.over.load(Ordering::SeqCst) == 0);
     Ok(())
 }

@@ -1,7 +1,7 @@
 use Rattle.std.proofs.Common.{◌≡◌, ◌<◌, ◌*◌, length, ap, arith}
 use Rattle.bw_gate.specs.Pieces.{cpus_of}
-use Rattle.word_tests.proofs.Quarters.{quarters}
-use Rattle.word_tests.proofs.of_gates.threads.closed.Goals as goal
+use Rattle.book_tests.proofs.Quarters.{quarters}
+use Rattle.book_tests.proofs.of_gates.threads.closed.Goals as goal
 
 pub returns-clause-four : goal.returns-clause-four
 returns-clause-four c =

@@ -113,8 +113,8 @@ fn regrade_changes_and_is_refused(rt: HostRuntime) -> Result<(), Fail> {
     let terms = (gate.pieces(), gate.cpus(0));
     tickets.push_reserved(kept);
     let words = gate.close(blanks, tickets);
-    assert_eq!(rt; (first, second), ((0, 524288, 262144), (524288, 524288)));
-    assert_eq!(rt; (terms, words.word[0]), ((1, 1), 524288));
+    assert!(rt; first == (0, 524288, 262144) && second == (524288, 524288));
+    assert!(rt; terms == (1, 1) && words.word[0] == 524288);
     Ok(())
 }
 
@@ -153,12 +153,8 @@ fn limit_calls(rt: HostRuntime) -> Result<(), Fail> {
     tickets.push_reserved(second);
     home.push_reserved(blank);
     let words = gate.close(home, tickets);
-    assert_eq!(rt;
-        (low, even),
-        ((false, 524288, 262144), (true, 262144, 262144))
-    );
-    assert_eq!(rt; (full, high), (262144, (true, 1048576, 262144)));
-    let end = (word, words.word[0], words.cap[0]);
-    assert_eq!(rt; end, (4503599627894784, 524288, 1048576));
+    assert!(rt; low == (false, 524288, 262144) && even == (true, 262144, 262144));
+    assert!(rt; full == 262144 && high == (true, 1048576, 262144));
+    assert!(rt; word == 4503599627894784 && words.word[0] == 524288 && words.cap[0] == 1048576);
     Ok(())
 }
