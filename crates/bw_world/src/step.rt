@@ -6,7 +6,7 @@ pub const UNIT: u64 = 1048576;
 pub const WIDEST: u64 = 67108864;
 
 /// A bandwidth word, in 1/2^20 of a CPU.
-#[derive(Clone, Copy, Debug, PartialEq, Eq)]
+#[derive(Clone, Copy, PartialEq, Eq)]
 pub struct Word {
     /// The cap: number of CPUs times the limit of one CPU.
     pub cap: u64,
@@ -91,7 +91,7 @@ pub enum Step {
 }
 
 /// What a world answers to a step. All but [`Outcome::Done`] change nothing.
-#[derive(Clone, Copy, Debug, PartialEq, Eq)]
+#[derive(Clone, Copy, PartialEq, Eq)]
 pub enum Outcome {
     /// The word, to a Load.
     Saw(Word),

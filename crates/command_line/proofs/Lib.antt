@@ -1,3 +1,6 @@
 pub mod Made
 pub mod Passed
 pub mod RunTexts
+pub mod Asked
+pub mod Numbers
+pub mod Printing

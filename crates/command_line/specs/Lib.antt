@@ -1,3 +1,6 @@
 pub mod Commands
 pub mod Reading
+pub mod Found
+pub mod Comparing
+pub mod Tasks
 pub mod private

@@ -1,3 +1,4 @@
+mod Counting
 mod Firsts
 mod OneMore
 mod Lengths

@@ -4,8 +4,8 @@ use Rattle.trace_compare.specs.declared.run.Run.{Run}
 use Rattle.trace_compare.specs.declared.task.TaskRuns.{TaskRuns}
 use Rattle.trace_compare.specs.declared.pairs.Matching.{Matching}
 use Rattle.trace_compare.specs.Differences.{pairs_of, same_cpu, first_missing, first_other, IsNearest}
-use Rattle.compare_table.specs.declared.row.Stretch.{Stretch}
-use Rattle.compare_table.specs.declared.row.Place.{Place}
+use Rattle.compare_report.specs.declared.line.Stretch.{Stretch}
+use Rattle.compare_report.specs.declared.line.Place.{Place}
 use Rattle.compare_report.specs.declared.finding.Missing.{Missing}
 use Rattle.compare_report.specs.declared.finding.Finding.{Finding}
 use Rattle.compare_report.specs.Rows.{IsRow}

@@ -4,9 +4,9 @@ use Rattle.trace_compare.specs.declared.task.TaskRuns.{TaskRuns}
 use Rattle.trace_compare.specs.declared.pairs.Matching.{Matching}
 use Rattle.trace_compare.specs.Pairs.{matched}
 use Rattle.trace_compare.specs.Differences.{pairs_of, start_apart, end_apart, is_inside, others, cpu_time, taken_time}
-use Rattle.compare_table.specs.declared.row.Row.{Row}
-use Rattle.compare_table.specs.declared.row.Spread.{Spread}
-use Rattle.compare_table.specs.Quantiles.{IsSpread}
+use Rattle.compare_report.specs.declared.line.Row.{Row}
+use Rattle.compare_report.specs.declared.line.Spread.{Spread}
+use Rattle.compare_report.specs.Quantiles.{IsSpread}
 
 -- the quantiles of distances, and none of none
 abbrev pub IsSpreadOf : List ℕ → Option Spread → Type 0

@@ -4,9 +4,9 @@ use Rattle.std.specs.Option.{option_map, option_and_then}
 use Rattle.std.specs.List.{flat_map}
 use Rattle.trace_compare.specs.Pairs.{no_shift}
 use Rattle.trace_compare.specs.Differences.{distance}
-use Rattle.compare_table.specs.declared.row.Shift.{Shift}
-use Rattle.compare_table.specs.declared.row.Place.{Place}
-use Rattle.compare_table.specs.Table.{shift_line, header, row_line, cpus_line, missing_line, other_line, no_difference}
+use Rattle.compare_report.specs.declared.line.Shift.{Shift}
+use Rattle.compare_report.specs.declared.line.Place.{Place}
+use Rattle.compare_report.specs.Table.{shift_line, header, row_line, cpus_line, missing_line, other_line, no_difference}
 use Rattle.compare_report.specs.declared.finding.Missing.{Missing}
 use Rattle.compare_report.specs.declared.finding.Finding.{Finding}
 use Rattle.compare_report.specs.First.{IsFirst}

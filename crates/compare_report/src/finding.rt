@@ -6,8 +6,8 @@ ghost use Rattle.trace_compare.specs.Tasks.{IsSound};
 ghost use Rattle.trace_compare.specs.Matched.{IsSoundMatching};
 ghost use Rattle.compare_report.specs.Findings.{stretch_of, IsNearestOf, IsMissingAt, IsMissingOf, IsOtherAt, IsOtherOf, IsFinding};
 
+use crate::line::{Place, Row, Stretch};
 use crate::row::{Span, row_of};
-use compare_table::{Place, Row, Stretch};
 use std::alloc::{AllocError, Global};
 use trace_compare::{Matching, Run, TaskRuns, apart_in, missing_of, nearest_of, other_of};
 

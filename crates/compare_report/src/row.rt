@@ -7,7 +7,8 @@ ghost use Rattle.trace_compare.specs.Matched.{IsSoundMatching};
 ghost use Rattle.trace_compare.specs.Differences.{pairs_of, start_apart, end_apart, is_inside};
 ghost use Rattle.compare_report.specs.Rows.{IsRow, IsSpreadOf};
 
-use compare_table::{Row, Spread, spread};
+use crate::line::{Row, Spread};
+use crate::quantiles::spread;
 use std::alloc::{AllocError, Global};
 use trace_compare::{
     Apart, Matching, NO_SHIFT, Run, TaskRuns, cpu_time_of, matched_of, others_of, taken_time_of,

@@ -3,17 +3,16 @@
 ghost use Rattle.std.specs.Prelude.{◌≡◌, IfOk, sum_by};
 ghost use Rattle.std.specs.Option.{option_map};
 ghost use Rattle.std.specs.List.{flat_map};
-ghost use Rattle.compare_table.specs.Table.{row_line};
+ghost use Rattle.compare_report.specs.Table.{row_line};
 ghost use Rattle.draft.specs.Draft.{Adds};
 ghost use Rattle.compare_report.specs.First.{IsFirst};
 ghost use Rattle.compare_report.specs.Text.{shift_told, cpus_told, differences_told, told, other_told, missing_starts, other_starts, missing_at, other_at, IsTextOf};
 
+use crate::differing::{put_missing, put_no_difference, put_other};
 use crate::finding::{Finding, Missing};
 use crate::first::earliest;
-use compare_table::{
-    Place, Shift, put_cpus, put_header, put_missing, put_no_difference, put_other, put_row,
-    put_shift,
-};
+use crate::line::{Place, Shift};
+use crate::writing::{put_cpus, put_header, put_row, put_shift};
 use draft::{Draft, NoMemory};
 use std::alloc::{AllocError, Global};
 use trace_compare::NO_SHIFT;

@@ -2,15 +2,15 @@
 //! as a trace, also with what happens between them, the jobs, a summary, or the calls with their
 //! replies; and that compares a trace with a recorded one.
 //!
-//! The program has its words read (`asked_words`), and calls [`dl_session::run`] or
+//! The program has its words read (`command_line`), and calls [`dl_session::run`] or
 //! [`dl_session::replay_as`] with standard input and standard output, or
 //! [`dl_session::compare_texts`] with two files or one, and standard input. What it says on
 //! standard error then, and its exit status, are those of the [`Ending`] or the
 //! [`ComparisonEnding`].
 #![tactic(auto)]
 
-use asked_words::{Comparison, Source, Task, Wrong, read_words};
 use clap::error::ErrorKind;
+use command_line::{Comparison, Source, Task, Wrong, read_words};
 use dl_session::{
     AllPass, ComparisonEnding, Ending, TraceNames, WordsFault, compare_texts, replay_as, run,
 };

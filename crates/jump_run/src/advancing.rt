@@ -17,7 +17,7 @@ use std::thread::Threads;
 use tick_split::Turn;
 
 /// How many ticks an advance made, at most as many as asked; fewer only where a growth was refused.
-#[derive(Clone, Copy, Debug, PartialEq, Eq)]
+#[derive(Clone, Copy, PartialEq, Eq)]
 pub struct Done {
     pub ticks: u64,
 }

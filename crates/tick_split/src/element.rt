@@ -2,7 +2,7 @@ use attr_check::Params;
 
 /// A running task before a jump: what its rate depends on, what is left of its budget, and the two
 /// numbers that are worked out.
-#[derive(Clone, Copy, Debug, PartialEq, Eq)]
+#[derive(Clone, Copy, PartialEq, Eq)]
 pub struct Plan {
     /// The task's parameters.
     pub params: Params,
@@ -25,7 +25,7 @@ pub struct Plan {
 }
 
 /// A running task at the end of a jump: its budget, and what is to be taken off it.
-#[derive(Clone, Copy, Debug, PartialEq, Eq)]
+#[derive(Clone, Copy, PartialEq, Eq)]
 pub struct Slice {
     /// Budget left, in 1/2^20 us, within 2^63 either side; the charge lowers it.
     pub left: i128,

@@ -1,6 +1,6 @@
 use Rattle.std.proofs.Common.{take}
 use Rattle.std.specs.List.{flat_map}
-use Rattle.compare_table.specs.Table.{row_line}
+use Rattle.compare_report.specs.Table.{row_line}
 use Rattle.draft.specs.Draft.{Adds}
 use Rattle.compare_report.proofs.text.put_rows.Given as goal
 

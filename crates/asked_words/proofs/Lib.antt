@@ -1,3 +1,0 @@
-pub mod Asked
-pub mod Numbers
-pub mod Printing

@@ -1,5 +1,0 @@
-use Rattle.asked_words.proofs.Asked.{asked_by}
-use Rattle.asked_words.proofs.words.read_words.Goals as goal
-
-pub returns-clause-asked : goal.returns-clause-asked
-returns-clause-asked g c = asked_by _ c.task_in.result c.task_in.ensures.asked

@@ -1,7 +1,0 @@
-use Rattle.asked_words.proofs.Asked.{of_answer}
-use Rattle.asked_words.proofs.words.task_in.Goals as goal
-
-pub returns-clause-asked : goal.returns-clause-asked
-returns-clause-asked c =
-    of_answer _ c.in_ok-matches.matches c.task_of.result c.in_ok-matches.ensures.reading c.in_ok-matches.ensures.texts c.in_ok-matches.ensures.replay_texts c.task_of.ensures.named
-    c.task_of.ensures.meant c.task_of.ensures.refused

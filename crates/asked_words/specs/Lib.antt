@@ -1,3 +1,0 @@
-pub mod Found
-pub mod Comparing
-pub mod Tasks

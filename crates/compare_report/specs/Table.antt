@@ -1,0 +1,93 @@
+-- The table of a comparison, as a text (own).
+use Rattle.std.specs.Prelude.{ℕ, ◌-◌, ◌/◌, ◌%◌, Bool, true, false, List, [], ◌∷◌, ◌++◌, length, replicate, Option, Some, None, codes, decimal}
+use Rattle.compare_report.specs.declared.line.Spread.{Spread}
+use Rattle.compare_report.specs.declared.line.Stretch.{Stretch}
+use Rattle.compare_report.specs.declared.line.Shift.{Shift}
+use Rattle.compare_report.specs.declared.line.Row.{Row}
+use Rattle.compare_report.specs.declared.line.Place.{Place}
+
+-- a text at the right of a column; one that is wider widens it in its line
+abbrev pub right : ℕ → List ℕ → List ℕ
+right width text = replicate (width - length text) 32 ++ text
+
+-- a column behind others: a space, and a text at its right
+abbrev pub column : ℕ → List ℕ → List ℕ
+column width text = 32 ∷ right width text
+
+-- microseconds as seconds, with six digits behind the point
+abbrev pub zeros_right : ℕ → List ℕ → List ℕ
+zeros_right width text = replicate (width - length text) 48 ++ text
+
+abbrev pub seconds : ℕ → List ℕ
+seconds us = decimal (us / 1000000) ++ (46 ∷ zeros_right 6 (decimal (us % 1000000)))
+
+-- ---- the shift
+
+abbrev pub sign : Bool → List ℕ
+sign true = codes "-"
+sign false = []
+
+-- `shift 1705.992138 s`: how far the recording's clock is ahead, or behind
+abbrev pub shift_line : Shift → List ℕ
+shift_line s = codes "shift " ++ (sign s.behind ++ (seconds s.us ++ codes " s\n"))
+
+-- ---- a row
+
+-- a half of the distances is at most the first, 95 of 100 at most the second, and all at most the
+-- third; dashes where nothing matched
+abbrev pub spread_columns : ℕ → Option Spread → List ℕ
+spread_columns width None = column width (codes "-")
+    ++ (column 9 (codes "-") ++ column 9 (codes "-"))
+spread_columns width (Some s) =
+    column width (decimal s.half) ++ (column 9 (decimal s.most) ++ column 9 (decimal s.max))
+
+abbrev pub header : List ℕ
+header = codes
+    "#          task   runs recorded matched  start_p50 start_p95 start_max   end_p50   end_p95   end_max    cpu_us rec_cpu_us\n"
+
+-- how many runs: of the model, recorded, matched
+abbrev pub count_columns : Row → List ℕ
+count_columns r =
+    column 6 (decimal r.runs) ++ (column 8 (decimal r.recorded) ++ column 7 (decimal r.matched))
+
+-- CPU time: of the model, recorded
+abbrev pub time_columns : Row → List ℕ
+time_columns r = column 9 (decimal r.cpu) ++ column 10 (decimal r.recorded_cpu)
+
+abbrev pub row_line : Row → List ℕ
+row_line r =
+    right 15 r.name.now
+    ++ (count_columns r
+    ++ (spread_columns 10 r.starts ++ (spread_columns 9 r.ends ++ (time_columns r ++ codes "\n"))))
+
+-- ---- the CPUs
+
+-- `same cpu 124 of 145`: how many of the matched runs were on the same CPU in both texts
+abbrev pub cpus_line : ℕ → ℕ → List ℕ
+cpus_line same matched =
+    codes "same cpu " ++ (decimal same ++ (codes " of " ++ (decimal matched ++ codes "\n")))
+
+-- ---- the first differences
+
+abbrev pub stretch_text : Stretch → List ℕ
+stretch_text s = seconds s.start ++ (codes " to " ++ (seconds s.«end» ++ codes " s"))
+
+abbrev pub place_text : Place → List ℕ
+place_text p =
+    decimal p.number ++ (codes " of " ++ (p.name.now ++ (codes ", " ++ stretch_text p.run)))
+
+abbrev pub nearest_text : Option Stretch → List ℕ
+nearest_text None = codes ", and nothing was recorded of this task\n"
+nearest_text (Some s) = codes ", nearest recorded " ++ (stretch_text s ++ codes "\n")
+
+-- the first run of the model that nothing recorded matches
+abbrev pub missing_line : Place → Option Stretch → List ℕ
+missing_line p nearest = codes "first difference: model run "
+    ++ (place_text p ++ nearest_text nearest)
+
+-- the first recorded run that matches none of the model
+abbrev pub other_line : Place → List ℕ
+other_line p = codes "first difference: recorded run " ++ (place_text p ++ codes "\n")
+
+abbrev pub no_difference : List ℕ
+no_difference = codes "first difference: none\n"

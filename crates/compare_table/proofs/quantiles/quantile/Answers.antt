@@ -1,5 +1,0 @@
-use Rattle.compare_table.proofs.Counting.{quantile_at}
-use Rattle.compare_table.proofs.quantiles.quantile.Goals as goal
-
-pub returns : goal.returns
-returns c = quantile_at c.args.hundredths c.args.values.now c.last_place.result c.requires.rising c.last_place.ensures.there c.last_place.ensures.enough c.last_place.ensures.least
