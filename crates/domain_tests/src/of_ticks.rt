@@ -180,7 +180,10 @@ fn turns_of_eight<R: Threads + Wait>(
     requires { 0 < workers }
 {
     let charged = turns_of(rt, host, &mut eight_slices(), workers)?;
-    Ok([charged, turns_of_plans(rt, host, &mut eight_plans()?, workers)?])
+    Ok([
+        charged,
+        turns_of_plans(rt, host, &mut eight_plans()?, workers)?,
+    ])
 }
 
 // There are as many pieces as workers, but no more than elements. One piece is worked on by the

@@ -1,5 +1,5 @@
 -- What stands in a text under way.
-use Rattle.std.specs.Prelude.{◌≡◌, ℕ, List, ◌++◌, Bool, true, IfOk, IsOk, Result}
+use Rattle.std.specs.Prelude.{◌≡◌, ℕ, List, ◌++◌, Bool, true}
 
 -- the text, and whether no growth was refused
 pub record DraftView : Type 0 where

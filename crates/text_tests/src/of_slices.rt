@@ -148,11 +148,7 @@ fn slices_are_written_as_a_trace(rt: HostRuntime) -> Result<(), Fail> {
 
 /// Whether a writer that fails once it has taken so many bytes ends so: with this number told, one
 /// fault, and the front of the text.
-fn ends_there(
-    alloc: Global,
-    names: &IndexMap<u32, String>,
-    taken: usize,
-) -> Result<bool, NoMemory>
+fn ends_there(alloc: Global, names: &IndexMap<u32, String>, taken: usize) -> Result<bool, NoMemory>
     requires { HasName names.now 1 }
 {
     let room = TraceRoom::open(alloc)?;

@@ -6,7 +6,7 @@ ghost use Rattle.call_book.specs.Book.{IsPassOf};
 use super::{Desk, book_of, end, next_blank, replies};
 use bw_gate::{Blank, Gate, Room, Take, Ticket, used_of};
 use call_book::{Closed, Domain, Move, Pass, Prepared, move_task};
-use domain_run::{NoMemory, Reply};
+use domain_run::NoMemory;
 use std::alloc::Global;
 use std::process::Abort;
 use std::sync::Wait;

@@ -54,7 +54,10 @@ fn all_ticks_of_a_call(rt: HostRuntime) -> Result<(), Fail> {
     for workers in 1..9 {
         for start in [0, (1 << 42) - 2100] {
             let made = made_from(&rt, rt.alloc(), start, workers)?;
-            assert!(rt; made == (2100, true, true), "{workers} workers from {start}");
+            assert!(rt;
+                made == (2100, true, true),
+                "{workers} workers from {start}"
+            );
         }
     }
     Ok(())

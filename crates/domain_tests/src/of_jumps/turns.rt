@@ -34,7 +34,10 @@ fn turns_of_one_piece(rt: HostRuntime) -> Result<(), Fail> {
         let mut states = admitted(alloc, 3, &three()[..tasks])?;
         for (ticks, order) in [(1, 0x1212), (3, 0x1212), (4, 0), (16, 0x12121212)] {
             let told = turns_of(&rt, rt, alloc, &mut states[0], ticks, workers);
-            assert!(rt; told.order == order, "{tasks} tasks, {workers} workers, {ticks} ticks");
+            assert!(rt;
+                told.order == order,
+                "{tasks} tasks, {workers} workers, {ticks} ticks"
+            );
         }
     }
     Ok(())
@@ -72,7 +75,10 @@ fn pieces_of_each_step(rt: HostRuntime) -> Result<(), Fail> {
     ] {
         let mut states = admitted(rt.alloc(), 9, &nine[..tasks])?;
         let told = turns_of(&rt, rt, rt.alloc(), &mut states[0], 4, workers);
-        assert!(rt; told.is(twos, elsewhere), "{tasks} tasks, {workers} workers");
+        assert!(rt;
+            told.is(twos, elsewhere),
+            "{tasks} tasks, {workers} workers"
+        );
     }
     Ok(())
 }

@@ -1,6 +1,6 @@
 // Tasks that move between two domains of one CPU each.
-ghost use Rattle.std.specs.Prelude.{◌≡◌, ◌<◌, ◌∷◌, [], length, All, IfSome};
-ghost use Rattle.calls_text.specs.Limits.{IsCall, IsEntry};
+ghost use Rattle.std.specs.Prelude.{◌≡◌, ◌<◌, ◌∷◌, [], length, IfSome};
+ghost use Rattle.calls_text.specs.Limits.{IsCall};
 
 use super::clients::{attr_of, make_all};
 use super::storm::{arrive, entries_of};

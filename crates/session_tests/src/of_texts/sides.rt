@@ -128,7 +128,10 @@ fn short_calls(rt: HostRuntime) -> Result<(), Fail> {
     let wanted = ("", THROTTLED_TRACE);
     for input in INPUTS {
         for step in [1, 7, 300] {
-            assert!(rt; tells(&rt, rt.alloc(), input, step, NEVER, wanted)?, "{step}");
+            assert!(rt;
+                tells(&rt, rt.alloc(), input, step, NEVER, wanted)?,
+                "{step}"
+            );
         }
     }
     Ok(())

@@ -1,4 +1,4 @@
-use Rattle.std.proofs.Common.{◌++◌, ap, ◌∙◌}
+use Rattle.std.proofs.Common.{ap}
 use Rattle.draft.proofs.CallerLemmas.{joined4, as_text}
 use Rattle.chart.proofs.chart.put_head.Goals as goal
 

@@ -1,4 +1,4 @@
-use Rattle.std.proofs.Common.{◌≡◌, ◌++◌, take}
+use Rattle.std.proofs.Common.{take}
 use Rattle.run_figures.specs.Lines.{numbered}
 use Rattle.chart.specs.Pieces.{row_lines}
 use Rattle.chart.specs.Rows.{view_of}

@@ -1,4 +1,4 @@
-use Rattle.std.proofs.Common.{◌≡◌, ◌++◌, take}
+use Rattle.std.proofs.Common.{take}
 use Rattle.run_figures.specs.Lines.{numbered}
 use Rattle.chart.specs.Legend.{colour_line}
 use Rattle.draft.specs.Draft.{Adds}

@@ -1,4 +1,4 @@
-use Rattle.std.proofs.Common.{◌+◌, ◌++◌, ap, ◌∙◌}
+use Rattle.std.proofs.Common.{◌+◌, ap, ◌∙◌}
 use Rattle.chart.specs.Pieces.{text_at}
 use Rattle.chart.specs.Legend.{colour_left}
 use Rattle.draft.proofs.CallerLemmas.{joined3, as_text}

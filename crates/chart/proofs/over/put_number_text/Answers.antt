@@ -1,4 +1,4 @@
-use Rattle.std.proofs.Common.{◌++◌, ap, ◌∙◌}
+use Rattle.std.proofs.Common.{ap}
 use Rattle.chart.specs.Pieces.{number_ink, number_end}
 use Rattle.draft.proofs.CallerLemmas.{joined3, as_text}
 use Rattle.chart.proofs.over.put_number_text.Goals as goal

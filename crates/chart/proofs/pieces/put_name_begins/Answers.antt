@@ -1,4 +1,4 @@
-use Rattle.std.proofs.Common.{◌+◌, ◌++◌, ap, ◌∙◌}
+use Rattle.std.proofs.Common.{◌+◌, ap}
 use Rattle.std.specs.Prelude.{codes}
 use Rattle.chart.specs.Pieces.{with_number}
 use Rattle.draft.proofs.CallerLemmas.{joined3, as_text}

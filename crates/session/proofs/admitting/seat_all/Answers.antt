@@ -30,3 +30,6 @@ loop-client-preserved g c =
       room = omega (arith, c.push_reserved.ensures.capacity, was.room);
       many = was.many;
     }
+
+pub loop-client-init : goal.loop-client-init
+loop-client-init g c = search rules

@@ -1,6 +1,6 @@
-use Rattle.std.proofs.Common.{◌<◌, ℕ, ◌+◌, List, [], ◌∷◌, ◌++◌, get_or, length, map, refl, ap, sym, subst, ◌∙◌, arith}
+use Rattle.std.proofs.Common.{◌<◌, ℕ, ◌+◌, List, get_or, length, map, ap, sym, subst, ◌∙◌, arith}
 use Rattle.std.specs.Prelude.{slice_index}
-use Rattle.std.proofs.lemmas.List.{length-map, length_push, map_push, get_or_read}
+use Rattle.std.proofs.lemmas.List.{length-map, length_push, map_push}
 use Rattle.atomic_table.specs.Seated.{TableId}
 use Rattle.call_book.specs.Book.{BookView}
 use Rattle.session.specs.private.Parts.{IsBookOf, AreHands}

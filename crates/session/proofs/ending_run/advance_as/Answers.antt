@@ -1,0 +1,5 @@
+use Rattle.std.proofs.Common.{rules}
+use Rattle.session.proofs.ending_run.advance_as.Goals as goal
+
+pub returns-in-Figures-clause-told : goal.returns-in-Figures-clause-told
+returns-in-Figures-clause-told g c = search rules
