@@ -26,7 +26,7 @@ pub enum PrevState {
 
 // In which state an occupant leaves a CPU, and whether a task comes there or idle. Idle to idle is
 // no switch.
-#[derive(Clone, Copy, PartialEq, Eq)]
+#[derive(Clone, Copy)]
 enum Handover {
     IdleToIdle,
     IdleToTask,
@@ -55,7 +55,7 @@ fn handover_of(state: PrevState, next: Option<u32>) -> Handover
 
 /// One switch of a CPU from one occupant to another (the event sched_switch), in 16 bytes. Contracts
 /// see it as what its calls tell.
-#[derive(Clone, Copy, PartialEq, Eq)]
+#[derive(Clone, Copy)]
 pub struct Switch {
     // The lower 32 bits of the time; `high` has the 16 above them.
     low: u32,

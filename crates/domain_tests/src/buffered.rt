@@ -2,6 +2,7 @@
 
 ghost use Rattle.std.specs.Prelude.{◌≡◌, IfOk, length};
 
+use crate::switches::have_part;
 use crate::workers::{admitted, forever, single_ticks};
 use domain_run::{Buffered, Event, NoMemory, State};
 use std::alloc::Global;
@@ -30,13 +31,13 @@ fn an_advance_stops_where_the_buffer_is_full(rt: HostRuntime) -> Result<(), Fail
     let left = (1_u64 << 42).saturating_sub(buffered.state().now());
     let made = buffered.advance(10000_u64.min(left));
     assert!(rt; 0 < made && made < 10000);
-    assert!(rt; all.starts_with(buffered.switches()));
+    assert!(rt; have_part(all, 0, buffered.switches()));
     let first = buffered.switches().len();
     buffered.forget_switches();
     let left = (1_u64 << 42).saturating_sub(buffered.state().now());
     let more = buffered.advance(10000_u64.saturating_sub(made).min(left));
     assert!(rt; made.saturating_add(more) == 10000);
-    assert!(rt; all.ends_with(buffered.switches()));
+    assert!(rt; have_part(all, first, buffered.switches()));
     assert!(rt; all.len().saturating_sub(first) == buffered.switches().len());
     Ok(())
 }

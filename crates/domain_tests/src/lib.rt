@@ -13,4 +13,6 @@ mod of_ticks;
 #[cfg(test)]
 mod seen;
 #[cfg(test)]
+mod switches;
+#[cfg(test)]
 mod workers;

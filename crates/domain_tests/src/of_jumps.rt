@@ -4,6 +4,7 @@
 mod by_workers;
 mod turns;
 
+use crate::switches::have_part;
 use crate::workers::{Worker, admitted, forever, single_ticks};
 use domain_run::{Event, State};
 use jump_run::{Done, advance};
@@ -18,7 +19,8 @@ fn three<'a>() -> [Worker<'a>; 3] {
 fn are_same(jumping: &State, ticking: &State) -> bool {
     jumping.now() == ticking.now()
         && jumping.sum() == ticking.sum()
-        && jumping.switches() == ticking.switches()
+        && jumping.switches().len() == ticking.switches().len()
+        && have_part(jumping.switches(), 0, ticking.switches())
         && jumping.view(1) == ticking.view(1)
 }
 

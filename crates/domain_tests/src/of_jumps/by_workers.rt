@@ -1,7 +1,5 @@
 //! Advances by one worker and by several, and that several do not work on one thread.
 
-ghost use Rattle.std.specs.Prelude.{◌<◌};
-
 use super::three;
 use crate::seen::InOrder;
 use crate::workers::{admit, admitted, forever};
