@@ -37,7 +37,7 @@ impl Model for Domain {
 }
 
 impl Domain {
-    ghost use Rattle.std.specs.Prelude.{◌≡◌, ◌≤◌, ◌<◌, ◌+◌, ◌-◌, ◌^◌, ◌==◌, true, false, Some, IsTrue, IfNone, IfSome, IfOk, OnOk, OnErr};
+    ghost use Rattle.std.specs.Prelude.{◌≡◌, ◌≤◌, ◌<◌, ◌+◌, ◌^◌, ◌==◌, true, false, Some, IsTrue, IfNone, IfSome, IfOk, OnOk, OnErr};
     ghost use Rattle.std.specs.List.{list_any};
     ghost use Rattle.bw_world.specs.declared.step.Outcome.TheVariants.{Done};
     ghost use Rattle.bw_world.specs.ExactWord.{IsExactDomain};

@@ -1,6 +1,6 @@
 //! The summary of histories whose runs were heard while they were made.
 
-ghost use Rattle.std.specs.Prelude.{◌≡◌, ◌<◌, ◌≤◌, ◌^◌, All, IfErr, IfOk, OnOk, length, map};
+ghost use Rattle.std.specs.Prelude.{◌≡◌, ◌<◌, ◌≤◌, ◌^◌, IfErr, IfOk, OnOk, length, map};
 ghost use Rattle.domain_run.specs.Passing.{without_switches};
 ghost use Rattle.counted_io.specs.Sides.{faults_of, side};
 ghost use Rattle.calls_text.specs.Histories.{IsLegal};

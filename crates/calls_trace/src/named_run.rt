@@ -1,6 +1,6 @@
 //! The run of the calls of a section.
 
-ghost use Rattle.std.specs.Prelude.{◌≡◌, ◌<◌, ◌≤◌, ◌+◌, ◌^◌, [], OnOk, IfOk, All, IsTrue, if◌then◌else◌, vec_len};
+ghost use Rattle.std.specs.Prelude.{◌≡◌, ◌<◌, ◌≤◌, ◌+◌, ◌^◌, [], OnOk, IfOk, IsTrue, if◌then◌else◌};
 ghost use Rattle.std.specs.String.{string_bytes};
 ghost use Rattle.task_script.specs.NameView.{IsName};
 ghost use Rattle.domain_run.specs.declared.call.Call.TheVariants as Call;
@@ -10,7 +10,7 @@ ghost use Rattle.domain_run.specs.Happened.{told_by_call, told_by_ticks};
 ghost use Rattle.domain_run.specs.Log.{Tells};
 ghost use Rattle.domain_run.specs.Run.{run_of};
 ghost use Rattle.domain_run.specs.Tick.{ticks as ticked_by};
-ghost use Rattle.calls_text.specs.Limits.{IsNumber, IsCall, IsEntry, IsSection};
+ghost use Rattle.calls_text.specs.Limits.{IsNumber, IsCall, IsSection};
 ghost use Rattle.calls_text.specs.Histories.{IsLegal};
 ghost use Rattle.calls_text.specs.NameGiven.{name_given};
 ghost use Rattle.calls_text.specs.KeptCall.{call_of};

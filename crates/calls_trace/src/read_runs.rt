@@ -1,6 +1,6 @@
 //! The run of a section of a calls text, of which each call is made as soon as it is read.
 
-ghost use Rattle.std.specs.Prelude.{◌≡◌, ◌<◌, ◌≤◌, ℕ, List, Ok, IfOk, IfSome};
+ghost use Rattle.std.specs.Prelude.{◌<◌, ◌≤◌, ℕ, List, Ok, IfOk, IfSome};
 ghost use Rattle.calls_text.specs.SectionView.{SectionView};
 ghost use Rattle.calls_text.specs.Limits.{IsCall};
 ghost use Rattle.calls_text.specs.KeptCall.{IsNextKept, call_of};

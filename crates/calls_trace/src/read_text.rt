@@ -1,7 +1,7 @@
 //! The runs of the sections of a calls text. Where their trace is wanted and there is one section
 //! alone, its calls are kept in place of its run, which is made while the trace is written.
 
-ghost use Rattle.std.specs.Prelude.{◌≡◌, ℕ, [], ◌∷◌, List, false, IfErr, IfOk};
+ghost use Rattle.std.specs.Prelude.{ℕ, [], ◌∷◌, List, false, IfErr, IfOk};
 ghost use Rattle.calls_text.specs.SectionView.{SectionView};
 ghost use Rattle.calls_text.specs.Limits.{IsSection};
 ghost use Rattle.calls_text.specs.BadLine.{IsReadFault};

@@ -1,6 +1,6 @@
 //! From bytes to bytes: recorded calls in, a text of their run out.
 
-ghost use Rattle.std.specs.Prelude.{◌≡◌, ◌<◌, ◌^◌, OnOk, IfErr};
+ghost use Rattle.std.specs.Prelude.{◌<◌, ◌^◌, OnOk, IfErr};
 ghost use Rattle.counted_io.specs.Sides.{faults_of, side};
 ghost use Rattle.calls_trace.specs.Answer.{streams, IsAnswered, IsAnsweredBy, IsFaultBy, IsFaultOf, replayed};
 ghost use Rattle.calls_trace.specs.private.Replayed.{IsReplayed, IsUnreplayed};

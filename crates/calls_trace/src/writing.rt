@@ -1,10 +1,8 @@
 //! The last step: the runs of the domains of a machine as the text that is asked for.
 
-ghost use Rattle.std.specs.Prelude.{◌≡◌, ◌<◌, ◌≤◌, ◌^◌, [], ◌∷◌, All, IfErr, IfOk, IfSome, OnOk, length};
+ghost use Rattle.std.specs.Prelude.{◌≡◌, ◌<◌, ◌≤◌, ◌^◌, All, IfErr, OnOk, length};
 ghost use Rattle.counted_io.specs.Sides.{faults_of, side};
-ghost use Rattle.calls_text.specs.Spelling.{spelling};
-ghost use Rattle.calls_text.specs.Limits.{IsSection, AreRead};
-ghost use Rattle.calls_text.specs.BadLine.{IsReadFault};
+ghost use Rattle.calls_text.specs.Limits.{IsSection};
 ghost use Rattle.calls_text.specs.Histories.{AreLegal, AreRuns, AreTold};
 ghost use Rattle.reply_text.specs.Replies.{replies_of};
 ghost use Rattle.calls_trace.specs.Answer.{replayed};

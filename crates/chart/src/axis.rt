@@ -1,6 +1,6 @@
 //! The ticks of the time's axis.
 
-ghost use Rattle.std.specs.Prelude.{ℕ, ◌≡◌, ◌+◌, ◌-◌, ◌*◌, ◌<◌, ◌≤◌, ◌^◌, IfOk, All, map};
+ghost use Rattle.std.specs.Prelude.{ℕ, ◌≡◌, ◌-◌, ◌*◌, ◌<◌, ◌≤◌, ◌^◌, IfOk, All, map};
 ghost use Rattle.std.specs.List.{range_with_len};
 ghost use Rattle.chart_pieces.specs.Window.{IsWindow};
 ghost use Rattle.chart.specs.Axis as axis;

@@ -1,6 +1,6 @@
 //! The whole chart.
 
-ghost use Rattle.std.specs.Prelude.{◌≡◌, ◌+◌, ◌-◌, ◌<◌, ◌≤◌, ◌^◌, ◌++◌, All, length, map, flat_map, codes};
+ghost use Rattle.std.specs.Prelude.{◌≡◌, ◌≤◌, ◌^◌, All, length, map, flat_map};
 ghost use Rattle.run_figures.specs.Lines.{numbered};
 ghost use Rattle.draft.specs.Draft.{Adds};
 ghost use Rattle.chart_pieces.specs.Window.{IsWindow};

@@ -1,6 +1,6 @@
 //! The legend, below the plot.
 
-ghost use Rattle.std.specs.Prelude.{◌≡◌, ◌+◌, ◌*◌, ◌<◌, ◌≤◌, ◌^◌, ◌++◌, All, length, codes};
+ghost use Rattle.std.specs.Prelude.{◌≡◌, ◌<◌, ◌≤◌, ◌^◌, All, length};
 ghost use Rattle.run_figures.specs.Lines.{numbered};
 ghost use Rattle.draft.specs.Draft.{Adds};
 ghost use Rattle.chart.specs.Legend as legends;

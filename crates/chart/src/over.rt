@@ -1,6 +1,6 @@
 //! What stands over the plot: the numbers of CPUs in bars, and the marks.
 
-ghost use Rattle.std.specs.Prelude.{◌≡◌, ◌+◌, ◌<◌, ◌≤◌, ◌^◌, ◌++◌, All, flat_map, codes};
+ghost use Rattle.std.specs.Prelude.{◌≡◌, ◌<◌, ◌≤◌, ◌^◌, All, flat_map};
 ghost use Rattle.draft.specs.Draft.{Adds};
 ghost use Rattle.chart.specs.Pieces as pieces;
 ghost use Rattle.chart.specs.Rows.{view_of};

@@ -1,6 +1,6 @@
 //! The elements of a row: its band and name, the lines between its bars, and its bars.
 
-ghost use Rattle.std.specs.Prelude.{◌≡◌, ◌+◌, ◌<◌, ◌≤◌, ◌^◌, ◌++◌, flat_map, codes};
+ghost use Rattle.std.specs.Prelude.{◌≡◌, ◌+◌, ◌<◌, ◌≤◌, ◌^◌, flat_map};
 ghost use Rattle.draft.specs.Draft.{Adds};
 ghost use Rattle.chart_pieces.specs.Bars as chart_bars;
 ghost use Rattle.chart.specs.Pieces as pieces;

@@ -1,6 +1,6 @@
 //! The sizes of the chart.
 
-ghost use Rattle.std.specs.Prelude.{◌≡◌, ◌+◌, ◌-◌, ◌<◌, ◌≤◌, ◌^◌};
+ghost use Rattle.std.specs.Prelude.{◌≡◌, ◌<◌, ◌≤◌, ◌^◌};
 ghost use Rattle.chart_pieces.specs.Window.{IsWindow};
 ghost use Rattle.chart.specs.Sizes as sizes;
 ghost use Rattle.chart.specs.private.Sheets as sheets;

@@ -1,6 +1,6 @@
 //! Texts put behind what stands before.
 
-ghost use Rattle.std.specs.Prelude.{◌≡◌, ◌<◌, ◌≤◌, ◌++◌, ◌%◌, decimal, flat_map, replicate, codes};
+ghost use Rattle.std.specs.Prelude.{◌≤◌};
 ghost use Rattle.run_figures.specs.Lines.{digits_in};
 ghost use Rattle.draft.specs.Draft.{Adds};
 ghost use Rattle.chart.specs.Escape as escapes;

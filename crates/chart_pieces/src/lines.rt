@@ -1,6 +1,6 @@
 //! A task while its switches and its moments go by.
 
-ghost use Rattle.std.specs.Prelude.{ℕ, ◌≡◌, ◌++◌, IfOk, OnOk, map};
+ghost use Rattle.std.specs.Prelude.{◌≡◌, IfOk, OnOk, map};
 ghost use Rattle.chart_pieces.specs.private.Lines as lines;
 
 use crate::marks::{push_gap, push_marks};

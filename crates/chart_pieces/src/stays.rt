@@ -1,6 +1,6 @@
 //! The bars of a run, told from its last switch to the first.
 
-ghost use Rattle.std.specs.Prelude.{ℕ, ◌≡◌, ◌<◌, ◌≤◌, IfOk, OnOk, map, replicate};
+ghost use Rattle.std.specs.Prelude.{◌≡◌, IfOk, OnOk, map, replicate};
 ghost use Rattle.run_figures.specs.Runs.{IsRun, view_of};
 ghost use Rattle.chart_pieces.specs.private.Lines as lines;
 

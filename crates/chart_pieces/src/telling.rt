@@ -1,6 +1,6 @@
 //! All moments of a run, told of its tasks.
 
-ghost use Rattle.std.specs.Prelude.{ℕ, ◌≡◌, ◌≤◌, nat_le, IfOk, OnOk, map, length, take};
+ghost use Rattle.std.specs.Prelude.{◌≡◌, nat_le, IfOk, OnOk, map, take};
 ghost use Rattle.std.specs.List.{prefix_len};
 ghost use Rattle.chart_pieces.specs.Moments as moments;
 ghost use Rattle.chart_pieces.specs.private.Lines as lines;

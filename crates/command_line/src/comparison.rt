@@ -1,7 +1,7 @@
 //! What the words of `compare` ask for.
 
-ghost use Rattle.std.specs.Prelude.{◌≡◌, ◌≤◌, ℕ, IfOk, IfSome, List, None, Some, codes};
-ghost use Rattle.clap.specs.Words.{first_value, found_of, rows_of};
+ghost use Rattle.std.specs.Prelude.{◌≡◌, ◌≤◌, IfOk, IfSome, codes};
+ghost use Rattle.clap.specs.Words.{found_of, rows_of};
 ghost use Rattle.command_line.specs.Comparing.{AreFit, AreOptionsAt, IsComparisonAt, IsOptionalAt, IsShift, IsShiftAt, IsSignedAt, IsSource, IsTimeAt, cut, shares_stdin};
 
 use crate::command::{LEAST_SHIFT, MOST_SHIFT, MOST_TIME};

@@ -1,6 +1,6 @@
 //! The earliest of some times.
 
-ghost use Rattle.std.specs.Prelude.{◌≡◌, ◌<◌, ◌+◌, length};
+ghost use Rattle.std.specs.Prelude.{◌<◌, ◌+◌, length};
 ghost use Rattle.compare_report.specs.First.{IsFirst};
 ghost use Rattle.compare_report.specs.private.SoFar.{IsSoFar};
 

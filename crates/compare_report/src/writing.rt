@@ -1,7 +1,7 @@
 //! The lines of the table.
 
 ghost use Rattle.std.specs.Prelude.{◌≤◌};
-ghost use Rattle.compare_report.specs.Table.{column, count_columns, cpus_line, header, row_line, shift_line, spread_columns, time_columns};
+ghost use Rattle.compare_report.specs.Table.{count_columns, cpus_line, header, row_line, shift_line, spread_columns, time_columns};
 ghost use Rattle.draft.specs.Draft.{Adds};
 
 use crate::line::{Row, Shift, Spread};

@@ -21,7 +21,7 @@ pub(crate) struct Index {
 }
 
 impl Model for Index {
-    ghost use Rattle.std.specs.Prelude.{ℕ, List, length, vec_capacity};
+    ghost use Rattle.std.specs.Prelude.{ℕ, List, vec_capacity};
     ghost use Rattle.domain_run.specs.private.Index.{IsIndex};
 
     ghost Value = { List ℕ };

@@ -1,7 +1,7 @@
 //! When something is next to be done to each listed task before the choice. So a tick looks only at
 //! the tasks that are due.
 
-ghost use Rattle.std.specs.Prelude.{◌≡◌, ◌<◌, ◌≤◌, ◌-◌, ◌+◌, ◌*◌, ◌^◌, ◌∷◌, ◌++◌, [], length, min, false, take, replicate, slice_index_or, slice_set, IfOk, IsTrue};
+ghost use Rattle.std.specs.Prelude.{◌≡◌, ◌<◌, ◌≤◌, ◌-◌, ◌^◌, ◌∷◌, ◌++◌, [], length, min, false, take, slice_index_or, slice_set, IfOk, IsTrue};
 ghost use Rattle.std.specs.List.{remove};
 ghost use Rattle.due_times.specs.Timers as spec;
 

@@ -2,9 +2,8 @@
 //! Where a CPU is left for one the first of them is chosen; where none is, it displaces the latest
 //! of those who stay if it is before that one, who waits then.
 
-ghost use Rattle.std.specs.Prelude.{◌≡◌, ◌<◌, ◌≤◌, ◌+◌, ◌⊎◌, ◌++◌, ◌∷◌, [], true, false, length, slice_index_or, slice_set, All, IfNone, IfSome, None, Some};
+ghost use Rattle.std.specs.Prelude.{◌≡◌, ◌<◌, ◌≤◌, ◌+◌, ◌⊎◌, ◌++◌, [], true, false, length, slice_index_or, All, IfNone, IfSome, None, Some};
 ghost use Rattle.std.specs.List.Sorted.{IsPermutation};
-ghost use Rattle.edf_pick.specs.declared.candidate.Candidate.{Candidate};
 ghost use Rattle.edf_pick.specs.Choice as choice;
 ghost use Rattle.edf_pick.specs.private.Choosing as spec;
 ghost use Rattle.edf_pick.specs.private.First.{is_home};

@@ -1,8 +1,7 @@
 //! A task comes, and waits; or goes, from the CPU where it stays or from those who wait.
 
-ghost use Rattle.std.specs.Prelude.{ℕ, ◌≡◌, ◌≢◌, ◌++◌, true, false, length, slice_index_or, slice_set, AllPairs, IfNone, IfSome, None, Some};
+ghost use Rattle.std.specs.Prelude.{ℕ, ◌≡◌, ◌≢◌, ◌++◌, true, false, slice_index_or, AllPairs, IfNone, IfSome, None};
 ghost use Rattle.edf_pick.specs.Order as order;
-ghost use Rattle.edf_pick.specs.Places.{Places};
 ghost use Rattle.edf_pick.specs.private.Waiting as spec;
 
 use crate::candidate::Candidate;

@@ -1,6 +1,6 @@
 //! The order of the choice: an earlier deadline first, ties by number.
 
-ghost use Rattle.std.specs.Prelude.{ℕ, ◌≡◌, ◌<◌, ◌≤◌, ◌+◌, ◌-◌, ◌*◌, ◌^◌, ◌==◌, length, slice_get, is_some, Some, IfSome, IfNone};
+ghost use Rattle.std.specs.Prelude.{ℕ, ◌≡◌, ◌<◌, ◌≤◌, ◌+◌, ◌-◌, ◌*◌, ◌^◌, length, is_some, IfSome, IfNone};
 ghost use Rattle.std.specs.List.{prefix_len, remove};
 ghost use Rattle.edf_pick.specs.Choice as choice;
 ghost use Rattle.edf_pick.specs.Order as order;

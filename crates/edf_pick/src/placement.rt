@@ -1,6 +1,6 @@
 //! Who stands on each CPU, and how that moves on by one tick.
 
-ghost use Rattle.std.specs.Prelude.{◌≡◌, ◌≢◌, ◌<◌, ◌≤◌, ◌+◌, ◌∷◌, [], false, All, AllPairs, IfOk, None, length, map, replicate, take, vec_len, vec_capacity};
+ghost use Rattle.std.specs.Prelude.{◌≡◌, ◌≢◌, ◌<◌, ◌≤◌, ◌+◌, ◌∷◌, [], false, All, AllPairs, IfOk, None, length, replicate, take, vec_len, vec_capacity};
 ghost use Rattle.edf_pick.specs.private.First.{AreLeaving, AreMovers};
 ghost use Rattle.edf_pick.specs.Moves.{moved_from};
 ghost use Rattle.edf_pick.specs.Places.{AreSingle, AreTaken, placed, stands};

@@ -1,12 +1,12 @@
 //! The choice of the next tick where who stays stands on its CPU: nothing is done where each
 //! occupant stays and nobody who waits is before one of them.
 
-ghost use Rattle.std.specs.Prelude.{◌≡◌, ◌<◌, ◌⊎◌, ◌+◌, [], true, false, length, map, slice_index_or, All};
+ghost use Rattle.std.specs.Prelude.{◌≡◌, ◌<◌, ◌⊎◌, [], true, false, length, map, slice_index_or, All};
 ghost use Rattle.edf_pick.specs.Changes.{homed};
 ghost use Rattle.edf_pick.specs.Choice as choice;
 ghost use Rattle.edf_pick.specs.Moves.{moved_from};
 ghost use Rattle.edf_pick.specs.Places.{placed};
-ghost use Rattle.edf_pick.specs.private.Choosing.{AreAll, IsChosen};
+ghost use Rattle.edf_pick.specs.private.Choosing.{IsChosen};
 ghost use Rattle.edf_pick.specs.private.Staying.{bare_key};
 ghost use Rattle.edf_pick.specs.private.Waiting as spec;
 

@@ -1,9 +1,8 @@
 //! The room in which the tasks of a queue stand, one behind the other: who comes or goes moves
 //! those of the shorter side alone.
 
-ghost use Rattle.std.specs.Prelude.{◌≡◌, ◌<◌, ◌≤◌, ◌+◌, [], IfOk, length, slice_index_or, slice_set, vec_capacity};
+ghost use Rattle.std.specs.Prelude.{◌≡◌, ◌<◌, ◌≤◌, ◌+◌, [], IfOk, length, vec_capacity};
 ghost use Rattle.std.specs.List.{insert, remove};
-ghost use Rattle.edf_pick.specs.declared.candidate.Candidate.{Candidate};
 ghost use Rattle.edf_pick.specs.private.Room as spec;
 
 use crate::candidate::Candidate;

@@ -1,7 +1,6 @@
 //! The ready tasks of a root domain and who stands on its CPUs, as one.
 
 ghost use Rattle.std.specs.Prelude.{◌≡◌, ◌≢◌, ◌<◌, ◌≤◌, [], None, length, map, replicate, All, IfOk};
-ghost use Rattle.edf_pick.specs.declared.candidate.Candidate.{Candidate};
 ghost use Rattle.edf_pick.specs.Changes.{homed};
 ghost use Rattle.edf_pick.specs.Moves.{moved_from};
 ghost use Rattle.edf_pick.specs.Order as order;

@@ -1,7 +1,7 @@
 //! Who stands where once the choice is made: who does not stay goes, and then the movers take
 //! seats, one after another. Each stays there then.
 
-ghost use Rattle.std.specs.Prelude.{ℕ, ◌≡◌, ◌≢◌, ◌<◌, ◌≤◌, ◌+◌, true, false, length, is_some, slice_index_or, slice_set, All, AllPairs, None, Some, vec_len, vec_capacity};
+ghost use Rattle.std.specs.Prelude.{ℕ, ◌≡◌, ◌≢◌, ◌≤◌, ◌+◌, true, false, length, is_some, slice_index_or, slice_set, All, AllPairs, None, Some, vec_len, vec_capacity};
 ghost use Rattle.std.specs.Int.{bit_at};
 ghost use Rattle.edf_pick.specs.Moves.{same_occupant};
 ghost use Rattle.edf_pick.specs.Places as placing;

@@ -1,6 +1,6 @@
 //! Zero-lag times and the reclaiming rate (sched-deadline.rst, "Bandwidth reclaiming").
 
-ghost use Rattle.std.specs.Prelude.{◌≡◌, ◌<◌, ◌≤◌, ◌^◌, ◌+◌, ◌*◌, ◌/◌, ◌-◌, max, pos, ◌≤ℤ◌};
+ghost use Rattle.std.specs.Prelude.{◌≡◌, ◌<◌, ◌≤◌, ◌^◌, ◌*◌, ◌/◌, pos, ◌≤ℤ◌};
 ghost use Rattle.attr_check.specs.Ratio.{cap, unit};
 ghost use Rattle.cbs_rules.specs.Budget.{above_zero, budget};
 ghost use Rattle.grub_rules.specs.Lag as lag;

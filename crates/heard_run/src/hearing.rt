@@ -1,6 +1,6 @@
 //! An advance, heard piece by piece.
 
-ghost use Rattle.std.specs.Prelude.{◌≡◌, ◌≤◌, ◌+◌, ◌^◌, [], map, true, IfOk};
+ghost use Rattle.std.specs.Prelude.{◌≡◌, ◌≤◌, ◌+◌, ◌^◌, [], map, IfOk};
 ghost use Rattle.domain_run.specs.Tick.{ticks as ticks_of};
 ghost use Rattle.domain_run.specs.Keys.{AreKept};
 ghost use Rattle.domain_run.specs.Passing.{without_switches};

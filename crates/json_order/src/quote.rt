@@ -1,4 +1,4 @@
-ghost use Rattle.std.specs.Prelude.{◌≡◌, ◌<◌, ◌≤◌, ◌++◌, ◌⊎◌, Some, None, Ok, IfOk, OnOk, IfErr, encode_utf8, string_bytes};
+ghost use Rattle.std.specs.Prelude.{◌≡◌, ◌<◌, ◌≤◌, ◌++◌, ◌⊎◌, Some, Ok, IfOk, OnOk, IfErr, encode_utf8, string_bytes};
 ghost use Rattle.std.specs.Char.Utf16.{surrogate_pair_char};
 ghost use Rattle.json_order.specs.declared.fault.JsonKind.TheVariants.{Syntax, Memory};
 ghost use Rattle.json_order.specs.declared.place.Escape.TheVariants.{Outside, Slash};

@@ -1,5 +1,5 @@
 ghost use Rattle.std.specs.Prelude.{◌≡◌, ◌≢◌, [], Some, None, IfOk, OnOk, IfErr, IfSome, IfNone};
-ghost use Rattle.json_order.specs.declared.fault.JsonKind.TheVariants.{End, Memory};
+ghost use Rattle.json_order.specs.declared.fault.JsonKind.TheVariants.{Memory};
 ghost use Rattle.json_order.specs.Fault.{strict, Spells, IsFault};
 ghost use Rattle.json_order.specs.Json.{Json};
 ghost use Rattle.json_order.specs.private.AtOnce.{Stands};

@@ -1,6 +1,6 @@
 //! A line of a recording.
 
-ghost use Rattle.std.specs.Prelude.{◌≡◌, ◌+◌, ◌<◌, ◌^◌, ◌∷◌, ℕ, List, Option, Some, IfSome};
+ghost use Rattle.std.specs.Prelude.{◌≡◌, ◌<◌, ◌^◌, IfSome};
 ghost use Rattle.std.specs.Option.{option_map};
 ghost use Rattle.recorded_text.specs.Line.{micros_at, time_at, bracketed_at, cpu_at, cpu_before, below_at, coming_name, named_at, short_at, next_at, without_colon, event_at, timed_at, headed_at, line_at};
 ghost use Rattle.recorded_text.specs.Views.{line_view, HasSmallTime};

@@ -1,6 +1,6 @@
 //! Names of tasks, numbered as they come.
 
-ghost use Rattle.std.specs.Prelude.{◌≡◌, [], length, is_ok, slice_get, IfOk, IfSome, OnOk, OnErr};
+ghost use Rattle.std.specs.Prelude.{◌≡◌, [], length, slice_get, IfOk, OnOk, OnErr};
 ghost use Rattle.std.specs.Option.{option_map};
 ghost use Rattle.recorded_text.specs.Names.{Grows, with_name};
 

@@ -1,6 +1,6 @@
 //! A whole recording.
 
-ghost use Rattle.std.specs.Prelude.{◌≡◌, ◌+◌, ◌<◌, ◌≤◌, ◌^◌, ◌++◌, [], ◌∷◌, List, ℕ, true, false, map, length, All, IfSome, IfOk, IfErr, OnOk};
+ghost use Rattle.std.specs.Prelude.{◌≡◌, ◌+◌, ◌<◌, ◌≤◌, ◌^◌, ◌++◌, [], List, ℕ, false, map, length, All, IfSome, IfOk, IfErr, OnOk};
 ghost use Rattle.counted_io.specs.Sides.{inner_of, faults_of};
 ghost use Rattle.recorded_text.specs.Names.{Grows, with_next, names_on};
 ghost use Rattle.recorded_text.specs.Views.{switch_view};

@@ -1,7 +1,7 @@
-ghost use Rattle.std.specs.Prelude.{◌≡◌, ◌<◌, [], is_some, map};
+ghost use Rattle.std.specs.Prelude.{◌≡◌, [], map};
 ghost use Rattle.json_order.specs.Seen.{json_of};
 ghost use Rattle.rtapp_scenario.specs.Values.{member_of, members_of, has};
-ghost use Rattle.rtapp_scenario.specs.Keys.{takes, whole, loops, this_text, any_text, cpu_list, is_text, are_cpus, thread_keys, phase_keys, timer_keys, key_fault, missing_fault, kind_of, is_event, begins_with};
+ghost use Rattle.rtapp_scenario.specs.Keys.{takes, whole, loops, this_text, any_text, cpu_list, are_cpus, thread_keys, phase_keys, timer_keys, key_fault, missing_fault, kind_of, is_event, begins_with};
 ghost use Rattle.rtapp_scenario.specs.Keys.{cpus_after};
 ghost use Rattle.rtapp_scenario.specs.private.Marks.{AreMarks};
 ghost use Rattle.rtapp_scenario.specs.Told.{flaw_of, flaw_seen};

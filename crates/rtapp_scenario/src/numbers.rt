@@ -1,4 +1,4 @@
-ghost use Rattle.std.specs.Prelude.{◌≡◌, ◌≤◌, ◌<◌, IfSome};
+ghost use Rattle.std.specs.Prelude.{◌≡◌, ◌≤◌, IfSome};
 ghost use Rattle.rtapp_scenario.specs.Values.{members_of};
 ghost use Rattle.rtapp_scenario.specs.Threads.{number_at, instances, delay, runtime, period, deadline, rounds, count};
 

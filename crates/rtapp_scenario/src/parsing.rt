@@ -1,9 +1,9 @@
-ghost use Rattle.std.specs.Prelude.{◌≡◌, ◌≤◌, Ok, Some, None, IfOk, IfErr, IfSome, All, length, map};
+ghost use Rattle.std.specs.Prelude.{◌≡◌, ◌≤◌, Ok, IfOk, IfErr, IfSome, All, length, map};
 ghost use Rattle.std.specs.List.{range_with_len};
 ghost use Rattle.json_order.specs.Seen.{json_of};
 ghost use Rattle.rtapp_scenario.specs.Values.{member_of, members_of, members, members_at};
 ghost use Rattle.rtapp_scenario.specs.Faults.{first};
-ghost use Rattle.rtapp_scenario.specs.Tests.{duration_of, root_member_fault, fault_of};
+ghost use Rattle.rtapp_scenario.specs.Tests.{duration_of, root_member_fault};
 ghost use Rattle.rtapp_scenario.specs.Scenario.{parsed};
 ghost use Rattle.rtapp_scenario.specs.ScenarioView.{IsTaskSpec};
 ghost use Rattle.rtapp_scenario.specs.Told.{flaw_of, IsFault};

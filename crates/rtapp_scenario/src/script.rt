@@ -1,4 +1,4 @@
-ghost use Rattle.std.specs.Prelude.{◌≡◌, ◌≤◌, ◌<◌, None, IfOk, IfSome, map};
+ghost use Rattle.std.specs.Prelude.{◌≡◌, ◌≤◌, None, IfOk, IfSome, map};
 ghost use Rattle.std.specs.List.{filter_map};
 ghost use Rattle.task_script.specs.script.ScriptView.{IsScript, script_of as script_from};
 ghost use Rattle.task_script.specs.script.Segments.{rounds_of, IsLoops};

@@ -1,4 +1,4 @@
-ghost use Rattle.std.specs.Prelude.{◌≡◌, ◌+◌, ◌≤◌, ◌&&◌, nat_le, [], map, Some, None, not, is_some, OnOk};
+ghost use Rattle.std.specs.Prelude.{◌≡◌, ◌+◌, ◌≤◌, ◌&&◌, nat_le, [], map, not, OnOk};
 ghost use Rattle.std.specs.List.{list_any, list_all};
 ghost use Rattle.json_order.specs.Seen.{json_of};
 ghost use Rattle.rtapp_scenario.specs.Values.{member_of, members_of, members};

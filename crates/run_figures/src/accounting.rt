@@ -1,6 +1,6 @@
 //! The figures of a run that is heard piece by piece.
 
-ghost use Rattle.std.specs.Prelude.{◌≡◌, ◌<◌, ◌≤◌, ◌^◌, [], IfOk, All, map};
+ghost use Rattle.std.specs.Prelude.{◌≡◌, ◌≤◌, ◌^◌, [], IfOk, All, map};
 ghost use Rattle.run_figures.specs.Accounting.{IsNextPiece, heard_run, with_piece};
 ghost use Rattle.run_figures.specs.Figures as figures;
 ghost use Rattle.run_figures.specs.Laws as laws;

@@ -1,6 +1,6 @@
 //! The jobs of a task, counted one by one.
 
-ghost use Rattle.std.specs.Prelude.{◌≡◌, ◌+◌, ◌-◌, ◌<◌, ◌≤◌, ◌^◌, ◌-ℤ◌, pos, Some, None, IfSome};
+ghost use Rattle.std.specs.Prelude.{◌≡◌, ◌-◌, ◌≤◌, ◌^◌, Some, IfSome};
 ghost use Rattle.run_figures.specs.Figures as figures;
 ghost use Rattle.run_figures.specs.private.Telling as telling;
 

@@ -1,6 +1,6 @@
 //! The jobs of each task, as a list.
 
-ghost use Rattle.std.specs.Prelude.{◌≡◌, ◌-◌, ◌≤◌, ◌<◌, ◌^◌, ◌++◌, IfOk, OnOk, All, map, length};
+ghost use Rattle.std.specs.Prelude.{◌≡◌, ◌-◌, ◌^◌, ◌++◌, IfOk, OnOk, All, map};
 ghost use Rattle.std.specs.Option.{option_to_list};
 ghost use Rattle.run_figures.specs.Jobs as jobs;
 ghost use Rattle.run_figures.specs.Laws as laws;

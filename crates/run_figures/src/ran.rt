@@ -1,7 +1,7 @@
 //! The time on CPUs, told from the first switch to the last. Who has a CPU is told as if it kept it
 //! to the end of the run; the rest is taken back at the switch by which it leaves.
 
-ghost use Rattle.std.specs.Prelude.{◌≡◌, ◌+◌, ◌-◌, ◌*◌, ◌<◌, ◌≤◌, ◌^◌, IfOk, All, map, length, slice_index_or};
+ghost use Rattle.std.specs.Prelude.{◌≡◌, ◌-◌, ◌*◌, ◌<◌, ◌≤◌, ◌^◌, IfOk, All, map, length, slice_index_or};
 ghost use Rattle.std.specs.List.{range_with_len};
 ghost use Rattle.run_figures.specs.private.Running as running;
 

@@ -5,7 +5,6 @@ ghost use Rattle.run_figures.specs.Figures as figures;
 ghost use Rattle.run_figures.specs.Laws as laws;
 ghost use Rattle.run_figures.specs.Runs.{IsRun, view_of};
 ghost use Rattle.run_figures.specs.private.Telling as telling;
-ghost use Rattle.run_figures.specs.private.Running as running;
 ghost use Rattle.run_figures.specs.private.Putting as putting;
 
 use crate::accounting::Accounting;

@@ -1,6 +1,6 @@
 //! What happened and who was preempted, told of all tasks at once.
 
-ghost use Rattle.std.specs.Prelude.{ℕ, ◌≡◌, ◌-◌, ◌+◌, ◌≤◌, ◌<◌, ◌^◌, nat_le, IfOk, All, map, length, take};
+ghost use Rattle.std.specs.Prelude.{ℕ, ◌≡◌, ◌-◌, ◌+◌, ◌≤◌, ◌^◌, nat_le, IfOk, All, map, length, take};
 ghost use Rattle.std.specs.List.{prefix_len};
 ghost use Rattle.run_figures.specs.private.Telling as telling;
 

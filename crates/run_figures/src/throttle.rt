@@ -1,6 +1,6 @@
 //! Throttling of a task.
 
-ghost use Rattle.std.specs.Prelude.{◌≡◌, ◌+◌, ◌-◌, ◌*◌, ◌<◌, ◌≤◌, ◌^◌};
+ghost use Rattle.std.specs.Prelude.{◌≡◌, ◌+◌, ◌-◌, ◌*◌, ◌≤◌, ◌^◌};
 ghost use Rattle.run_figures.specs.Throttling as throttling;
 ghost use Rattle.run_figures.specs.private.Telling as telling;
 

@@ -1,7 +1,7 @@
 //! The admissions of a scenario: each client admits its own tasks in a thread of its own, and their
 //! answers are put together.
 
-ghost use Rattle.std.specs.Prelude.{◌≡◌, ◌<◌, ◌≤◌, ◌-◌, ◌%◌, ◌++◌, ◌∷◌, ℕ, List, [], length, map, All, IfOk, IfErr, vec_len, vec_capacity, slice_index_or};
+ghost use Rattle.std.specs.Prelude.{◌≡◌, ◌<◌, ◌≤◌, ◌-◌, ◌%◌, ◌++◌, ◌∷◌, ℕ, List, [], length, map, All, IfOk, vec_len, vec_capacity, slice_index_or};
 ghost use Rattle.session.specs.Admissions.{refused_in};
 ghost use Rattle.session.specs.Admissions.{AllAsked};
 ghost use Rattle.rtapp_scenario.specs.ScenarioView.{TaskSpecView};

@@ -1,6 +1,6 @@
 //! A client: its passes, the piece in its hand, and the calls that it makes.
 
-ghost use Rattle.std.specs.Prelude.{◌≡◌, Some, None, IfSome, IfNone, IfOk, IfErr, OnOk, IsSome, Ok, Err, true, false, [], ◌∷◌, length};
+ghost use Rattle.std.specs.Prelude.{◌≡◌, Some, None, IfSome, IfNone, IfOk, IfErr, OnOk, IsSome, Ok, true, false, [], ◌∷◌, length};
 ghost use Rattle.attr_check.specs.Accepted.{accepted, params_of};
 ghost use Rattle.domain_run.specs.declared.call.Call.TheVariants as calls;
 ghost use Rattle.domain_run.specs.Domain.{IsLimit};

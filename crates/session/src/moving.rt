@@ -1,6 +1,6 @@
 //! A client moves a task from one domain to another.
 
-ghost use Rattle.std.specs.Prelude.{◌≡◌, ◌≢◌, ◌<◌, ◌↔◌, Some, None, IfOk, IfErr, OnOk, IsSome, Err, []};
+ghost use Rattle.std.specs.Prelude.{◌≡◌, ◌≢◌, ◌↔◌, Some, IfOk, IfErr, OnOk, IsSome, Err, []};
 ghost use Rattle.domain_run.specs.declared.call.Call.TheVariants as calls;
 ghost use Rattle.calls_text.specs.Limits.{IsCall};
 ghost use Rattle.call_book.specs.MoveAnswers.{moving_as};

@@ -1,6 +1,6 @@
 //! What comes next of all that happens and of all switches.
 
-ghost use Rattle.std.specs.Prelude.{ℕ, ◌≡◌, ◌≤◌, length, replicate, All};
+ghost use Rattle.std.specs.Prelude.{◌≡◌, ◌≤◌, length, replicate, All};
 ghost use Rattle.switch_text.specs.Runs.{views, IsRun};
 ghost use Rattle.switch_text.specs.Telling.{IsTold};
 ghost use Rattle.switch_text.specs.private.EventMerging as merging;

@@ -1,6 +1,6 @@
 //! The line of a switch, put together piece by piece.
 
-ghost use Rattle.std.specs.Prelude.{◌≡◌, ◌+◌, ◌-◌, ◌<◌, ◌≤◌, ◌^◌, ◌++◌, length, take, decimal};
+ghost use Rattle.std.specs.Prelude.{◌≡◌, ◌+◌, ◌<◌, ◌≤◌, ◌^◌, ◌++◌, length, take, decimal};
 ghost use Rattle.switch_text.specs.Names.{named, HasName, HasLine};
 ghost use Rattle.switch_text.specs.Line.{right_in, left_in, digits_in, pid_of, prio_of, letters_of, cpu_part, line_of};
 ghost use Rattle.switch_text.specs.private.Parts.{second_part, event_part, task_text, leaving_text, state_part, coming_text};

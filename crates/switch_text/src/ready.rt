@@ -1,7 +1,7 @@
 //! What lines say of tasks, idle CPUs, states, and of a CPU in a second, put together once and kept
 //! while a trace is written.
 
-ghost use Rattle.std.specs.Prelude.{ℕ, ◌≡◌, ◌+◌, ◌<◌, ◌≤◌, ◌++◌, List, length, slice_index_or, All, Option, Some, None, IfSome, IsTrue, vec_capacity};
+ghost use Rattle.std.specs.Prelude.{ℕ, ◌≡◌, ◌<◌, ◌≤◌, ◌++◌, List, length, slice_index_or, All, IfSome, IsTrue, vec_capacity};
 ghost use Rattle.switch_text.specs.Names.{named, HasName};
 ghost use Rattle.switch_text.specs.Line.{cpu_part};
 ghost use Rattle.switch_text.specs.private.Parts.{second_part, state_part, task_text, leaving_text, coming_text};

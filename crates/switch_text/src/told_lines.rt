@@ -1,8 +1,8 @@
 //! The line of what happens to a task, put together piece by piece.
 
-ghost use Rattle.std.specs.Prelude.{ℕ, ◌≡◌, ◌+◌, ◌<◌, ◌≤◌, ◌^◌, ◌++◌, length, take, IsTrue, IfSome, codes, decimal, Some};
+ghost use Rattle.std.specs.Prelude.{◌≡◌, ◌+◌, ◌<◌, ◌≤◌, ◌++◌, length, take, IsTrue};
 ghost use Rattle.switch_text.specs.Names.{named, HasName};
-ghost use Rattle.switch_text.specs.Line.{digits_in, pid_of};
+ghost use Rattle.switch_text.specs.Line.{digits_in};
 ghost use Rattle.switch_text.specs.ToldLine.{has_line, stands_in_front, event_name, seconds_part, target_part, deadline_part, last_fields, event_fields, told_line_of};
 ghost use Rattle.switch_text.specs.Telling.{HasToldLine};
 

@@ -1,6 +1,6 @@
 //! What of all that happens in several domains comes next.
 
-ghost use Rattle.std.specs.Prelude.{ℕ, ◌≡◌, ◌+◌, ◌<◌, ◌≤◌, ◌^◌, length, slice_index_or, All, IfSome, IsTrue, ◌↔◌};
+ghost use Rattle.std.specs.Prelude.{◌≡◌, ◌<◌, ◌≤◌, ◌^◌, length, slice_index_or, All, IfSome, IsTrue, ◌↔◌};
 ghost use Rattle.switch_text.specs.Events.{comes_before};
 ghost use Rattle.switch_text.specs.Telling.{IsTold};
 ghost use Rattle.switch_text.specs.private.ToldMerging.{IsToldFound, IsShown, is_better_told, next_told_event};

@@ -1,6 +1,6 @@
 //! The cursor that goes through a script (own). It sees a script from outside, as what it may read.
 
-ghost use Rattle.std.specs.Prelude.{◌≡◌, ◌<◌, ◌≤◌, ◌+◌, ◌^◌, IsSome, IfSome, Some};
+ghost use Rattle.std.specs.Prelude.{◌≡◌, ◌<◌, ◌≤◌, ◌^◌, IsSome, IfSome, Some};
 ghost use Rattle.task_script.specs.script.ScriptView.{IsEvent, IsScript};
 ghost use Rattle.task_script.specs.script.Unrolled.{event_at};
 ghost use Rattle.task_script.specs.script.Segments.{begun_at, moved, kept_cursor, given_by, given_at, is_late, passes_late_timer, asked, GivesAsWritten, IsSegment, next_ask};

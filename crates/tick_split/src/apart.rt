@@ -1,6 +1,6 @@
 //! A list in more than one piece, each worked on in a thread of its own.
 
-ghost use Rattle.std.specs.Prelude.{◌≡◌, ◌<◌, ◌≤◌, ℕ, All, map, min, length, vec_len, slice_index_or, IfOk, IfSome, IsNone, IsSome};
+ghost use Rattle.std.specs.Prelude.{◌≡◌, ◌<◌, ◌≤◌, ℕ, All, map, min, vec_len, slice_index_or, IfOk, IfSome, IsNone, IsSome};
 ghost use Rattle.tick_split.specs.Pieces.{piece_of};
 
 use crate::fault::StartFault;

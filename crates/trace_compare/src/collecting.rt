@@ -1,7 +1,7 @@
 //! The runs of all tasks, collected from the last switch to the first.
 
-ghost use Rattle.std.specs.Prelude.{◌≡◌, ◌≢◌, ◌+◌, ◌-◌, ◌<◌, ◌≤◌, ◌^◌, ℕ, List, [], ◌++◌, ◌∷◌, length, vec_len, All, IfOk, OnOk, OnErr, slice_index_or, slice_set, Option, None, Some};
-ghost use Rattle.trace_compare.specs.Runs.{raw_runs, run_until, IsShort};
+ghost use Rattle.std.specs.Prelude.{◌≡◌, ◌<◌, List, [], ◌∷◌, vec_len, All, IfOk, OnOk, None};
+ghost use Rattle.trace_compare.specs.Runs.{run_until};
 ghost use Rattle.trace_compare.specs.private.Behind.{IsBehind, PushesOne, Takes, IsCollected};
 
 use crate::run::Run;

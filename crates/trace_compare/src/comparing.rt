@@ -1,6 +1,6 @@
 //! All tasks of the model beside their recorded runs.
 
-ghost use Rattle.std.specs.Prelude.{◌≡◌, ◌<◌, ◌^◌, length, All, IfOk, IfSome};
+ghost use Rattle.std.specs.Prelude.{◌<◌, ◌^◌, length, All, IfOk, IfSome};
 ghost use Rattle.trace_compare.specs.Tasks.{IsSound};
 ghost use Rattle.trace_compare.specs.Matched.{IsSoundMatching};
 ghost use Rattle.trace_compare.specs.Compared.{AreMatched, IsCompared};

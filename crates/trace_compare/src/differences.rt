@@ -1,11 +1,10 @@
 //! What is told of matched runs, and of those that are not.
 
-ghost use Rattle.std.specs.Prelude.{◌≡◌, ◌+◌, ◌-◌, ◌<◌, ◌≤◌, ◌^◌, map, All, IfOk, IfSome, OnOk, ◌++◌};
-ghost use Rattle.std.specs.Option.{option_copied};
+ghost use Rattle.std.specs.Prelude.{◌≡◌, ◌+◌, ◌<◌, ◌≤◌, ◌^◌, map, All, IfOk, IfSome, OnOk, ◌++◌};
 ghost use Rattle.trace_compare.specs.Runs.{IsShort};
 ghost use Rattle.trace_compare.specs.Tasks.{IsSound};
 ghost use Rattle.trace_compare.specs.Matched.{IsSoundMatching};
-ghost use Rattle.trace_compare.specs.Pairs.{no_shift, matched};
+ghost use Rattle.trace_compare.specs.Pairs.{matched};
 ghost use Rattle.trace_compare.specs.Differences.{pairs_of, distance, start_apart, end_apart, same_cpu, one_pair, first_missing, is_inside, first_other, others};
 
 use crate::pairs::{Matching, NO_SHIFT};

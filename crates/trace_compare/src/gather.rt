@@ -1,10 +1,10 @@
 //! The runs of each task of the model, in the model's trace and in the recording.
 
-ghost use Rattle.std.specs.Prelude.{◌≡◌, ◌+◌, ◌-◌, ◌<◌, ◌≤◌, ◌^◌, ℕ, List, [], ◌++◌, ◌∷◌, length, vec_len, reverse, unwrap_or, All, IfOk, IfSome, OnOk};
+ghost use Rattle.std.specs.Prelude.{◌≡◌, ◌<◌, ◌^◌, ℕ, length, reverse, All, IfOk, IfSome};
 ghost use Rattle.std.specs.List.{list_all};
-ghost use Rattle.trace_compare.specs.Runs.{raw_runs, runs_of, are_longer, noise_of, IsShort, InTurn};
+ghost use Rattle.trace_compare.specs.Runs.{runs_of, are_longer, noise_of, IsShort, InTurn};
 ghost use Rattle.trace_compare.specs.Tasks.{IsSound, AreTasksOf, HaveSmallTimes, IsNoise};
-ghost use Rattle.trace_compare.specs.private.Behind.{IsCollected, AreShortLists, AreSettled};
+ghost use Rattle.trace_compare.specs.private.Behind.{AreShortLists, AreSettled};
 
 use crate::collecting::collect;
 use crate::run::Run;

@@ -1,9 +1,9 @@
 //! The nearest recorded run, and the model's time.
 
-ghost use Rattle.std.specs.Prelude.{◌≡◌, ◌+◌, ◌-◌, ◌<◌, ◌≤◌, ◌^◌, length, fold, min, max, All, IfSome, IfNone};
+ghost use Rattle.std.specs.Prelude.{◌≡◌, ◌<◌, ◌≤◌, ◌^◌, length, fold, min, max, All, IfSome, IfNone};
 ghost use Rattle.trace_compare.specs.Runs.{IsShort};
 ghost use Rattle.trace_compare.specs.Tasks.{IsSound};
-ghost use Rattle.trace_compare.specs.Differences.{far_from, IsNearest, first_start, last_end, all_runs};
+ghost use Rattle.trace_compare.specs.Differences.{far_from, IsNearest, first_start, last_end};
 
 use crate::pairs::NO_SHIFT;
 use crate::run::Run;

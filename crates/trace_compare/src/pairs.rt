@@ -1,9 +1,9 @@
 //! Which runs match.
 
-ghost use Rattle.std.specs.Prelude.{◌≡◌, ◌+◌, ◌<◌, ◌≤◌, ◌^◌, length, All, IfOk};
+ghost use Rattle.std.specs.Prelude.{◌≡◌, ◌<◌, ◌≤◌, ◌^◌, length, All, IfOk};
 ghost use Rattle.trace_compare.specs.Runs.{IsShort, InTurn};
 ghost use Rattle.trace_compare.specs.private.Meetings.{IsMeeting};
-ghost use Rattle.trace_compare.specs.Matched.{IsSoundMatching, ArePartnersShort};
+ghost use Rattle.trace_compare.specs.Matched.{IsSoundMatching};
 ghost use Rattle.trace_compare.specs.Pairs.{is_near, fits, partners, left_over, matched};
 
 use crate::run::Run;

@@ -1,7 +1,7 @@
 //! The runs of a recording's tasks.
 
-ghost use Rattle.std.specs.Prelude.{◌≡◌, ◌+◌, ◌-◌, ◌<◌, ◌≤◌, ◌^◌, ℕ, List, [], ◌++◌, ◌∷◌, length, max, reverse, slice_get, All, IfOk, OnOk, slice_index_or, option_map};
-ghost use Rattle.trace_compare.specs.Runs.{raw_runs, both, joined, joined_on, runs_of, kept, length_of, IsShort, InTurn};
+ghost use Rattle.std.specs.Prelude.{◌≡◌, ◌<◌, ◌^◌, List, [], ◌++◌, ◌∷◌, All, IfOk, OnOk};
+ghost use Rattle.trace_compare.specs.Runs.{both, joined_on, runs_of, kept, IsShort, InTurn};
 
 use crate::run::Run;
 use recorded_text::Step;

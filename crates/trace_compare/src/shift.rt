@@ -1,11 +1,11 @@
 //! The shift of the recording's clock.
 
-ghost use Rattle.std.specs.Prelude.{◌≡◌, ◌+◌, ◌-◌, ◌*◌, ◌/◌, ◌<◌, ◌≤◌, ◌^◌, ℕ, List, [], ◌++◌, ◌∷◌, length, vec_len, take, map, sum_by, min, max, All, IfOk, OnOk, Contains};
+ghost use Rattle.std.specs.Prelude.{◌≡◌, ◌+◌, ◌-◌, ◌<◌, ◌≤◌, ◌^◌, ◌++◌, length, take, map, sum_by, All, IfOk, OnOk};
 ghost use Rattle.std.specs.List.{flat_map};
-ghost use Rattle.trace_compare.specs.Runs.{IsShort, InTurn};
+ghost use Rattle.trace_compare.specs.Runs.{IsShort};
 ghost use Rattle.trace_compare.specs.Tasks.{IsSound};
-ghost use Rattle.trace_compare.specs.Pairs.{no_shift, fits, partners, matched};
-ghost use Rattle.trace_compare.specs.Shift.{shifts_from, shifts_of, looked_at, candidates, share_of, task_score, score, IsBestOf, IsShift};
+ghost use Rattle.trace_compare.specs.Pairs.{no_shift};
+ghost use Rattle.trace_compare.specs.Shift.{shifts_of, task_score, IsBestOf, IsShift};
 ghost use Rattle.trace_compare.specs.private.Choices.{IsBetter};
 
 use crate::pairs::{NO_SHIFT, matched_count};

@@ -2,7 +2,6 @@
 
 ghost use Rattle.std.specs.Prelude.{◌≡◌, ◌<◌, ◌≤◌, ◌+◌, ◌^◌, ◌++◌, [], ℕ, length, map, All, IfOk, IfErr, OnErr, IfSome, IfNone, slice_get};
 ghost use Rattle.std.specs.Option.{option_to_list};
-ghost use Rattle.attr_check.specs.Ratio.{cap};
 ghost use Rattle.bw_gate.specs.Pieces.{cpus_of};
 ghost use Rattle.domain_run.specs.declared.call.Call.TheVariants as Call;
 ghost use Rattle.domain_run.specs.Tick as tick;

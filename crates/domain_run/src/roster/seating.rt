@@ -8,7 +8,7 @@ ghost use Rattle.domain_run.specs.Tick.{sum_of};
 ghost use Rattle.domain_run.specs.private.Index.{IsAt};
 ghost use Rattle.domain_run.specs.private.Doubts.{IsSettled};
 ghost use Rattle.domain_run.specs.private.Roster.{rate_in, basis_in, IsSeated};
-ghost use Rattle.due_times.specs.Seats.{IsAhead, seat_by};
+ghost use Rattle.due_times.specs.Seats.{IsAhead};
 ghost use Rattle.domain_run.specs.private.Waiting as spec;
 
 use super::Roster;

@@ -1,7 +1,7 @@
 //! A change of one listed task, of which the run queue is told. Before it changes it is charged
 //! what it owes, and leaves its seat.
 
-ghost use Rattle.std.specs.Prelude.{◌≡◌, ◌<◌, ◌≤◌, ◌^◌, ◌*◌, ◌-◌, ◌<ℤ◌, ◌-ℤ◌, pos, All, IfSome, None, Some, is_some, length, slice_index_or};
+ghost use Rattle.std.specs.Prelude.{◌≡◌, ◌<◌, ◌≤◌, ◌^◌, ◌*◌, ◌-◌, ◌<ℤ◌, ◌-ℤ◌, pos, All, None, Some, is_some, length, slice_index_or};
 ghost use Rattle.domain_run.specs.declared.task.Task.{Task};
 ghost use Rattle.domain_run.specs.Sound.{IsSound};
 ghost use Rattle.domain_run.specs.private.Roster.{after_change, put_aside, MayMake, Fits};

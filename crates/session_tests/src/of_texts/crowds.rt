@@ -1,5 +1,5 @@
 // Many clients at once.
-ghost use Rattle.std.specs.Prelude.{◌≡◌, ◌<◌};
+ghost use Rattle.std.specs.Prelude.{◌≡◌};
 
 use super::runs::RACE;
 use crate::begun::{clients_of, options_on, parts_on, tasks_of};

@@ -1,6 +1,6 @@
 //! A book at its end: no call is made on it any more, but one last advance that is heard.
 
-ghost use Rattle.std.specs.Prelude.{◌≡◌, ◌<◌, ◌≤◌, ◌+◌, [], length, map, true, false, All, IfOk, IfErr, OnErr};
+ghost use Rattle.std.specs.Prelude.{◌≡◌, ◌≤◌, ◌+◌, [], length, map, true, false, All, IfOk, IfErr, OnErr};
 ghost use Rattle.bw_gate.specs.Pieces.{cpus_of};
 ghost use Rattle.domain_run.specs.declared.call.Call.TheVariants as Call;
 ghost use Rattle.domain_run.specs.declared.call.Reply.TheVariants as Reply;
