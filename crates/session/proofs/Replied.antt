@@ -1,5 +1,5 @@
 -- Calls under a domain's lock, other than admissions.
-use Rattle.std.proofs.Common.{◌≡◌, ◌≢◌, ℕ, ◌+◌, ◌-◌, Bool, true, false, cond, List, ◌∷◌, ◌++◌, length, length-append, arith, Option, Some, None, Ok, Err, inl, inr, refl, sym, ap, subst}
+use Rattle.std.proofs.Common.{◌≡◌, ◌≢◌, ℕ, ◌+◌, ◌-◌, Bool, true, false, cond, List, ◌∷◌, ◌++◌, length, length-append, arith, Option, Some, None, Ok, Err, inl, inr, refl, sym, ap, subst, ◌∙◌}
 use Rattle.std.specs.Prelude.{Result, IfOk, IfErr, All, nat_lt}
 use Rattle.std.proofs.lemmas.List.{get_or-append-add}
 use Rattle.attr_check.specs.ParamsView.{ParamsView}
@@ -24,8 +24,23 @@ use Rattle.calls_text.specs.Histories.{calls_of}
 use Rattle.call_book.specs.BookAnswers.{IsBusy, IsRegraded}
 use Rattle.call_book.specs.LimitAnswers.{IsLimitSet, AnswersLimit}
 use Rattle.session.specs.declared.refusal.Refusal.TheVariants as refusals
+use Rattle.session.specs.SessionId.{SessionId}
 use Rattle.session.specs.Asks.{Answer, IsOverCap, AsksWord, IsByWord}
-use Rattle.session.specs.private.Entering.{SameBook, IsReplied, IsRegradedBy, limit_answer, limit_back, IsLimitedBy, IsWhyNotMade}
+use Rattle.session.specs.private.Entering.{IsSessionBook, SameBook, IsReplied, IsRegradedBy, limit_answer, limit_back, IsLimitedBy, IsWhyNotMade}
+
+-- what is the session's book stays so with other entries and pieces
+pub same_named : (id : SessionId) (d : ℕ) (old new : BookView) → SameBook old new → IsSessionBook id d old → IsSessionBook id d new
+same_named id d old new same is = record {
+  gate = same.gate ∙ is.gate;
+  domain = same.domain ∙ is.domain;
+  spine = same.spine ∙ is.spine;
+  cpus = same.cpus ∙ is.cpus;
+  limit = same.limit ∙ is.limit;
+  clients = same.clients ∙ is.clients;
+  room = same.room ∙ is.room;
+  workers = same.workers ∙ is.workers;
+  place = is.place;
+}
 
 same_entered : (old new : BookView) (p q : PassView Entry) (call : Call) (reply : Reply) → Enters old new p q call reply → SameBook old new
 same_entered old new p q call reply e = record {

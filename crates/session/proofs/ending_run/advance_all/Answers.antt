@@ -1,4 +1,5 @@
 use Rattle.std.proofs.Common.{◌≡◌, ◌≤◌, ◌<◌, ◌+◌, ◌∙◌, length, set, sym, refl, arith}
+use Rattle.std.proofs.lemmas.Grind.{common_steps}
 use Rattle.std.proofs.lemmas.List.{length-set}
 use Rattle.std.proofs.lemmas.Result.{err_from_is_err_and}
 use Rattle.call_book.specs.Book.{IsFull}
@@ -58,3 +59,9 @@ returns-in_err-advance_book-clause-err g c =
     rw (p.1, p.2) (stopped_so (IsFull b × (now ≡ c.loop-place.client)) (IsFullAmong c.args.duration (set books n b) a now) c.in_err-advance_book.field-0.0
     (λ met. full_among n c.args.duration books b a c.loop-place.client now inside there c.requires.some inv.made met.0 met.1)
     c.in_err-advance_book.ensures.err)
+
+pub loop-place-init : goal.loop-place-init
+loop-place-init g c = grind (arith, common_steps)
+
+pub advance_book-requires-clause-named : goal.advance_book-requires-clause-named
+advance_book-requires-clause-named g c = grind (arith, common_steps)

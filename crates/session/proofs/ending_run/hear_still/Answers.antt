@@ -1,4 +1,5 @@
 use Rattle.std.proofs.Common.{◌≡◌, ℕ, ◌<◌, ◌+◌, ◌∙◌, List, [], ◌∷◌, ◌++◌, true, false, get_or, length, set, sym, refl, ap, subst, arith}
+use Rattle.std.proofs.lemmas.Grind.{common_steps}
 use Rattle.std.proofs.lemmas.List.{get_or-map, length-map, length-set, length_push}
 use Rattle.std.proofs.Math.Seq.{map-set_same}
 use Rattle.run_figures.specs.Accounting.{AccountingView}
@@ -37,3 +38,15 @@ loop-place-preserved c =
           (heard_still n (n + 1) 0 (books_of books) c.loop-place.heard.items a there inv.many refl inv.heard (λ y. subst (λ (v : BookView). IsHeardOf 0 v a) (sym (at y)) done.all)));
       room = omega (arith, inv.room, c.push_reserved.ensures.capacity);
     }
+
+pub loop-place-init : goal.loop-place-init
+loop-place-init c = grind (arith, common_steps)
+
+pub returns-clause-books : goal.returns-clause-books
+returns-clause-books c = grind (arith, common_steps)
+
+pub returns-clause-forgotten : goal.returns-clause-forgotten
+returns-clause-forgotten c = grind (arith, common_steps)
+
+pub returns-clause-heard : goal.returns-clause-heard
+returns-clause-heard c = grind (arith, common_steps)

@@ -1,4 +1,5 @@
-use Rattle.std.proofs.Common.{length, Some, ap, subst, ◌∙◌}
+use Rattle.std.proofs.Common.{length, Some, ap, subst, ◌∙◌, arith}
+use Rattle.std.proofs.lemmas.Grind.{common_steps}
 use Rattle.attr_check.specs.ParamsView.{ParamsView}
 use Rattle.domain_run.specs.declared.call.Call.{Call}
 use Rattle.domain_run.specs.declared.call.Call.TheVariants as calls
@@ -34,3 +35,9 @@ returns-in-Ok-clause-gate g c =
 pub returns-in-Err-clause-made : goal.returns-in-Err-clause-made
 returns-in-Err-clause-made g c =
     refused_makes c.args.self.now _ c.args.place (call_of c.args.task.now) refusals.Enomem (ap (λ (v : ClientView). v.number) c.keep.ensures) (ap (λ (v : ClientView). v.passes) c.keep.ensures)
+
+pub submit-requires-clause-place : goal.submit-requires-clause-place
+submit-requires-clause-place g c = grind (arith, common_steps)
+
+pub submit-requires-clause-own : goal.submit-requires-clause-own
+submit-requires-clause-own g c = grind (arith, common_steps)

@@ -1,4 +1,5 @@
 use Rattle.std.proofs.Common.{◌≡◌, ℕ, subst, arith}
+use Rattle.std.proofs.lemmas.Grind.{common_steps}
 use Rattle.session.specs.private.Moving.{IsMoveFor}
 use Rattle.session.proofs.client.Client.move_from.Goals as goal
 
@@ -6,3 +7,24 @@ pub returns-in_default : goal.returns-in_default
 returns-in_default g c =
     let seven : 7 ≡ c.args.to = omega (arith, c.requires.to, c.shared.invariant.2.few, c.in_default) in
     subst (λ (d : ℕ). IsMoveFor g.N.Names.id g.row.D d c.args.self.now c.move_between-in_default.new.self c.args.prepared c.args.ticket c.move_between-in_default.result) seven c.move_between-in_default.ensures
+
+pub returns-in-0 : goal.returns-in-0
+returns-in-0 g c = grind (arith, common_steps)
+
+pub returns-in-1 : goal.returns-in-1
+returns-in-1 g c = grind (arith, common_steps)
+
+pub returns-in-2 : goal.returns-in-2
+returns-in-2 g c = grind (arith, common_steps)
+
+pub returns-in-3 : goal.returns-in-3
+returns-in-3 g c = grind (arith, common_steps)
+
+pub returns-in-4 : goal.returns-in-4
+returns-in-4 g c = grind (arith, common_steps)
+
+pub returns-in-5 : goal.returns-in-5
+returns-in-5 g c = grind (arith, common_steps)
+
+pub returns-in-6 : goal.returns-in-6
+returns-in-6 g c = grind (arith, common_steps)
