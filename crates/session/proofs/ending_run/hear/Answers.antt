@@ -1,9 +1,8 @@
-use Rattle.std.proofs.Common.{◌≡◌, ◌∙◌, length, subst, sym, ap}
+use Rattle.std.proofs.Common.{◌∙◌, length, subst, sym, ap}
 use Rattle.std.proofs.lemmas.List.{length-map}
 use Rattle.call_book.specs.Book.{BookView}
 use Rattle.call_book.specs.Ending.{EndingView}
 use Rattle.session.specs.private.Parts.{AreSessionBooks}
-use Rattle.session.specs.private.Ending.{books_of}
 use Rattle.session.proofs.ending_run.hear.Goals as goal
 
 -- the book of a book at its end
