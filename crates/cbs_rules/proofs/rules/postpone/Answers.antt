@@ -1,4 +1,4 @@
-use Rattle.std.proofs.Common.{◌≡◌, ℕ, ◌*◌, ◌<◌, ◌≤◌, ◌^◌, ◌∙◌, ap, pos, neg_ℤ, ◌≤ℤ◌, ℤ, ◌+ℤ◌, ◌*ℤ◌, arith}
+use Rattle.std.proofs.Common.{◌≡◌, ℕ, ◌*◌, ◌<◌, ◌≤◌, ◌^◌, ◌∙◌, ap, pos, neg_ℤ, ◌≤ℤ◌, ℤ, ◌+ℤ◌, ◌*ℤ◌, arith, rules}
 use Rattle.std.specs.Int.{w128}
 use Rattle.std.proofs.Math.Nat.{mul-le-mul}
 use Rattle.std.proofs.lemmas.Int.{ints, to_z-of_z}
@@ -31,3 +31,6 @@ overflow_add-result c = sum_fits c.args.server.left _ (c.args.times * c.budget_o
 pub returns-clause-left : goal.returns-clause-left
 returns-clause-left c =
     to_z-of_z w128 _ (overflow_add-result c) ∙ more c ∙ ap (λ (b : ℕ). c.args.server.left +ℤ pos (c.args.times * b)) c.budget_of-budget.ensures.value
+
+pub returns-clause-deadline : goal.returns-clause-deadline
+returns-clause-deadline c = search rules

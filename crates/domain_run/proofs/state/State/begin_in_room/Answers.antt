@@ -1,4 +1,4 @@
-use Rattle.std.proofs.Common.{◌≡◌, ◌+◌, ◌<◌, ◌^◌, length, sym, ap, ◌∙◌, subst, arith}
+use Rattle.std.proofs.Common.{◌≡◌, ◌+◌, ◌<◌, ◌^◌, length, sym, ap, ◌∙◌, subst, arith, rules}
 use Rattle.domain_run.specs.Domain.{Domain}
 use Rattle.domain_run.specs.Jump.{under_way, running_numbers}
 use Rattle.domain_run.specs.Sound.{IsDomain, IsPlacement}
@@ -84,3 +84,6 @@ begin-changed-requires-clause-room c = grind (arith, common_steps)
 
 pub overflow_add-self : goal.overflow_add-self
 overflow_add-self c = grind (arith, common_steps)
+
+pub returns-then-capacity-len-clause-some : goal.returns-then-capacity-len-clause-some
+returns-then-capacity-len-clause-some c = search rules

@@ -1,0 +1,8 @@
+use Rattle.std.proofs.Common.{rules}
+use Rattle.jump_run.proofs.advancing.advance_piece.Goals as goal
+
+pub returns-clause-state : goal.returns-clause-state
+returns-clause-state c = search rules
+
+pub returns-clause-told : goal.returns-clause-told
+returns-clause-told c = search rules
