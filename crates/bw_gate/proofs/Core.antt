@@ -8,7 +8,7 @@ use Rattle.bw_world.specs.declared.step.Outcome.TheVariants.{Saw, Over, Lost}
 use Rattle.bw_world.specs.declared.step.Word.{Word}
 use Rattle.bw_world.specs.declared.ticket.Ticket.{Ticket}
 use Rattle.bw_world.specs.WorldView.{DomainView}
-use Rattle.bw_world.specs.DomainStep.{stays, done, word_in, is_expected, refusal_of, limit_refusal_of, unless_refused, given_found}
+use Rattle.bw_world.specs.DomainStep.{unchanged_step, done, word_in, is_expected, refusal_of, limit_refusal_of, step_unless_refused, given_found}
 use Rattle.bw_gate.specs.declared.answer.Take.TheVariants as takes
 use Rattle.bw_gate.specs.declared.answer.Regrade.TheVariants as regrades
 use Rattle.bw_gate.specs.declared.answer.Limit.TheVariants as limits
@@ -22,7 +22,7 @@ use Rattle.bw_gate.specs.Answers.{cap_by}
 use Rattle.std.specs.Prelude.{slice_index, length}
 use Rattle.std.proofs.Math.Decide.{dec_lt}
 use Rattle.bw_gate.specs.Terms.{TermsView}
-use Rattle.bw_gate.specs.Table.{held, held_by, held_by_all, IsKept}
+use Rattle.bw_gate.specs.Table.{held, held_by, held_by_all, IsTableKept}
 use Rattle.bw_gate.proofs.Views.{past_end}
 use Rattle.bw_gate.specs.Core.{core_word, tickets_in, tickets_from, with_taken, with_regraded, KeepsTheLaw, TakesAsTheCore, RegradesAsTheCore, GivesAsTheCore, LoadsAsTheCore, LimitsAsTheCore}
 
@@ -51,7 +51,7 @@ sum_from d id (v ∷ views) =
     let e = sum_by-cons (held_by d) v views in
     omega (arith, a, b, s, e)
 
-within_at : (terms : TermsView) (words : List ℕ) (views : List View) (d : ℕ) → IsKept terms words views → Dec (d < length terms.cpus) → used_of (slice_index words d) ≤ cap_of (slice_index words d)
+within_at : (terms : TermsView) (words : List ℕ) (views : List View) (d : ℕ) → IsTableKept terms words views → Dec (d < length terms.cpus) → used_of (slice_index words d) ≤ cap_of (slice_index words d)
 within_at terms words views d kept (yes lt) = (kept.sound d lt).within
 within_at terms words views d kept (no ge) =
     let none = ap used_of (past_end words d (omega (arith, kept.count, ge))) in
@@ -103,8 +103,8 @@ limit_over n cap c word lt = rw (expected_is n c word, lt-ltb cap c.used lt) ref
 limit_granted : (n cap : ℕ) (c : DomainView) → word_in c ≡ core_word n → c.used ≤ cap → limit_refusal_of (core_word n) cap c ≡ None
 limit_granted n cap c word le = rw (expected_is n c word, le-ltb cap c.used le) refl
 
-answers : (c : DomainView) (changed : DomainView) (a b : Option Outcome) → a ≡ b → unless_refused c a changed ≡ unless_refused c b changed
-answers c changed a b e = ap (λ (o : Option Outcome). unless_refused c o changed) e
+answers : (c : DomainView) (changed : DomainView) (a b : Option Outcome) → a ≡ b → step_unless_refused c a changed ≡ step_unless_refused c b changed
+answers c changed a b e = ap (λ (o : Option Outcome). step_unless_refused c o changed) e
 
 -- the parts of a domain's word
 used_is : (n : ℕ) (c : DomainView) → word_in c ≡ core_word n → c.used ≡ used_of n
@@ -149,7 +149,7 @@ gives_as_the_core t b h = record {
 pub loads_as_the_core : LoadsAsTheCore
 loads_as_the_core t n u h = record {
   found = ap (λ (w : TicketView). w.found) h.ticket;
-  core = λ c word. ap (λ (k : Word). stays c (Saw k)) word;
+  core = λ c word. ap (λ (k : Word). unchanged_step c (Saw k)) word;
 }
 
 pub limits_as_the_core : LimitsAsTheCore

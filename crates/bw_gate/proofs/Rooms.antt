@@ -7,7 +7,7 @@ use Rattle.std.proofs.lemmas.List.{get_or-map, length-map}
 use Rattle.bw_gate.specs.declared.terms.Room.{Room}
 use Rattle.bw_gate.specs.Word.{used_of, word_of, IsLimit, IsWord, first_word}
 use Rattle.bw_gate.specs.Terms.{AreRooms, IsMachine, terms_of, cpus_in}
-use Rattle.bw_gate.specs.Table.{IsKept, opened}
+use Rattle.bw_gate.specs.Table.{IsTableKept, blank_table}
 use Rattle.bw_gate.proofs.Parts.{new_cap, of_parts}
 use Rattle.bw_gate.proofs.Views.{past_end}
 use Rattle.bw_gate.proofs.Steps.{begins}
@@ -52,7 +52,7 @@ module _ (rooms : List Room) (n : ℕ) (h : AreRooms rooms n) where
       let word : IsWord r.cpus (first_word r) = subst (IsWord r.cpus) (first_is r) (new_cap r.cpus r.limit 0 (machine_at d lt).most (limit_at d lt) (omega arith)) in
       subst (λ w. IsWord (cpus_in (terms_of rooms n) d) w) (sym (word_at d lt)) (subst (λ k. IsWord k (first_word r)) (sym (cpus_at d lt)) word)
 
-  pub rooms_begin : IsKept (terms_of rooms n) (map first_word rooms) (opened (terms_of rooms n) ∷ [])
+  pub rooms_begin : IsTableKept (terms_of rooms n) (map first_word rooms) (blank_table (terms_of rooms n) ∷ [])
   rooms_begin =
       let a = length-map rooms (λ (r : Room). r.cpus) in
       let b = length-map rooms first_word in

@@ -19,13 +19,13 @@ use Rattle.bw_gate.specs.declared.view.Piece.TheVariants.{Blank, Ticket}
 use Rattle.bw_gate.specs.declared.view.View.{View}
 use Rattle.bw_gate.specs.Terms.{TermsView, cpus_in}
 use Rattle.bw_gate.specs.Word.{used_of, cap_of, IsWord}
-use Rattle.bw_gate.specs.Table.{held, held_by, held_by_all, Carries, IsKept, opened}
-use Rattle.bw_gate.specs.Kinds.{told, made, IsFound, Loads, Takes, Regrades, Gives, Limits, first_piece, other_pieces, renewed, Renews, without_piece, Comes, gathered, spent}
+use Rattle.bw_gate.specs.Table.{held, held_by, held_by_all, Carries, IsTableKept, blank_table}
+use Rattle.bw_gate.specs.Kinds.{with_found, made, IsFound, Loads, Takes, Regrades, Gives, Limits, first_piece, other_pieces, without_found, Renews, without_piece, Comes, with_pieces_of, spent}
 use Rattle.bw_gate.proofs.Parts.{less_used, same_cap}
 use Rattle.bw_gate.proofs.Views.{past_end, sum_set, sum_at, all_at, alone, held_one, held_here, held_else}
 
 -- a view goes over into one of as many pieces, and the word of a domain goes with what they hold of it
-module _ (terms : TermsView) (words : List ℕ) (views : List View) (id i n : ℕ) (v w : View) (kept : IsKept terms words views) (at : get_elem? views id ≡ some v) (inside : i < length terms.cpus) (pieces : length w.pieces ≡ length v.pieces) (same : w.terms ≡ v.terms) (others : (d : ℕ) → d ≢ i → held_by d w ≡ held_by d v) (word : used_of n + held_by i v ≡ used_of (slice_index words i) + held_by i w) (sound : IsWord (cpus_in terms i) n) where
+module _ (terms : TermsView) (words : List ℕ) (views : List View) (id i n : ℕ) (v w : View) (kept : IsTableKept terms words views) (at : get_elem? views id ≡ some v) (inside : i < length terms.cpus) (pieces : length w.pieces ≡ length v.pieces) (same : w.terms ≡ v.terms) (others : (d : ℕ) → d ≢ i → held_by d w ≡ held_by d v) (word : used_of n + held_by i v ≡ used_of (slice_index words i) + held_by i w) (sound : IsWord (cpus_in terms i) n) where
   word_after : (d : ℕ) → Dec (d ≡ i) → used_of (slice_index (set words i n) d) ≡ held_by_all d (set views id w)
   word_after d (yes e) =
       let short : i < length words = omega (arith, kept.count) in
@@ -48,7 +48,7 @@ module _ (terms : TermsView) (words : List ℕ) (views : List View) (id i n : �
       subst (λ k. IsWord (cpus_in terms k) (get_or (set words i n) k 0)) (sym e) (subst (IsWord (cpus_in terms i)) (sym (get_or-set_same words i n 0 short)) sound)
   sound_after d lt (no ne) = subst (IsWord (cpus_in terms d)) (sym (get_or-set_other words i d n 0 ne)) (kept.sound d lt)
 
-  pub kept_after : IsKept terms (set words i n) (set views id w)
+  pub kept_after : IsTableKept terms (set words i n) (set views id w)
   kept_after = record {
     count = length-set words i n ∙ kept.count;
     exact = λ d. word_after d (ℕ_discrete d i);
@@ -74,7 +74,7 @@ less n k le lt =
 module _ {S : Type 0} where
   -- the rule of a gate
   abbrev pub Rule : TermsView → State S View → Type 0
-  Rule terms s = IsKept terms s.words s.views
+  Rule terms s = IsTableKept terms s.words s.views
 
   found_at : (terms : TermsView) (s : State S View) (id d : ℕ) (v : View) → Rule terms s → get_elem? s.views id ≡ some v → d < length terms.cpus → v.terms ≡ terms → IsFound d v (slice_index s.words d)
   found_at terms s id d v kept at inside same =
@@ -88,14 +88,14 @@ module _ {S : Type 0} where
       let n = slice_index s.words d in
       let v = me.0 in
       let found = found_at terms s id d v kept at inside same in
-      (told n v, keeps, tt, kept_after terms s.words s.views id d n v (told n v) kept at inside refl refl (λ e ne. refl) refl (kept.sound d inside), ((found, (refl, refl)), refl))
+      (with_found n v, keeps, tt, kept_after terms s.words s.views id d n v (with_found n v) kept at inside refl refl (λ e ne. refl) refl (kept.sound d inside), ((found, (refl, refl)), refl))
 
   -- a load of the first word, after which the piece has found nothing
   pub renews : (terms : TermsView) (slots id : ℕ) (me : Me S View) → 0 < length terms.cpus → Allows (Rule terms) slots id me 0 (λ n. n) (Renews (step slots 0 0 0 none) me)
   renews terms slots id me inside s kept homes at bound =
       let n = slice_index s.words 0 in
       let v = me.0 in
-      (renewed v, keeps, tt, kept_after terms s.words s.views id 0 n v (renewed v) kept at inside refl refl (λ e ne. refl) refl (kept.sound 0 inside), (refl, (refl, refl)))
+      (without_found v, keeps, tt, kept_after terms s.words s.views id 0 n v (without_found v) kept at inside refl refl (λ e ne. refl) refl (kept.sound 0 inside), (refl, (refl, refl)))
 
   -- an exchange of one word for another, by a view of one piece that becomes another piece of this domain
   module _ (terms : TermsView) (slots id d old new : ℕ) (me : Me S View) (p q : Piece) (inside : d < length terms.cpus) (same : me.0.terms ≡ terms) (one : me.0.pieces ≡ p ∷ []) (others : (e : ℕ) → e ≢ d → held e q ≡ held e p) (word : used_of new + held d p ≡ used_of old + held d q) (sound : IsWord (cpus_in terms d) new) (still : cap_of new ≡ cap_of old) where
@@ -110,7 +110,7 @@ module _ {S : Type 0} where
         let n = slice_index s.words d in
         (w : View) × (a : Act S) × Valid s.homes me.1 a × Rule terms (stepped s d (either b new n) id me.1 w a)
         × ((cap_of new ≡ cap_of old)
-        × MatchBool b (IsMe (w, carried_after me.1 a) (made q n v, me.1)) (IsMe (w, carried_after me.1 a) (told n v, me.1)))
+        × MatchBool b (IsMe (w, carried_after me.1 a) (made q n v, me.1)) (IsMe (w, carried_after me.1 a) (with_found n v, me.1)))
 
     hit : (s : State S View) → Rule terms s → get_elem? s.views id ≡ some v → slice_index s.words d ≡ old → Exchanged s true
     hit s kept at e =
@@ -128,9 +128,9 @@ module _ {S : Type 0} where
     miss : (s : State S View) → Rule terms s → get_elem? s.views id ≡ some v → Exchanged s false
     miss s kept at =
         let n = slice_index s.words d in
-        (told n v, keeps, tt, kept_after terms s.words s.views id d n v (told n v) kept at inside refl refl (λ e ne. refl) refl (kept.sound d inside), (still, refl))
+        (with_found n v, keeps, tt, kept_after terms s.words s.views id d n v (with_found n v) kept at inside refl refl (λ e ne. refl) refl (kept.sound d inside), (still, refl))
 
-    pub exchanges : Allows (Rule terms) slots id me d (λ n. either (n == old) new n) (λ n after. (cap_of new ≡ cap_of old) × MatchBool (n == old) (after ≡ (made q n v, me.1)) (after ≡ (told n v, me.1)))
+    pub exchanges : Allows (Rule terms) slots id me d (λ n. either (n == old) new n) (λ n after. (cap_of new ≡ cap_of old) × MatchBool (n == old) (after ≡ (made q n v, me.1)) (after ≡ (with_found n v, me.1)))
     exchanges s kept homes at bound = by_test (slice_index s.words d) old (Exchanged s) (λ e. hit s kept at e) (λ ne. miss s kept at)
 
   pub takes : (terms : TermsView) (slots id d old new : ℕ) (me : Me S View) → d < length terms.cpus → me.0.terms ≡ terms → me.0.pieces ≡ Blank ∷ [] → used_of new ≡ used_of old + (new - old) → IsWord (cpus_in terms d) new → cap_of new ≡ cap_of old → Allows (Rule terms) slots id me d (λ n. either (n == old) new n) (Takes (step slots d old new none) me)
@@ -177,10 +177,10 @@ module _ {S : Type 0} where
       let Same : Me S View → Me S View → Type 0 = λ a b. a ≡ b in
       let Exchanged : Bool → Type 0 = λ b.
       (w : View) × (a : Act S) × Valid s.homes me.1 a × Rule terms (stepped s d (either b new n) id me.1 w a)
-      × ((v.pieces ≡ Blank ∷ []) × MatchBool b (Same (w, carried_after me.1 a) (told new v, me.1)) (Same (w, carried_after me.1 a) (told n v, me.1))) in
+      × ((v.pieces ≡ Blank ∷ []) × MatchBool b (Same (w, carried_after me.1 a) (with_found new v, me.1)) (Same (w, carried_after me.1 a) (with_found n v, me.1))) in
       by_test n old Exchanged
-      (λ e. (told new v, keeps, tt, kept_after terms s.words s.views id d new v (told new v) kept at inside refl refl (λ k ne. refl) (let a = ap used_of e in omega (arith, a, used)) sound, (one, refl)))
-      (λ ne. (told n v, keeps, tt, kept_after terms s.words s.views id d n v (told n v) kept at inside refl refl (λ k no. refl) refl (kept.sound d inside), (one, refl)))
+      (λ e. (with_found new v, keeps, tt, kept_after terms s.words s.views id d new v (with_found new v) kept at inside refl refl (λ k ne. refl) (let a = ap used_of e in omega (arith, a, used)) sound, (one, refl)))
+      (λ ne. (with_found n v, keeps, tt, kept_after terms s.words s.views id d n v (with_found n v) kept at inside refl refl (λ k no. refl) refl (kept.sound d inside), (one, refl)))
 
   -- a view of as many pieces is cut in two
   pub splits : (terms : TermsView) (id : ℕ) (v : View) → Splits (Rule terms) id v (other_pieces v) (first_piece v)
@@ -213,9 +213,9 @@ module _ {S : Type 0} where
       }
 
   -- two views are made one, and the other is left with no piece
-  pub joins : (terms : TermsView) (id other : ℕ) (v w : View) → v.terms ≡ terms → Joins (Rule terms) id v other w (gathered v w) spent
+  pub joins : (terms : TermsView) (id other : ℕ) (v w : View) → v.terms ≡ terms → Joins (Rule terms) id v other w (with_pieces_of v w) spent
   joins terms id other v w same s kept at apart there =
-      let both = gathered v w in
+      let both = with_pieces_of v w in
       let views = set s.views id both in
       let all = set views other spent in
       let count : (f : View → ℕ) → f both ≡ f v + f w → f spent ≡ 0 → sum_by f all ≡ sum_by f s.views = λ f h none.
@@ -231,9 +231,9 @@ module _ {S : Type 0} where
       }
 
   -- a seat comes that has no piece
-  pub comes : (terms : TermsView) (slots d : ℕ) → Enters (Rule terms) slots d (λ n w. Comes {S = S} (step slots d 0 0 none) (opened terms, []) n (w, []))
+  pub comes : (terms : TermsView) (slots d : ℕ) → Enters (Rule terms) slots d (λ n w. Comes {S = S} (step slots d 0 0 none) (blank_table terms, []) n (w, []))
   comes terms slots d s kept homes bound =
-      let w = without_piece (opened terms) in
+      let w = without_piece (blank_table terms) in
       let count : (f : View → ℕ) → f w ≡ 0 → sum_by f (s.views ++ w ∷ []) ≡ sum_by f s.views = λ f none.
       let a = sum_by_push f s.views w in
       omega (arith, a, none) in (
@@ -249,30 +249,30 @@ module _ {S : Type 0} where
       )
 
 -- the rule at the start, where nothing is used of any word and one seat has all pieces, which are blank
-pub begins : (terms : TermsView) (words : List ℕ) → length words ≡ length terms.cpus → ((d : ℕ) → used_of (slice_index words d) ≡ 0) → ((d : ℕ) → d < length terms.cpus → IsWord (cpus_in terms d) (slice_index words d)) → IsKept terms words (opened terms ∷ [])
+pub begins : (terms : TermsView) (words : List ℕ) → length words ≡ length terms.cpus → ((d : ℕ) → used_of (slice_index words d) ≡ 0) → ((d : ℕ) → d < length terms.cpus → IsWord (cpus_in terms d) (slice_index words d)) → IsTableKept terms words (blank_table terms ∷ [])
 begins terms words long zeros sound =
-    let held_none : (d : ℕ) → held_by_all d (opened terms ∷ []) ≡ 0 = λ d.
-    let a = sum_by-cons (held_by d) (opened terms) [] in
+    let held_none : (d : ℕ) → held_by_all d (blank_table terms ∷ []) ≡ 0 = λ d.
+    let a = sum_by-cons (held_by d) (blank_table terms) [] in
     let b = sum_by-replicate (held d) terms.pieces Blank in
     omega (arith, a, b) in
     record {
       count = long;
       exact = λ d. zeros d ∙ sym (held_none d);
       sound = sound;
-      pieces = (let a = sum_by-cons (λ (u : View). length u.pieces) (opened terms) [] in let b = length-replicate terms.pieces Blank in omega (arith, a, b));
-      carried = All-cons (Carries terms) (opened terms) [] (λ _. refl) (λ k w h. absurd (omega arith));
+      pieces = (let a = sum_by-cons (λ (u : View). length u.pieces) (blank_table terms) [] in let b = length-replicate terms.pieces Blank in omega (arith, a, b));
+      carried = All-cons (Carries terms) (blank_table terms) [] (λ _. refl) (λ k w h. absurd (omega arith));
     }
 
 -- at the end, a seat's view among those of the rule: each word has room for what it holds; and where it has all pieces, what is
 -- used of each word is what it holds
-pub ends : (terms : TermsView) (words : List ℕ) (views : List View) (id : ℕ) (v : View) (d : ℕ) → IsKept terms words views → get_elem? views id ≡ some v → (held_by d v ≤ used_of (slice_index words d)) × (length v.pieces ≡ terms.pieces → used_of (slice_index words d) ≡ held_by d v)
+pub ends : (terms : TermsView) (words : List ℕ) (views : List View) (id : ℕ) (v : View) (d : ℕ) → IsTableKept terms words views → get_elem? views id ≡ some v → (held_by d v ≤ used_of (slice_index words d)) × (length v.pieces ≡ terms.pieces → used_of (slice_index words d) ≡ held_by d v)
 ends terms words views id v d kept at = (
   (let a = sum_at (held_by d) views id v at in let e = kept.exact d in omega (arith, a, e)),
   (λ all. kept.exact d ∙ alone d views id v at (kept.pieces ∙ sym all)),
 )
 
 -- what is used is at most the cap, where there is no domain too
-module _ (terms : TermsView) (words : List ℕ) (views : List View) (d : ℕ) (kept : IsKept terms words views) where
+module _ (terms : TermsView) (words : List ℕ) (views : List View) (d : ℕ) (kept : IsTableKept terms words views) where
   within_by_case : Dec (d < length terms.cpus) → used_of (slice_index words d) ≤ cap_of (slice_index words d)
   within_by_case (yes lt) = (kept.sound d lt).within
   within_by_case (no ge) =

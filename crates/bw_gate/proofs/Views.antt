@@ -14,9 +14,9 @@ use Rattle.bw_gate.specs.declared.view.View.{View}
 use Rattle.atomic_table.specs.Seated.{TableId}
 use Rattle.bw_gate.specs.Terms.{TermsView}
 use Rattle.bw_gate.specs.Answers.{blank_found, ticket_found}
-use Rattle.bw_gate.specs.Pieces.{BlankView, TicketView, last_of}
+use Rattle.bw_gate.specs.Pieces.{BlankView, TicketView, last_word_found}
 use Rattle.bw_gate.specs.Table.{held, held_by, held_by_all, pieces_of_all}
-use Rattle.bw_gate.specs.Kinds.{gathered}
+use Rattle.bw_gate.specs.Kinds.{with_pieces_of}
 
 length_none : {X : Type 0} (xs : List X) → length xs ≡ 0 → xs ≡ []
 length_none [] e = refl
@@ -96,17 +96,17 @@ pub held_else : (d e bw : ℕ) → e ≢ d → held e (Ticket d bw) ≡ 0
 held_else d e bw ne = rw (ne_eqb d e (λ s. ne (sym s))) refl
 
 -- the last word of those that were found
-pub last_of_more : (found : List ℕ) (n : ℕ) → last_of (found ++ n ∷ []) ≡ n
+pub last_of_more : (found : List ℕ) (n : ℕ) → last_word_found (found ++ n ∷ []) ≡ n
 last_of_more [] n = refl
 last_of_more (x ∷ []) n = refl
 last_of_more (x ∷ y ∷ found) n = last_of_more (y ∷ found) n
 
 -- the seat after a step that left this view with it
-pub seat_after : (S : Type 0) (me after : Me S View) (w : View) (p : Piece) (found : List ℕ) (n : ℕ) → me.1 ≡ [] → after ≡ (w, me.1) → w.pieces ≡ p ∷ [] → w.found ≡ found ++ n ∷ [] → (after.1 ≡ []) × (after.0.pieces ≡ p ∷ []) × (n ≡ last_of after.0.found)
+pub seat_after : (S : Type 0) (me after : Me S View) (w : View) (p : Piece) (found : List ℕ) (n : ℕ) → me.1 ≡ [] → after ≡ (w, me.1) → w.pieces ≡ p ∷ [] → w.found ≡ found ++ n ∷ [] → (after.1 ≡ []) × (after.0.pieces ≡ p ∷ []) × (n ≡ last_word_found after.0.found)
 seat_after S me after w p found n none e one more = (
   ap (λ (m : Me S View). m.1) e ∙ none,
   ap (λ (m : Me S View). m.0.pieces) e ∙ one,
-  sym (ap (λ (m : Me S View). last_of m.0.found) e ∙ ap last_of more ∙ last_of_more found n),
+  sym (ap (λ (m : Me S View). last_word_found m.0.found) e ∙ ap last_word_found more ∙ last_of_more found n),
 )
 
 -- what a contract sees of a blank, after a step that found more words, and after two that found one each
@@ -159,13 +159,13 @@ pub missed : (n old : ℕ) (P Q : Type 0) → n ≢ old → MatchBool (n == old)
 missed n old P Q ne h = when_false P Q (ne_eqb n old ne) h
 
 -- a view that takes one piece in
-pub gathered_holds : (d : ℕ) (v w : View) (p : Piece) → w.pieces ≡ p ∷ [] → held_by d (gathered v w) ≡ held_by d v + held d p
+pub gathered_holds : (d : ℕ) (v w : View) (p : Piece) → w.pieces ≡ p ∷ [] → held_by d (with_pieces_of v w) ≡ held_by d v + held d p
 gathered_holds d v w p one =
     let a = sum_by-append (held d) v.pieces w.pieces in
     let b = held_one d w p one in
     omega (arith, a, b)
 
-pub gathered_counts : (v w : View) (p : Piece) → w.pieces ≡ p ∷ [] → length (gathered v w).pieces ≡ length v.pieces + 1
+pub gathered_counts : (v w : View) (p : Piece) → w.pieces ≡ p ∷ [] → length (with_pieces_of v w).pieces ≡ length v.pieces + 1
 gathered_counts v w p one =
     let a = length-append v.pieces w.pieces in
     let b : length w.pieces ≡ 1 = ap length one in

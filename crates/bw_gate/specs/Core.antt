@@ -6,7 +6,7 @@ use Rattle.bw_world.specs.declared.step.Outcome.TheVariants.{Saw, Over, Lost}
 use Rattle.bw_world.specs.declared.step.Word.{Word}
 use Rattle.bw_world.specs.declared.ticket.Ticket.{Ticket}
 use Rattle.bw_world.specs.WorldView.{DomainView}
-use Rattle.bw_world.specs.DomainStep.{stays, done, word_in, limited, in_hand_of, without, with_bw, loaded, taken, regraded_in_hand, given}
+use Rattle.bw_world.specs.DomainStep.{unchanged_step, done, word_in, limited, in_hand_of, without, with_bw, loaded, taken, regraded_in_hand, given}
 use Rattle.bw_world.specs.ExactWord.{IsExactDomain}
 use Rattle.bw_gate.specs.declared.answer.Take.{Take}
 use Rattle.bw_gate.specs.declared.answer.Take.TheVariants as takes
@@ -20,7 +20,7 @@ use Rattle.bw_gate.specs.declared.answer.Limit.TheVariants as limits
 use Rattle.bw_gate.specs.Terms.{TermsView}
 use Rattle.bw_gate.specs.Word.{used_of, cap_of, word_of}
 use Rattle.bw_gate.specs.Pieces.{BlankView, TicketView}
-use Rattle.bw_gate.specs.Table.{IsKept}
+use Rattle.bw_gate.specs.Table.{IsTableKept}
 use Rattle.bw_gate.specs.Answers.{cap_by, IsTryOfTake, IsTryOfRegrade, IsTryOfLimit, IsGive, IsLoad}
 
 -- the tickets of a domain among some pieces, with one id
@@ -53,7 +53,7 @@ core_of words views d = record {
 abbrev pub KeepsTheLaw : Type 0
 KeepsTheLaw =
     (terms : TermsView) (words : List ℕ) (views : List View) (d : ℕ)
-    → IsKept terms words views → IsExactDomain (core_of words views d)
+    → IsTableKept terms words views → IsExactDomain (core_of words views d)
 
 -- a domain, in which a ticket was taken; in which a ticket in hand has another bandwidth in the
 -- place of `was`; to which a ticket was given back
@@ -83,9 +83,10 @@ pub record IsCoreTaken (b : BlankView) (d bw : ℕ) (t : TicketView) : Type 0 wh
 abbrev pub IsCoreTake : BlankView → ℕ → ℕ → Take → Type 0
 IsCoreTake b d bw (takes.Taken t) = IsCoreTaken b d bw t
 IsCoreTake b d bw (takes.Refused e seen) =
-    Everywhere seen (λ id c. taken id bw (core_word seen) c ≡ stays c (Over (word_in c)))
+    Everywhere seen (λ id c. taken id bw (core_word seen) c ≡ unchanged_step c (Over (word_in c)))
 IsCoreTake b d bw (takes.Raced e expected seen) =
-    Everywhere seen (λ id c. taken id bw (core_word expected) c ≡ stays c (Lost (word_in c)))
+    Everywhere seen
+    (λ id c. taken id bw (core_word expected) c ≡ unchanged_step c (Lost (word_in c)))
 
 -- what the core's Regrade answers and does to a ticket in hand, likewise
 pub record IsCoreChanged (t : TicketView) (bw : ℕ) (u : TicketView) : Type 0 where
@@ -98,10 +99,11 @@ abbrev pub IsCoreRegrade : TicketView → ℕ → Regrade → Type 0
 IsCoreRegrade t bw (regrades.Changed u) = IsCoreChanged t bw u
 IsCoreRegrade t bw (regrades.Refused u seen) =
     Everywhere seen
-    (λ id c. regraded_in_hand id t.bw bw (core_word seen) c ≡ stays c (Over (word_in c)))
+    (λ id c. regraded_in_hand id t.bw bw (core_word seen) c ≡ unchanged_step c (Over (word_in c)))
 IsCoreRegrade t bw (regrades.Raced u expected seen) =
     Everywhere seen
-    (λ id c. regraded_in_hand id t.bw bw (core_word expected) c ≡ stays c (Lost (word_in c)))
+    (λ id c. regraded_in_hand id t.bw bw (core_word expected) c
+    ≡ unchanged_step c (Lost (word_in c)))
 
 -- what the core's Give does, at whatever domain has the word that the step found and this ticket in
 -- hand
@@ -116,7 +118,8 @@ pub record IsCoreGive (t : TicketView) (b : BlankView) : Type 0 where
 -- nothing
 pub record IsCoreLoad (t : TicketView) (n : ℕ) (u : TicketView) : Type 0 where
   pub found : u.found ≡ t.found ++ n ∷ []
-  pub core : (c : DomainView) → word_in c ≡ core_word n → loaded c ≡ stays c (Saw (core_word n))
+  pub core : (c : DomainView) → word_in c ≡ core_word n
+      → loaded c ≡ unchanged_step c (Saw (core_word n))
 
 -- a try of the gate answers as the core does
 abbrev pub TakesAsTheCore : Type 0
@@ -149,10 +152,12 @@ abbrev pub IsCoreLimit : BlankView → ℕ → ℕ → Limit → Type 0
 IsCoreLimit b d limit (limits.Set e) = IsCoreSet b d limit e
 IsCoreLimit b d limit (limits.Refused e seen) =
     Everywhere seen
-    (λ id c. limited (cap_by b.gate d limit) (core_word seen) c ≡ stays c (Over (word_in c)))
+    (λ id c. limited (cap_by b.gate d limit) (core_word seen) c
+    ≡ unchanged_step c (Over (word_in c)))
 IsCoreLimit b d limit (limits.Raced e expected seen) =
     Everywhere seen
-    (λ id c. limited (cap_by b.gate d limit) (core_word expected) c ≡ stays c (Lost (word_in c)))
+    (λ id c. limited (cap_by b.gate d limit) (core_word expected) c
+    ≡ unchanged_step c (Lost (word_in c)))
 
 abbrev pub LimitsAsTheCore : Type 0
 LimitsAsTheCore =

@@ -10,8 +10,8 @@ use Rattle.bw_gate.specs.Word.{used_of, cap_of, IsWord}
 use Rattle.bw_gate.specs.Table.{held_by}
 
 -- the view after a step that found this word
-abbrev pub told : ℕ → View → View
-told n v = record v { found = v.found ++ n ∷ [] }
+abbrev pub with_found : ℕ → View → View
+with_found n v = record v { found = v.found ++ n ∷ [] }
 
 -- the same, where the step has made this piece of the one in hand
 abbrev pub made : Piece → ℕ → View → View
@@ -32,7 +32,7 @@ module _ {S : Type 0} where
 
   -- load: the word stays
   abbrev pub Loads : Step S → Me S View → ℕ → Me S View → Type 0
-  Loads s me n after = (IsFound s.word me.0 n × Reads s) × (after ≡ (told n me.0, me.1))
+  Loads s me n after = (IsFound s.word me.0 n × Reads s) × (after ≡ (with_found n me.0, me.1))
 
   -- take: compare_exchange of `first` for `second`; where `first` was found, the blank has become a
   -- ticket of this domain and of the bandwidth that the word gained
@@ -41,7 +41,7 @@ module _ {S : Type 0} where
       (cap_of s.second ≡ cap_of s.first)
       × MatchBool (n == s.first)
       (after ≡ (made (Ticket s.word (s.second - s.first)) n me.0, me.1))
-      (after ≡ (told n me.0, me.1))
+      (after ≡ (with_found n me.0, me.1))
 
   -- regrade: likewise; the ticket keeps its domain, and has the bandwidth that it had and what the
   -- word gained or lost
@@ -50,7 +50,7 @@ module _ {S : Type 0} where
       (cap_of s.second ≡ cap_of s.first)
       × MatchBool (n == s.first)
       (after ≡ (made (Ticket s.word (s.second + held_by s.word me.0 - s.first)) n me.0, me.1))
-      (after ≡ (told n me.0, me.1))
+      (after ≡ (with_found n me.0, me.1))
 
   -- give: fetch_sub of the ticket's bandwidth; it has become a blank
   abbrev pub Gives : Step S → Me S View → ℕ → Me S View → Type 0
@@ -64,8 +64,8 @@ module _ {S : Type 0} where
   Limits s me n after =
       (me.0.pieces ≡ Blank ∷ [])
       × MatchBool (n == s.first)
-      (after ≡ (told s.second me.0, me.1))
-      (after ≡ (told n me.0, me.1))
+      (after ≡ (with_found s.second me.0, me.1))
+      (after ≡ (with_found n me.0, me.1))
 
 -- Beside these five, open splits pieces off, renew makes a piece as open deals it, and close joins
 -- pieces, by loads that append nothing.
@@ -78,11 +78,11 @@ abbrev pub other_pieces : View → View
 other_pieces v = record v { pieces = drop 1 v.pieces }
 
 -- renew: the piece has found nothing
-abbrev pub renewed : View → View
-renewed v = record v { found = [] }
+abbrev pub without_found : View → View
+without_found v = record v { found = [] }
 
 abbrev pub Renews : {S : Type 0} → Step S → Me S View → ℕ → Me S View → Type 0
-Renews s me n after = (after ≡ (renewed me.0, me.1)) × Reads s
+Renews s me n after = (after ≡ (without_found me.0, me.1)) × Reads s
 
 -- close: a new seat comes, which has no piece and knows the terms
 abbrev pub without_piece : View → View
@@ -92,8 +92,8 @@ abbrev pub Comes : {S : Type 0} → Step S → Me S View → ℕ → Me S View �
 Comes s me n after = (after ≡ (without_piece me.0, me.1)) × Reads s
 
 -- close: it takes the pieces of all other seats in, and each of these is left with none
-abbrev pub gathered : View → View → View
-gathered v w = record v { pieces = v.pieces ++ w.pieces }
+abbrev pub with_pieces_of : View → View → View
+with_pieces_of v w = record v { pieces = v.pieces ++ w.pieces }
 
 abbrev pub spent : View
 spent = record { pieces = []; found = []; terms = record { cpus = []; pieces = 0 } }

@@ -26,15 +26,15 @@ pub record TicketView : Type 0 where
   pub found : List ℕ
 
 -- the word that the last step found, or left where it set a limit; 0 before any
-abbrev pub last_of : List ℕ → ℕ
-last_of [] = 0
-last_of (n ∷ []) = n
-last_of (n ∷ m ∷ found) = last_of (m ∷ found)
+abbrev pub last_word_found : List ℕ → ℕ
+last_word_found [] = 0
+last_word_found (n ∷ []) = n
+last_word_found (n ∷ m ∷ found) = last_word_found (m ∷ found)
 
 -- what a ticket holds of a domain's word
-abbrev pub share_of : ℕ → TicketView → ℕ
-share_of d ticket = if ticket.domain == d then ticket.bw else 0
+abbrev pub bw_in : ℕ → TicketView → ℕ
+bw_in d ticket = if ticket.domain == d then ticket.bw else 0
 
 -- the bandwidth of all tickets of a domain
-abbrev pub sum_of : ℕ → List TicketView → ℕ
-sum_of d tickets = sum_by (share_of d) tickets
+abbrev pub bw_of_tickets : ℕ → List TicketView → ℕ
+bw_of_tickets d tickets = sum_by (bw_in d) tickets

@@ -31,7 +31,7 @@ abbrev pub Carries : TermsView → View → Type 0
 Carries terms v = 0 < length v.pieces → v.terms ≡ terms
 
 -- the rule
-pub record IsKept (terms : TermsView) (words : List ℕ) (views : List View) : Type 0 where
+pub record IsTableKept (terms : TermsView) (words : List ℕ) (views : List View) : Type 0 where
   pub count : length words ≡ length terms.cpus
   pub exact : (d : ℕ) → used_of (slice_index words d) ≡ held_by_all d views
   pub sound : (d : ℕ) → d < length terms.cpus → IsWord (cpus_in terms d) (slice_index words d)
@@ -39,5 +39,5 @@ pub record IsKept (terms : TermsView) (words : List ℕ) (views : List View) : T
   pub carried : All (Carries terms) views
 
 -- the first view has all pieces, and they are blank
-abbrev pub opened : TermsView → View
-opened terms = record { pieces = replicate terms.pieces Blank; found = []; terms = terms }
+abbrev pub blank_table : TermsView → View
+blank_table terms = record { pieces = replicate terms.pieces Blank; found = []; terms = terms }

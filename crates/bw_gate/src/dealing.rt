@@ -1,7 +1,7 @@
 ghost use Rattle.std.specs.Prelude.{◌≡◌, ◌<◌, ◌≤◌, ◌+◌, ℕ, [], length, replicate, vec_capacity, slice_index, All};
 ghost use Rattle.std.specs.Mem.Slots.{slots_items, slots_len, IsFull};
-ghost use Rattle.bw_gate.specs.Pieces.{sum_of};
-ghost use Rattle.bw_gate.specs.Table.{held_by, opened};
+ghost use Rattle.bw_gate.specs.Pieces.{bw_of_tickets};
+ghost use Rattle.bw_gate.specs.Table.{held_by, blank_table};
 ghost use Rattle.bw_gate.specs.Word.{used_of as used_part, cap_of as cap_part};
 
 use crate::piece::{Blank, Ticket};
@@ -21,7 +21,7 @@ pub(crate) fn deal(
     requires words { 0 < shared.now.table_id.words }
     requires pieces { n ≡ shared.now.key.pieces }
     requires seat { (seat.table_id ≡ shared.now.table_id)
-        × (seat.me ≡ (opened shared.now.key, [])) }
+        × (seat.me ≡ (blank_table shared.now.key, [])) }
     requires room { (blanks.old.items ≡ []) × (n ≤ vec_capacity blanks.old) }
     ensures { blanks.new.items ≡ replicate n (record {
       gate = record { table = shared.now.table_id; terms = shared.now.key };
@@ -74,7 +74,7 @@ pub(crate) fn gather_tickets(
     ensures seat { (seat.new.table_id ≡ seat.old.table_id) × (seat.new.id ≡ seat.old.id)
         × (seat.new.me.1 ≡ []) × (seat.new.me.0.terms ≡ shared.now.key) }
     ensures held { (d : ℕ) → held_by d seat.new.me.0
-        ≡ held_by d seat.old.me.0 + sum_of d tickets.items }
+        ≡ held_by d seat.old.me.0 + bw_of_tickets d tickets.items }
     ensures count { length seat.new.me.0.pieces
         ≡ length seat.old.me.0.pieces + length tickets.items }
 {

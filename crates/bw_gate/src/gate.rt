@@ -50,7 +50,7 @@ impl Gate {
     ghost use Rattle.bw_world.specs.WorldStep.{unit};
     ghost use Rattle.bw_gate.specs.Terms.{AreRooms, terms_of};
     ghost use Rattle.bw_gate.specs.Word.{used_of as used_part, IsCap};
-    ghost use Rattle.bw_gate.specs.Pieces.{cpus_of, sum_of};
+    ghost use Rattle.bw_gate.specs.Pieces.{cpus_of, bw_of_tickets};
     ghost use Rattle.bw_gate.specs.Answers.{IsTryOfTake, IsTryOfRegrade, IsTake, IsRegrade, IsGive, IsLoad};
 
     /// A gate of one to eight domains, by their rooms, with words that carry the caps of the rooms
@@ -80,13 +80,13 @@ impl Gate {
         requires tickets { All (λ t. t.gate ≡ self) tickets.items }
         ensures count { result.count ≡ length self.terms.cpus }
         ensures behind { (d : ℕ) → length self.terms.cpus ≤ d → slice_index result.word d ≡ 0 }
-        ensures room { (d : ℕ) → sum_of d tickets.items ≤ slice_index result.word d }
+        ensures room { (d : ℕ) → bw_of_tickets d tickets.items ≤ slice_index result.word d }
         ensures capped { (d : ℕ) → slice_index result.word d ≤ slice_index result.cap d }
         ensures caps { (d : ℕ) → d < length self.terms.cpus
             → IsCap (cpus_of self d) (slice_index result.cap d) }
         ensures caps_behind { (d : ℕ) → length self.terms.cpus ≤ d → slice_index result.cap d ≡ 0 }
         ensures exact { length blanks.items + length tickets.items ≡ self.terms.pieces →
-            (d : ℕ) → slice_index result.word d ≡ sum_of d tickets.items }
+            (d : ℕ) → slice_index result.word d ≡ bw_of_tickets d tickets.items }
     {
         let Gate { table, terms } = self;
         let (_, mut seat) = table.shared.load_new_seat::<view::Come>(0);

@@ -13,7 +13,7 @@ pub struct Blank {
 
 impl Model for Blank {
     ghost use Rattle.std.specs.Prelude.{◌≡◌, [], ◌∷◌};
-    ghost use Rattle.bw_gate.specs.Pieces.{BlankView, last_of};
+    ghost use Rattle.bw_gate.specs.Pieces.{BlankView, last_word_found};
     ghost use Rattle.bw_gate.specs.declared.view.Piece.TheVariants.{Blank as blank};
 
     ghost Value = { BlankView };
@@ -25,7 +25,7 @@ impl Model for Blank {
 
     ghost invariant = { λ b. (b.seat.me.1 ≡ [])
         × (b.seat.me.0.pieces ≡ blank ∷ [])
-        × (b.last ≡ last_of b.seat.me.0.found) };
+        × (b.last ≡ last_word_found b.seat.me.0.found) };
 }
 
 /// A piece of a gate that holds bandwidth of a domain's word: the right to a task of that
@@ -43,7 +43,7 @@ pub struct Ticket {
 impl Model for Ticket {
     ghost use Rattle.std.specs.Prelude.{◌≡◌, ◌<◌, ◌≤◌, [], ◌∷◌, length};
     ghost use Rattle.bw_world.specs.WorldStep.{unit};
-    ghost use Rattle.bw_gate.specs.Pieces.{TicketView, last_of};
+    ghost use Rattle.bw_gate.specs.Pieces.{TicketView, last_word_found};
     ghost use Rattle.bw_gate.specs.declared.view.Piece.TheVariants.{Ticket as ticket};
 
     ghost Value = { TicketView };
@@ -57,19 +57,19 @@ impl Model for Ticket {
 
     ghost invariant = { λ t. (t.seat.me.1 ≡ [])
         × (t.seat.me.0.pieces ≡ ticket t.domain t.bw ∷ [])
-        × (t.last ≡ last_of t.seat.me.0.found)
+        × (t.last ≡ last_word_found t.seat.me.0.found)
         × (t.domain < length t.seat.me.0.terms.cpus)
         × (t.bw ≤ unit) };
 }
 
 impl Blank {
     ghost use Rattle.std.specs.Prelude.{◌≡◌};
-    ghost use Rattle.bw_gate.specs.Pieces.{last_of};
+    ghost use Rattle.bw_gate.specs.Pieces.{last_word_found};
 
     /// The whole word that this piece's last step found, or left where that step set a limit, also
     /// while it was a ticket; 0 before any.
     pub fn last(&self) -> u64
-        ensures { result ≡ last_of self.now.found }
+        ensures { result ≡ last_word_found self.now.found }
     {
         self.last
     }
@@ -78,7 +78,7 @@ impl Blank {
 impl Ticket {
     ghost use Rattle.std.specs.Prelude.{◌≡◌, ◌<◌, ◌≤◌, length};
     ghost use Rattle.bw_world.specs.WorldStep.{unit};
-    ghost use Rattle.bw_gate.specs.Pieces.{last_of};
+    ghost use Rattle.bw_gate.specs.Pieces.{last_word_found};
 
     /// The domain of whose word it holds bandwidth, by its index from 0.
     pub fn domain(&self) -> usize
@@ -99,7 +99,7 @@ impl Ticket {
     /// The whole word that this piece's last step found, or left where that step set a limit, also
     /// while it was a blank; 0 before any.
     pub fn last(&self) -> u64
-        ensures { result ≡ last_of self.now.found }
+        ensures { result ≡ last_word_found self.now.found }
     {
         self.last
     }

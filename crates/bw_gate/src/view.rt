@@ -20,11 +20,11 @@ pub struct View {
 pub struct Exact;
 
 impl TableRule<(), View, Terms> for Exact {
-    ghost use Rattle.bw_gate.specs.Table.{IsKept, opened};
+    ghost use Rattle.bw_gate.specs.Table.{IsTableKept, blank_table};
 
-    ghost holds = { λ terms s. IsKept terms s.words s.views };
+    ghost holds = { λ terms s. IsTableKept terms s.words s.views };
 
-    ghost first = { opened };
+    ghost first = { blank_table };
 }
 
 /// Reads a word.
@@ -96,9 +96,9 @@ impl Play<(), View> for Come {
 pub(crate) struct Gather;
 
 impl Join<View> for Gather {
-    ghost use Rattle.bw_gate.specs.Kinds.{gathered, spent};
+    ghost use Rattle.bw_gate.specs.Kinds.{with_pieces_of, spent};
 
-    ghost both = { gathered };
+    ghost both = { with_pieces_of };
 
     ghost spent = { spent };
 }

@@ -12,8 +12,8 @@ use Rattle.bw_world.specs.declared.step.Word.{Word}
 use Rattle.bw_world.specs.declared.ticket.Ticket.{Ticket}
 use Rattle.bw_world.specs.declared.ticket.Task.{Task}
 use Rattle.bw_world.specs.WorldView.{DomainView}
-use Rattle.bw_world.specs.DomainStep.{in_hand_of, admitted_of, is_admitted, refusal_of, limit_refusal_of, limited, unless_refused, with_bw, task_with_bw, without, taken, regraded, regraded_found, given, given_found, entered, entered_with, entered_found, released, released_found}
-use Rattle.bw_world.specs.ExactWord.{IsExactDomain, told, after_change, numbered_with_bw, live_in}
+use Rattle.bw_world.specs.DomainStep.{in_hand_of, admitted_of, is_admitted, refusal_of, limit_refusal_of, limited, step_unless_refused, with_bw, task_with_bw, without, taken, regraded, regraded_found, given, given_found, entered, entered_with, entered_found, released, released_found}
+use Rattle.bw_world.specs.ExactWord.{IsExactDomain, tasks_after_changes, after_change, numbered_with_bw, live_in}
 use Rattle.bw_world.proofs.Counted.{one_if, none_counted, sum_by-without, sum_by-changed, count_by-changed, one_kept, one_changed, found_passes}
 
 -- the domain is exact, and no id is live more often than before
@@ -32,12 +32,12 @@ stays_kept d exact = record { exact = exact; ids = λ id. omega arith }
 room : (expected : Word) (wanted : ℕ) (d : DomainView) → refusal_of expected wanted d ≡ None → wanted ≤ d.cap
 room expected wanted d none = grind (arith, nat_tests)
 
-unless_kept : (d changed : DomainView) (refusal : Option Outcome) → IsExactDomain d → (refusal ≡ None → Keeps d changed) → Keeps d (unless_refused d refusal changed).domain
+unless_kept : (d changed : DomainView) (refusal : Option Outcome) → IsExactDomain d → (refusal ≡ None → Keeps d changed) → Keeps d (step_unless_refused d refusal changed).domain
 unless_kept d changed None exact kept = kept refl
 unless_kept d changed (Some outcome) exact kept = stays_kept d exact
 
 -- the book that has one change more
-told_more : (changes : List Change) (change : Change) → told (changes ++ change ∷ []) ≡ after_change (told changes) change
+told_more : (changes : List Change) (change : Change) → tasks_after_changes (changes ++ change ∷ []) ≡ after_change (tasks_after_changes changes) change
 told_more changes change = fold_push after_change [] changes change
 
 -- Give
@@ -175,7 +175,7 @@ pub record KeepsButFor (id : ℕ) (d e : DomainView) : Type 0 where
   pub exact : IsExactDomain e
   pub ids : (other : ℕ) → live_in other e ≤ live_in other d + one_if (id == other)
 
-taken_kept : (id bw : ℕ) (d : DomainView) (refusal : Option Outcome) → IsExactDomain d → (refusal ≡ None → d.used + bw ≤ d.cap) → KeepsButFor id d (unless_refused d refusal (record d { used = d.used + bw; in_hand = d.in_hand ++ record { id = id; bw = bw } ∷ [] })).domain
+taken_kept : (id bw : ℕ) (d : DomainView) (refusal : Option Outcome) → IsExactDomain d → (refusal ≡ None → d.used + bw ≤ d.cap) → KeepsButFor id d (step_unless_refused d refusal (record d { used = d.used + bw; in_hand = d.in_hand ++ record { id = id; bw = bw } ∷ [] })).domain
 taken_kept id bw d (Some outcome) exact within = record { exact = exact; ids = λ other. omega arith }
 taken_kept id bw d None exact within =
     let ticket : Ticket = record { id = id; bw = bw } in

@@ -16,8 +16,8 @@ use Rattle.bw_world.specs.declared.step.Word.{Word}
 use Rattle.bw_world.specs.declared.ticket.Ticket.{Ticket}
 use Rattle.bw_world.specs.declared.ticket.Task.{Task}
 use Rattle.bw_world.specs.WorldView.{DomainView}
-use Rattle.bw_world.specs.DomainStep.{DomainStep, opened, is_live_in, loaded, taken, regraded, given, entered, released, limited}
-use Rattle.bw_world.specs.WorldStep.{unit, may_take, may_move, is_live, at_found, at_place, at_home, stepped, after, outcomes_of}
+use Rattle.bw_world.specs.DomainStep.{DomainStep, unused_domain, is_live_in, loaded, taken, regraded, given, entered, released, limited}
+use Rattle.bw_world.specs.WorldStep.{unit, may_take, may_move, is_live, at_found, at_place, at_home, stepped, after_steps, outcomes_of}
 use Rattle.bw_world.specs.Growing.{IsGrowing, IsGrowingAt}
 use Rattle.bw_world.specs.ExactWord.{IsExactDomain, IsExact, live_in, live}
 use Rattle.bw_world.proofs.Counted.{one_if, none_counted}
@@ -118,7 +118,7 @@ step_exact (Limit k cap expected) ds exact = limit_exact ds k cap expected exact
 step_exact (Move old new number) ds exact = move_exact ds old new number exact
 
 -- after every step of every list
-pub after_exact : (steps : List Step) (ds : List DomainView) → IsExact ds → IsExact (after steps ds)
+pub after_exact : (steps : List Step) (ds : List DomainView) → IsExact ds → IsExact (after_steps steps ds)
 after_exact [] ds exact = exact
 after_exact (s ∷ steps) ds exact = after_exact steps (stepped s ds).domains (step_exact s ds exact)
 
@@ -128,18 +128,18 @@ exact_either_way (Ok o) s before now exact done same = subst IsExact (sym done) 
 exact_either_way (Err e) s before now exact done same = subst IsExact (sym same) exact
 
 -- a world before its first step
-live-opened : (id : ℕ) (caps : List ℕ) → live id (map opened caps) ≡ 0
+live-opened : (id : ℕ) (caps : List ℕ) → live id (map unused_domain caps) ≡ 0
 live-opened id [] = refl
-live-opened id (cap ∷ caps) = omega (arith, sum_by-cons (live_in id) (opened cap) (map opened caps), live-opened id caps)
+live-opened id (cap ∷ caps) = omega (arith, sum_by-cons (live_in id) (unused_domain cap) (map unused_domain caps), live-opened id caps)
 
-opened_exact : (cap : ℕ) → IsExactDomain (opened cap)
+opened_exact : (cap : ℕ) → IsExactDomain (unused_domain cap)
 opened_exact cap = record { sum = refl; capped = omega arith; book = refl; numbers = λ number. omega arith }
 
-all_opened : (caps : List ℕ) → All IsExactDomain (map opened caps)
+all_opened : (caps : List ℕ) → All IsExactDomain (map unused_domain caps)
 all_opened [] = All-nil IsExactDomain
-all_opened (cap ∷ caps) = All-cons IsExactDomain (opened cap) (map opened caps) (opened_exact cap) (all_opened caps)
+all_opened (cap ∷ caps) = All-cons IsExactDomain (unused_domain cap) (map unused_domain caps) (opened_exact cap) (all_opened caps)
 
-pub opened_world_exact : (caps : List ℕ) → IsExact (map opened caps)
+pub opened_world_exact : (caps : List ℕ) → IsExact (map unused_domain caps)
 opened_world_exact caps = record { each = all_opened caps; ids = λ id. omega (arith, live-opened id caps) }
 
 -- Load
@@ -155,33 +155,33 @@ pub lengthens_at : (ds : List DomainView) (k id : ℕ) (d : DomainView) → k < 
 lengthens_at ds k id d within is here = list_any_at (λ (e : DomainView). list_any (λ (t : Task). t.ticket == id) e.admitted) ds k d within (ap (λ (e : DomainView). list_any (λ (t : Task). t.ticket == id) e.admitted) (sym is) ∙ here)
 
 -- one step more
-pub after-push : (steps : List Step) (s : Step) (ds : List DomainView) → after (steps ++ s ∷ []) ds ≡ (stepped s (after steps ds)).domains
+pub after-push : (steps : List Step) (s : Step) (ds : List DomainView) → after_steps (steps ++ s ∷ []) ds ≡ (stepped s (after_steps steps ds)).domains
 after-push [] s ds = refl
 after-push (r ∷ steps) s ds = after-push steps s (stepped r ds).domains
 
-pub outcomes_of-push : (steps : List Step) (s : Step) (ds : List DomainView) → outcomes_of (steps ++ s ∷ []) ds ≡ outcomes_of steps ds ++ (stepped s (after steps ds)).outcome ∷ []
+pub outcomes_of-push : (steps : List Step) (s : Step) (ds : List DomainView) → outcomes_of (steps ++ s ∷ []) ds ≡ outcomes_of steps ds ++ (stepped s (after_steps steps ds)).outcome ∷ []
 outcomes_of-push [] s ds = refl
 outcomes_of-push (r ∷ steps) s ds = ap (λ os. (stepped r ds).outcome ∷ os) (outcomes_of-push steps s (stepped r ds).domains)
 
-pub after_more : (steps : List Step) (i : ℕ) (s : Step) (ds : List DomainView) → i < length steps → after (take (i + 1) steps) ds ≡ (stepped (get_or steps i s) (after (take i steps) ds)).domains
-after_more steps i s ds within = ap (λ ss. after ss ds) (take_more steps i s within) ∙ after-push (take i steps) (get_or steps i s) ds
+pub after_more : (steps : List Step) (i : ℕ) (s : Step) (ds : List DomainView) → i < length steps → after_steps (take (i + 1) steps) ds ≡ (stepped (get_or steps i s) (after_steps (take i steps) ds)).domains
+after_more steps i s ds within = ap (λ ss. after_steps ss ds) (take_more steps i s within) ∙ after-push (take i steps) (get_or steps i s) ds
 
-pub outcomes_of_more : (steps : List Step) (i : ℕ) (s : Step) (ds : List DomainView) → i < length steps → outcomes_of (take (i + 1) steps) ds ≡ outcomes_of (take i steps) ds ++ (stepped (get_or steps i s) (after (take i steps) ds)).outcome ∷ []
+pub outcomes_of_more : (steps : List Step) (i : ℕ) (s : Step) (ds : List DomainView) → i < length steps → outcomes_of (take (i + 1) steps) ds ≡ outcomes_of (take i steps) ds ++ (stepped (get_or steps i s) (after_steps (take i steps) ds)).outcome ∷ []
 outcomes_of_more steps i s ds within = ap (λ ss. outcomes_of ss ds) (take_more steps i s within) ∙ outcomes_of-push (take i steps) (get_or steps i s) ds
 
 -- the next step of a run, from what stands before it
-pub world_next : (steps : List Step) (i : ℕ) (s : Step) (ds before now : List DomainView) → i < length steps → before ≡ after (take i steps) ds → now ≡ (stepped (get_or steps i s) before).domains → now ≡ after (take (i + 1) steps) ds
+pub world_next : (steps : List Step) (i : ℕ) (s : Step) (ds before now : List DomainView) → i < length steps → before ≡ after_steps (take i steps) ds → now ≡ (stepped (get_or steps i s) before).domains → now ≡ after_steps (take (i + 1) steps) ds
 world_next steps i s ds before now within is done = done ∙ ap (λ b. (stepped (get_or steps i s) b).domains) is ∙ sym (after_more steps i s ds within)
 
-pub outcomes_next : (steps : List Step) (i : ℕ) (s : Step) (ds before : List DomainView) (so_far now : List Outcome) (o : Outcome) → i < length steps → before ≡ after (take i steps) ds → so_far ≡ outcomes_of (take i steps) ds → o ≡ (stepped (get_or steps i s) before).outcome → now ≡ so_far ++ o ∷ [] → now ≡ outcomes_of (take (i + 1) steps) ds
+pub outcomes_next : (steps : List Step) (i : ℕ) (s : Step) (ds before : List DomainView) (so_far now : List Outcome) (o : Outcome) → i < length steps → before ≡ after_steps (take i steps) ds → so_far ≡ outcomes_of (take i steps) ds → o ≡ (stepped (get_or steps i s) before).outcome → now ≡ so_far ++ o ∷ [] → now ≡ outcomes_of (take (i + 1) steps) ds
 outcomes_next steps i s ds before so_far now o within is told gave pushed =
     pushed ∙ ap (λ os. os ++ o ∷ []) told ∙ ap (λ a. outcomes_of (take i steps) ds ++ a ∷ []) (gave ∙ ap (λ b. (stepped (get_or steps i s) b).outcome) is) ∙ sym (outcomes_of_more steps i s ds within)
 
 -- the next step wants memory
-pub growing_next : (steps : List Step) (i applied : ℕ) (s : Step) (ds before : List DomainView) → i < length steps → applied ≡ i → before ≡ after (take i steps) ds → IsGrowing (get_or steps i s) before → IsGrowingAt steps applied ds
+pub growing_next : (steps : List Step) (i applied : ℕ) (s : Step) (ds before : List DomainView) → i < length steps → applied ≡ i → before ≡ after_steps (take i steps) ds → IsGrowing (get_or steps i s) before → IsGrowingAt steps applied ds
 growing_next steps i applied s ds before within count is growing =
-    let here : IsGrowing (get_or steps i s) (after (take i steps) ds) = subst (IsGrowing (get_or steps i s)) is growing in
-    let there : IsSomeAnd (slice_get steps i) (λ t. IsGrowing t (after (take i steps) ds)) = subst (λ (o : Option Step). IsSomeAnd o (λ t. IsGrowing t (after (take i steps) ds))) (sym (slice_get-get_or steps i s within)) here in
+    let here : IsGrowing (get_or steps i s) (after_steps (take i steps) ds) = subst (IsGrowing (get_or steps i s)) is growing in
+    let there : IsSomeAnd (slice_get steps i) (λ t. IsGrowing t (after_steps (take i steps) ds)) = subst (λ (o : Option Step). IsSomeAnd o (λ t. IsGrowing t (after_steps (take i steps) ds))) (sym (slice_get-get_or steps i s within)) here in
     subst (λ n. IsGrowingAt steps n ds) (sym count) (inr there)
 
 pub on_err : {T E P : Type 0} (r : Result T E) → P → OnErr r P

@@ -12,8 +12,8 @@ use Rattle.bw_world.specs.declared.ticket.Task.{Task}
 use Rattle.bw_world.specs.WorldView.{DomainView}
 
 -- a domain before its first step
-abbrev pub opened : ℕ → DomainView
-opened cap = record { cap = cap; used = 0; in_hand = []; admitted = []; changes = [] }
+abbrev pub unused_domain : ℕ → DomainView
+unused_domain cap = record { cap = cap; used = 0; in_hand = []; admitted = []; changes = [] }
 
 -- the ticket in hand with this id
 abbrev pub in_hand_of : ℕ → DomainView → Option Ticket
@@ -51,8 +51,8 @@ pub record DomainStep : Type 0 where
   pub outcome : Outcome
 
 -- an answer that changes nothing
-abbrev pub stays : DomainView → Outcome → DomainStep
-stays d outcome = record { domain = d; outcome = outcome }
+abbrev pub unchanged_step : DomainView → Outcome → DomainStep
+unchanged_step d outcome = record { domain = d; outcome = outcome }
 
 abbrev pub done : DomainView → DomainStep
 done d = record { domain = d; outcome = Done }
@@ -85,30 +85,30 @@ limit_refusal_of expected cap d =
     else None
 
 -- the changed domain, unless the exchange is refused
-abbrev pub unless_refused : DomainView → Option Outcome → DomainView → DomainStep
-unless_refused d (Some outcome) changed = stays d outcome
-unless_refused d None changed = done changed
+abbrev pub step_unless_refused : DomainView → Option Outcome → DomainView → DomainStep
+step_unless_refused d (Some outcome) changed = unchanged_step d outcome
+step_unless_refused d None changed = done changed
 
 -- Load
 abbrev pub loaded : DomainView → DomainStep
-loaded d = stays d (Saw (word_in d))
+loaded d = unchanged_step d (Saw (word_in d))
 
 -- Take: where the exchange is granted, a new ticket is in hand
 abbrev pub taken : ℕ → ℕ → Word → DomainView → DomainStep
 taken id bw expected d =
-    unless_refused d (refusal_of expected (d.used + bw) d)
+    step_unless_refused d (refusal_of expected (d.used + bw) d)
     (record d { used = d.used + bw; in_hand = d.in_hand ++ record { id = id; bw = bw } ∷ [] })
 
 -- Regrade of a ticket in hand that had the bandwidth `was`
 abbrev pub regraded_in_hand : ℕ → ℕ → ℕ → Word → DomainView → DomainStep
 regraded_in_hand id was bw expected d =
-    unless_refused d (refusal_of expected (d.used - was + bw) d)
+    step_unless_refused d (refusal_of expected (d.used - was + bw) d)
     (record d { used = d.used - was + bw; in_hand = map (with_bw id bw) d.in_hand })
 
 -- Regrade of the ticket in the task t, which is a change of the book too
 abbrev pub regraded_admitted : ℕ → Task → ℕ → Word → DomainView → DomainStep
 regraded_admitted id t bw expected d =
-    unless_refused d (refusal_of expected (d.used - t.bw + bw) d)
+    step_unless_refused d (refusal_of expected (d.used - t.bw + bw) d)
     (record d {
       used = d.used - t.bw + bw;
       admitted = map (task_with_bw id bw) d.admitted;
@@ -118,14 +118,14 @@ regraded_admitted id t bw expected d =
 abbrev pub regraded_found : ℕ → ℕ → Word → DomainView → Option Ticket → Option Task → DomainStep
 regraded_found id bw expected d (Some t) task = regraded_in_hand id t.bw bw expected d
 regraded_found id bw expected d None (Some t) = regraded_admitted id t bw expected d
-regraded_found id bw expected d None None = stays d Not
+regraded_found id bw expected d None None = unchanged_step d Not
 
 -- Regrade, which fits a live ticket
 abbrev pub regraded : ℕ → ℕ → Word → DomainView → DomainStep
 regraded id bw expected d = regraded_found id bw expected d (in_hand_of id d) (admitted_of id d)
 
 abbrev pub given_found : ℕ → DomainView → Option Ticket → DomainStep
-given_found id d None = stays d Not
+given_found id d None = unchanged_step d Not
 given_found id d (Some t) = done (record d { used = d.used - t.bw; in_hand = without id d.in_hand })
 
 -- Give, which fits a ticket in hand: its bandwidth goes back and it is gone
@@ -135,7 +135,7 @@ given id d = given_found id d (in_hand_of id d)
 -- Enter of a ticket in hand that has the bandwidth bw: it goes into a task, and the word stays
 abbrev pub entered_with : ℕ → ℕ → ℕ → DomainView → DomainStep
 entered_with id number bw d =
-    if is_admitted number d then stays d Not
+    if is_admitted number d then unchanged_step d Not
     else done (record d {
       in_hand = without id d.in_hand;
       admitted = d.admitted ++ record { number = number; ticket = id; bw = bw } ∷ [];
@@ -143,7 +143,7 @@ entered_with id number bw d =
     })
 
 abbrev pub entered_found : ℕ → ℕ → DomainView → Option Ticket → DomainStep
-entered_found id number d None = stays d Not
+entered_found id number d None = unchanged_step d Not
 entered_found id number d (Some t) = entered_with id number t.bw d
 
 -- Enter, which fits a ticket in hand where no admitted task of the domain has the number
@@ -151,7 +151,7 @@ abbrev pub entered : ℕ → ℕ → DomainView → DomainStep
 entered id number d = entered_found id number d (in_hand_of id d)
 
 abbrev pub released_found : ℕ → DomainView → Option Task → DomainStep
-released_found id d None = stays d Not
+released_found id d None = unchanged_step d Not
 released_found id d (Some t) =
     done (record d {
       in_hand = d.in_hand ++ record { id = id; bw = t.bw } ∷ [];
@@ -165,4 +165,5 @@ released id d = released_found id d (admitted_of id d)
 
 -- Limit: where the exchange is granted, the word carries another cap
 abbrev pub limited : ℕ → Word → DomainView → DomainStep
-limited cap expected d = unless_refused d (limit_refusal_of expected cap d) (record d { cap = cap })
+limited cap expected d =
+    step_unless_refused d (limit_refusal_of expected cap d) (record d { cap = cap })

@@ -25,8 +25,8 @@ after_change tasks (Regraded number bw) = map (numbered_with_bw number bw) tasks
 after_change tasks (Released number) = filter (λ t. not (t.number == number)) tasks
 
 -- the admitted tasks that a book tells
-abbrev pub told : List Change → List Task
-told changes = fold after_change [] changes
+abbrev pub tasks_after_changes : List Change → List Task
+tasks_after_changes changes = fold after_change [] changes
 
 -- how many live tickets have an id
 abbrev pub live_in : ℕ → DomainView → ℕ
@@ -39,7 +39,7 @@ live id domains = sum_by (live_in id) domains
 pub record IsExactDomain (d : DomainView) : Type 0 where
   pub sum : d.used ≡ sum_in_hand d + sum_admitted d
   pub capped : d.used ≤ d.cap
-  pub book : d.admitted ≡ told d.changes
+  pub book : d.admitted ≡ tasks_after_changes d.changes
   pub numbers : (number : ℕ) → count_by (λ t. t.number == number) d.admitted ≤ 1
 
 -- of a world: each domain is exact, and no id is that of two live tickets, in whatever domains

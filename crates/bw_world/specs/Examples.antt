@@ -6,9 +6,9 @@ use Rattle.bw_world.specs.declared.step.Step.{Step}
 use Rattle.bw_world.specs.declared.step.Step.TheVariants.{Load, Take, Regrade, Give, Enter, Release, Limit, Move}
 use Rattle.bw_world.specs.declared.step.Word.{Word}
 use Rattle.bw_world.specs.WorldView.{DomainView}
-use Rattle.bw_world.specs.DomainStep.{opened}
-use Rattle.bw_world.specs.WorldStep.{after, outcomes_of}
-use Rattle.bw_world.specs.ExactWord.{told}
+use Rattle.bw_world.specs.DomainStep.{unused_domain}
+use Rattle.bw_world.specs.WorldStep.{after_steps, outcomes_of}
+use Rattle.bw_world.specs.ExactWord.{tasks_after_changes}
 
 -- a word of a cap and a used part
 abbrev word : ℕ → ℕ → Word
@@ -16,11 +16,11 @@ word cap used = record { cap = cap; used = used }
 
 -- the used parts after each of the first steps
 abbrev words_after : List Step → List DomainView → ℕ → List ℕ
-words_after steps domains k = map (λ d. d.used) (after (take k steps) domains)
+words_after steps domains k = map (λ d. d.used) (after_steps (take k steps) domains)
 
 -- world_steps: one domain of the cap 524288
 abbrev one : List DomainView
-one = opened 524288 ∷ []
+one = unused_domain 524288 ∷ []
 
 abbrev half : ℕ → Word
 half used = word 524288 used
@@ -41,7 +41,7 @@ world_steps_words : map (words_after steps one) (1 ∷ 2 ∷ 3 ∷ 4 ∷ 5 ∷ 6
     ∷ (524288 ∷ []) ∷ (393216 ∷ []) ∷ (393216 ∷ []) ∷ (262144 ∷ []) ∷ []
 world_steps_words = refl
 
-world_steps_end : after steps one ≡ record {
+world_steps_end : after_steps steps one ≡ record {
   cap = 524288;
   used = 262144;
   in_hand = record { id = 2; bw = 262144 } ∷ [];
@@ -53,7 +53,7 @@ world_steps_end = refl
 -- a step that does not fit: no such domain; more than one CPU for one ticket; an id that is live in
 -- another domain; a number that is admitted; a ticket in hand to release; a ticket that is gone
 abbrev two : List DomainView
-two = opened 2097152 ∷ opened 1048576 ∷ []
+two = unused_domain 2097152 ∷ unused_domain 1048576 ∷ []
 
 abbrev wide : ℕ → Word
 wide used = word 2097152 used
@@ -88,7 +88,7 @@ book =
     Take 8 1 100 (word 1048576 0) ∷ Take 9 1 200 (word 1048576 100) ∷ Enter 9 4 ∷ Enter 8 3
     ∷ Regrade 8 150 (word 1048576 300) ∷ Release 9 ∷ []
 
-book_end : after book two ≡ opened 2097152 ∷ record {
+book_end : after_steps book two ≡ unused_domain 2097152 ∷ record {
   cap = 1048576;
   used = 350;
   in_hand = record { id = 9; bw = 200 } ∷ [];
@@ -97,7 +97,8 @@ book_end : after book two ≡ opened 2097152 ∷ record {
 } ∷ []
 book_end = refl
 
-book_told : told (Entered 4 9 200 ∷ Entered 3 8 100 ∷ Regraded 3 150 ∷ Released 4 ∷ [])
+book_told : tasks_after_changes
+    (Entered 4 9 200 ∷ Entered 3 8 100 ∷ Regraded 3 150 ∷ Released 4 ∷ [])
     ≡ record { number = 3; ticket = 8; bw = 150 } ∷ []
 book_told = refl
 
@@ -120,7 +121,7 @@ limits_outcomes : outcomes_of limits one
     ∷ Saw (word 67108864 524288) ∷ []
 limits_outcomes = refl
 
-limits_end : after limits one ≡ record {
+limits_end : after_steps limits one ≡ record {
   cap = 67108864;
   used = 524288;
   in_hand = record { id = 1; bw = 262144 } ∷ record { id = 2; bw = 262144 } ∷ [];
@@ -145,7 +146,7 @@ moving_words : map (words_after moving two) (3 ∷ 4 ∷ 5 ∷ [])
     ≡ (300 ∷ 300 ∷ []) ∷ (300 ∷ 300 ∷ []) ∷ (0 ∷ 300 ∷ []) ∷ []
 moving_words = refl
 
-moving_end : after (take 4 moving) two ≡ record {
+moving_end : after_steps (take 4 moving) two ≡ record {
   cap = 2097152;
   used = 300;
   in_hand = record { id = 1; bw = 300 } ∷ [];

@@ -5,7 +5,7 @@ use Rattle.bw_world.specs.declared.step.Step.{Step}
 use Rattle.bw_world.specs.declared.step.Step.TheVariants.{Load, Take, Regrade, Give, Enter, Release, Limit, Move}
 use Rattle.bw_world.specs.declared.step.Outcome.TheVariants.{Done}
 use Rattle.bw_world.specs.WorldView.{DomainView}
-use Rattle.bw_world.specs.WorldStep.{stepped, after}
+use Rattle.bw_world.specs.WorldStep.{stepped, after_steps}
 
 -- the steps that lengthen a list where they are done; a Regrade does where the ticket is admitted
 abbrev pub lengthens : Step → List DomainView → Bool
@@ -29,4 +29,5 @@ pub record IsGrowing (s : Step) (domains : List DomainView) : Type 0 where
 abbrev pub IsGrowingAt : List Step → ℕ → List DomainView → Type 0
 IsGrowingAt steps applied domains =
     ((0 < length steps) × (applied ≡ 0))
-    ⊎ IsSomeAnd (slice_get steps applied) (λ s. IsGrowing s (after (take applied steps) domains))
+    ⊎ IsSomeAnd (slice_get steps applied)
+    (λ s. IsGrowing s (after_steps (take applied steps) domains))

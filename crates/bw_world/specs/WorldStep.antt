@@ -8,7 +8,7 @@ use Rattle.bw_world.specs.declared.step.Outcome.TheVariants.{Not}
 use Rattle.bw_world.specs.declared.ticket.Ticket.{Ticket}
 use Rattle.bw_world.specs.declared.ticket.Task.{Task}
 use Rattle.bw_world.specs.WorldView.{DomainView, WorldView}
-use Rattle.bw_world.specs.DomainStep.{DomainStep, opened, in_hand_of, admitted_of, is_admitted, is_live_in, loaded, taken, regraded, given, entered, released, limited}
+use Rattle.bw_world.specs.DomainStep.{DomainStep, unused_domain, in_hand_of, admitted_of, is_admitted, is_live_in, loaded, taken, regraded, given, entered, released, limited}
 
 -- one whole CPU, the most that one ticket is taken for
 abbrev pub unit : ℕ
@@ -16,7 +16,7 @@ unit = 1048576
 
 -- a world before its first step
 abbrev pub opened_world : List ℕ → WorldView
-opened_world caps = record { domains = map opened caps; applied = 0 }
+opened_world caps = record { domains = map unused_domain caps; applied = 0 }
 
 -- live in some domain
 abbrev pub is_live : ℕ → List DomainView → Bool
@@ -101,9 +101,9 @@ stepped (Move old new number) domains =
     if may_move old new number domains then moved old new number domains else misfit domains
 
 -- the domains after steps, one after another
-abbrev pub after : List Step → List DomainView → List DomainView
-after [] domains = domains
-after (s ∷ steps) domains = after steps (stepped s domains).domains
+abbrev pub after_steps : List Step → List DomainView → List DomainView
+after_steps [] domains = domains
+after_steps (s ∷ steps) domains = after_steps steps (stepped s domains).domains
 
 -- the answer to each step
 abbrev pub outcomes_of : List Step → List DomainView → List Outcome

@@ -41,12 +41,12 @@ impl Domain {
     ghost use Rattle.std.specs.List.{list_any};
     ghost use Rattle.bw_world.specs.declared.step.Outcome.TheVariants.{Done};
     ghost use Rattle.bw_world.specs.ExactWord.{IsExactDomain};
-    ghost use Rattle.bw_world.specs.DomainStep.{opened, in_hand_of, admitted_of, is_live_in, word_in, is_expected, refusal_of, limited, taken, regraded, regraded_in_hand, regraded_admitted, given, entered, entered_with, released};
+    ghost use Rattle.bw_world.specs.DomainStep.{unused_domain, in_hand_of, admitted_of, is_live_in, word_in, is_expected, refusal_of, limited, taken, regraded, regraded_in_hand, regraded_admitted, given, entered, entered_with, released};
     ghost use Rattle.bw_world.specs.WorldStep.{fits_move};
 
     /// A domain before its first step. Takes no memory.
     pub fn open(alloc: Global, cap: u64) -> Domain
-        ensures { result ≡ opened cap }
+        ensures { result ≡ unused_domain cap }
     {
         Domain {
             cap,

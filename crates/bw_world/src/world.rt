@@ -27,7 +27,7 @@ impl Model for World {
 
 impl World {
     ghost use Rattle.std.specs.Prelude.{◌≡◌, ◌<◌, ◌≤◌, ◌^◌, ℕ, length, slice_get, take, All, MatchOption, IsSomeAnd, IfOk, OnOk, OnErr};
-    ghost use Rattle.bw_world.specs.WorldStep.{opened_world, stepped, after, outcomes_of};
+    ghost use Rattle.bw_world.specs.WorldStep.{opened_world, stepped, after_steps, outcomes_of};
     ghost use Rattle.bw_world.specs.Growing.{IsGrowing, IsGrowingAt};
     ghost use Rattle.bw_world.specs.ExactWord.{IsExact};
 
@@ -75,11 +75,11 @@ impl World {
         ensures all { OnOk result (self.new.applied ≡ length steps.now) }
         ensures beginning { self.new.applied ≤ length steps.now }
         ensures world { self.new.domains
-            ≡ after (take self.new.applied steps.now) self.old.domains }
+            ≡ after_steps (take self.new.applied steps.now) self.old.domains }
         ensures err_only { OnErr result (IsGrowingAt steps.now self.new.applied self.old.domains) }
 
         // After every step of the list each word is exact.
-        ensures exact { (k : ℕ) → IsExact (after (take k steps.now) self.old.domains) }
+        ensures exact { (k : ℕ) → IsExact (after_steps (take k steps.now) self.old.domains) }
     {
         self.applied = 0;
         let mut outcomes = Vec::with_capacity(*self.domains.allocator(), steps.len())?;

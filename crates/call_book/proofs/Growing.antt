@@ -8,7 +8,7 @@ use Rattle.bw_gate.specs.Pieces.{GateId, TicketView, cpus_of}
 use Rattle.pass_seats.specs.Lists.{PassView}
 use Rattle.domain_run.specs.declared.call.Call.{Call}
 use Rattle.domain_run.specs.declared.call.Reply.{Reply}
-use Rattle.domain_run.specs.Domain.{Domain, opened, IsLimit}
+use Rattle.domain_run.specs.Domain.{Domain, empty_domain, IsLimit}
 use Rattle.domain_run.specs.Calls.{reply_to, after_call, is_refusal}
 use Rattle.domain_run.specs.Run.{after_calls, replies_to, run_of}
 use Rattle.domain_run.specs.Keys.{keys}
@@ -23,7 +23,7 @@ use Rattle.call_book.specs.BookAnswers.{IsBusy}
 use Rattle.call_book.specs.private.Ledger.{LedgerView}
 use Rattle.call_book.specs.private.Stock.{StockView}
 use Rattle.call_book.specs.private.Kept.{book_of, IsBook}
-use Rattle.call_book.specs.private.Listing.{Says}
+use Rattle.call_book.specs.private.Listing.{ListingSays}
 
 -- a run with one call more
 after_calls_push : (d : Domain) (calls : List Call) (call : Call) → after_calls d (calls ++ call ∷ []) ≡ after_call (after_calls d calls) call
@@ -43,7 +43,7 @@ has_room full count room says empty within =
 -- the run of a history with one entry more
 pub run_grows : (cpus limit : ℕ) (history : List Entry) (e : Entry) (state next : Domain) → state ≡ run_of cpus limit (calls_of history) → next ≡ after_call state e.call → next ≡ run_of cpus limit (calls_of (history ++ e ∷ []))
 run_grows cpus limit history e state next run becomes =
-    let start = opened cpus limit in
+    let start = empty_domain cpus limit in
     let calls_more : calls_of (history ++ e ∷ []) ≡ calls_of history ++ e.call ∷ [] = map-append (λ (x : Entry). x.call) history (e ∷ []) in
     becomes ∙ ap (λ (d : Domain). after_call d e.call) run ∙ sym (after_calls_push start (calls_of history) e.call) ∙ ap (after_calls start) (sym calls_more)
 
@@ -55,7 +55,7 @@ pub book_goes_on : (cpus limit workers : ℕ) (left after : Option ℕ) (l grown
     → e.reply ≡ Some (reply_to state e.call) → next ≡ after_call state e.call → HoldsTickets next t.tickets → ticks_of e.call ≤ 60000000
     → IsBook (book_of cpus limit workers after grown t) next
 book_goes_on cpus limit workers left after l grown s t state next e is more pieces a_limit limited lawful becomes held few =
-    let start = opened cpus limit in
+    let start = empty_domain cpus limit in
     let calls = calls_of l.history in
     let calls_more : calls_of (l.history ++ e ∷ []) ≡ calls ++ e.call ∷ [] = map-append (λ (x : Entry). x.call) l.history (e ∷ []) in
     let run : next ≡ after_calls start (calls_of (l.history ++ e ∷ [])) = run_grows cpus limit l.history e state next is.run becomes in
@@ -119,7 +119,7 @@ leave_grows cpus limit workers left l grown s state next number p reply is more 
 -- an admission brings its ticket
 pub admitted_grows : (cpus limit workers : ℕ) (left : Option ℕ) (l grown : LedgerView) (s t : StockView) (state next : Domain) (a : AdmissionView) (ticket : TicketView) (number : ℕ) (call : Call) (p : PassView Entry) → IsBook (book_of cpus limit workers left l s) state
     → grown ≡ record l { history = l.history ++ entry_by p call Reply.Admitted ∷ [] } → t ≡ record s { tickets = t.tickets; blanks = t.blanks } → t.tickets ≡ s.tickets ++ record { number = number; ticket = ticket } ∷ []
-    → Says state next a Reply.Admitted → number ≡ a.number → call ≡ admission a → ticket.bw ≡ a.params.bw → IsBook (book_of cpus limit workers left grown t) next
+    → ListingSays state next a Reply.Admitted → number ≡ a.number → call ≡ admission a → ticket.bw ≡ a.params.bw → IsBook (book_of cpus limit workers left grown t) next
 admitted_grows cpus limit workers left l grown s t state next a ticket number call p is more pieces held says named same bw =
     let h : Held = record { number = number; ticket = ticket } in
     let after : keys next.tasks ≡ keys state.tasks ++ (a.number, a.params.bw) ∷ [] = ap (λ (d : Domain). keys d.tasks) says.state ∙ admitted_keys state a.number a.name a.params a.delay a.script says.reply in
@@ -131,7 +131,7 @@ admitted_grows cpus limit workers left l grown s t state next a ticket number ca
 
 -- a refused admission changes the history alone
 pub busy_grows : (cpus limit workers : ℕ) (left : Option ℕ) (l grown : LedgerView) (s : StockView) (state next : Domain) (a : AdmissionView) (seen : ℕ) (call : Call) (p : PassView Entry) → IsBook (book_of cpus limit workers left l s) state
-    → grown ≡ record l { history = l.history ++ entry_by p call (Reply.Busy seen) ∷ [] } → Says state next a (Reply.Busy seen) → call ≡ admission a → IsBook (book_of cpus limit workers left grown s) next
+    → grown ≡ record l { history = l.history ++ entry_by p call (Reply.Busy seen) ∷ [] } → ListingSays state next a (Reply.Busy seen) → call ≡ admission a → IsBook (book_of cpus limit workers left grown s) next
 busy_grows cpus limit workers left l grown s state next a seen call p is more says same =
     let stays : after_call state (admission a) ≡ state = refused_keeps state (admission a) (ap is_refusal says.reply) in
     let lawful : Some (Reply.Busy seen) ≡ Some (reply_to state call) = ap Some (sym says.reply ∙ ap (reply_to state) (sym same)) in
@@ -162,7 +162,7 @@ enters b cpus limit workers left l grown s t state p q call reply view is room m
     subst (λ (x : BookView). Enters x (book_of cpus limit workers left grown t) p q call reply) view whole
 
 pub busy_answer : (b : BookView) (cpus limit workers : ℕ) (left : Option ℕ) (l grown : LedgerView) (s : StockView) (state next : Domain) (p q : PassView Entry) (a : AdmissionView) (ticket : TicketView) (seen : ℕ) (call : Call) → book_of cpus limit workers left l s ≡ b → IsBook (book_of cpus limit workers left l s) state
-    → length l.history < l.room → grown ≡ record l { history = l.history ++ entry_by p call (Reply.Busy seen) ∷ [] } → q ≡ with_entry p call (Reply.Busy seen) → Says state next a (Reply.Busy seen) → call ≡ admission a → LacksRoomFor state a.params.bw seen
+    → length l.history < l.room → grown ≡ record l { history = l.history ++ entry_by p call (Reply.Busy seen) ∷ [] } → q ≡ with_entry p call (Reply.Busy seen) → ListingSays state next a (Reply.Busy seen) → call ≡ admission a → LacksRoomFor state a.params.bw seen
     → IsBusy b (book_of cpus limit workers left grown s) p q a ticket ticket seen
 busy_answer b cpus limit workers left l grown s state next p q a ticket seen call view is room more made says same lacks =
     let caps : cap state.cpus state.limit ≡ cap b.cpus (state_of b).limit =

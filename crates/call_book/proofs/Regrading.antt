@@ -17,7 +17,7 @@ use Rattle.domain_run.specs.declared.call.Reply.{Reply}
 use Rattle.domain_run.specs.Domain.{Domain}
 use Rattle.domain_run.specs.Calls.{reply_to, after_call, is_refusal, regrade_reply, task_of}
 use Rattle.domain_run.specs.Tick.{sum_of}
-use Rattle.domain_run.specs.Keys.{keys, with_bw}
+use Rattle.domain_run.specs.Keys.{keys, key_with_bw}
 use Rattle.domain_run.specs.Sound.{IsDomain}
 use Rattle.domain_run.proofs.CallerLemmas.{live_key, regraded_keys, refused_keeps}
 use Rattle.calls_text.specs.declared.section.Entry.{Entry}
@@ -28,7 +28,7 @@ use Rattle.call_book.specs.Book.{BookView, state_of, entry_by, with_entry}
 use Rattle.call_book.specs.BookAnswers.{IsRegraded}
 use Rattle.call_book.specs.private.Ledger.{LedgerView}
 use Rattle.call_book.specs.private.Stock.{StockView}
-use Rattle.call_book.specs.private.Kept.{book_of, IsBook, IsAsked}
+use Rattle.call_book.specs.private.Kept.{book_of, IsBook, IsRegradeAsked}
 use Rattle.call_book.proofs.Growing.{book_grows}
 use Rattle.call_book.proofs.Asking.{all_behind}
 
@@ -72,24 +72,24 @@ apart_keys (t ∷ tasks) all = (none_of t tasks (λ k d h. all zero (suc k) d (o
 not_equal : (a b : ℕ) → a ≢ b → eqb a b ≡ false
 not_equal a b h = elim (eqb a b) as (λ x. eqb a b ≡ x → x ≡ false) [ true ↦ λ e. absurd (h (eqb-true a b e)) | false ↦ λ e. refl ] refl
 
-with_bw_none : (number bw : ℕ) (ks : List (ℕ × ℕ)) → HasNone number ks → map (with_bw number bw) ks ≡ ks
+with_bw_none : (number bw : ℕ) (ks : List (ℕ × ℕ)) → HasNone number ks → map (key_with_bw number bw) ks ≡ ks
 with_bw_none number bw [] none = refl
 with_bw_none number bw (k ∷ ks) none =
-    ap (λ (b : Bool). cond b (k.0, bw) k ∷ map (with_bw number bw) ks) (not_equal k.0 number none.0) ∙ ap (λ (xs : List (ℕ × ℕ)). k ∷ xs) (with_bw_none number bw ks none.1)
+    ap (λ (b : Bool). cond b (k.0, bw) k ∷ map (key_with_bw number bw) ks) (not_equal k.0 number none.0) ∙ ap (λ (xs : List (ℕ × ℕ)). k ∷ xs) (with_bw_none number bw ks none.1)
 
 none_at : (number : ℕ) (front : List (ℕ × ℕ)) (k : ℕ × ℕ) (bs : List (ℕ × ℕ)) → HasNone number (front ++ k ∷ bs) → k.0 ≢ number
 none_at number [] k bs none = none.0
 none_at number (a ∷ front) k bs none = none_at number front k bs none.1
 
-with_bw_one : (number was bw : ℕ) (front behind : List (ℕ × ℕ)) → AreApart (front ++ (number, was) ∷ behind) → map (with_bw number bw) (front ++ (number, was) ∷ behind) ≡ front ++ (number, bw) ∷ behind
+with_bw_one : (number was bw : ℕ) (front behind : List (ℕ × ℕ)) → AreApart (front ++ (number, was) ∷ behind) → map (key_with_bw number bw) (front ++ (number, was) ∷ behind) ≡ front ++ (number, bw) ∷ behind
 with_bw_one number was bw [] behind apart =
-    ap (λ (b : Bool). cond b (number, bw) (number, was) ∷ map (with_bw number bw) behind) (eq-eqb number number refl) ∙ ap (λ (xs : List (ℕ × ℕ)). (number, bw) ∷ xs) (with_bw_none number bw behind apart.0)
+    ap (λ (b : Bool). cond b (number, bw) (number, was) ∷ map (key_with_bw number bw) behind) (eq-eqb number number refl) ∙ ap (λ (xs : List (ℕ × ℕ)). (number, bw) ∷ xs) (with_bw_none number bw behind apart.0)
 with_bw_one number was bw (a ∷ front) behind apart =
     let differ = none_at a.0 front (number, was) behind apart.0 in
-    ap (λ (b : Bool). cond b (a.0, bw) a ∷ map (with_bw number bw) (front ++ (number, was) ∷ behind)) (not_equal a.0 number (λ e. differ (sym e))) ∙ ap (λ (xs : List (ℕ × ℕ)). a ∷ xs) (with_bw_one number was bw front behind apart.1)
+    ap (λ (b : Bool). cond b (a.0, bw) a ∷ map (key_with_bw number bw) (front ++ (number, was) ∷ behind)) (not_equal a.0 number (λ e. differ (sym e))) ∙ ap (λ (xs : List (ℕ × ℕ)). a ∷ xs) (with_bw_one number was bw front behind apart.1)
 
 -- where the word has room, the ticket's key has the new bandwidth
-asked_keys : (number bw : ℕ) (old new : List Held) → AsksTheWord number bw old new None → AreApart (map held_key old) → map held_key new ≡ map (with_bw number bw) (map held_key old)
+asked_keys : (number bw : ℕ) (old new : List Held) → AsksTheWord number bw old new None → AreApart (map held_key old) → map held_key new ≡ map (key_with_bw number bw) (map held_key old)
 asked_keys number bw old new asked apart =
     let x : Held = record { number = number; ticket = asked.was } in
     let y : Held = record { number = number; ticket = asked.becomes } in
@@ -97,7 +97,7 @@ asked_keys number bw old new asked apart =
     let behind = map held_key asked.behind in
     let was : map held_key old ≡ front ++ (number, asked.was.bw) ∷ behind = ap (map held_key) asked.old_tickets ∙ map-append held_key asked.before (x ∷ asked.behind) in
     let is : map held_key new ≡ front ++ (number, asked.becomes.bw) ∷ behind = ap (map held_key) asked.new_tickets ∙ map-append held_key asked.before (y ∷ asked.behind) in
-    is ∙ ap (λ (n : ℕ). front ++ (number, n) ∷ behind) asked.answered.answer ∙ sym (with_bw_one number asked.was.bw bw front behind (subst AreApart was apart)) ∙ ap (map (with_bw number bw)) (sym was)
+    is ∙ ap (λ (n : ℕ). front ++ (number, n) ∷ behind) asked.answered.answer ∙ sym (with_bw_one number asked.was.bw bw front behind (subst AreApart was apart)) ∙ ap (map (key_with_bw number bw)) (sym was)
 
 -- where it has none, the keys stay
 refused_keys : (number bw seen : ℕ) (old new : List Held) → AsksTheWord number bw old new (Some seen) → map held_key new ≡ map held_key old
@@ -148,24 +148,24 @@ Own d number params = regrade_reply d params None (task_of d number)
 asked_held : (state next : Domain) (old new : List Held) (number : ℕ) (params : ParamsView) (word : Option ℕ) → IsDomain state → HoldsTickets state old → Own state number params ≡ Reply.Changed → AsksTheWord number params.bw old new word → next ≡ after_call state (Call.Regrade number params word) → HoldsTickets next new
 asked_held state next old new number params None is held own asked becomes =
     let apart : AreApart (map held_key old) = subst AreApart (sym held) (apart_keys state.tasks is.steady.numbered) in
-    asked_keys number params.bw old new asked apart ∙ ap (map (with_bw number params.bw)) held ∙ sym (regraded_keys state number params None own) ∙ ap (λ (d : Domain). keys d.tasks) (sym becomes)
+    asked_keys number params.bw old new asked apart ∙ ap (map (key_with_bw number params.bw)) held ∙ sym (regraded_keys state number params None own) ∙ ap (λ (d : Domain). keys d.tasks) (sym becomes)
 asked_held state next old new number params (Some seen) is held own asked becomes =
     let stays : after_call state (Call.Regrade number params (Some seen)) ≡ state = refused_keeps state (Call.Regrade number params (Some seen)) (ap is_refusal (busy_reply state params seen (task_of state number) own)) in
     refused_keys number params.bw seen old new asked ∙ held ∙ ap (λ (d : Domain). keys d.tasks) (sym (becomes ∙ stays))
 
-pub regrade_holds : (state next : Domain) (old new : StockView) (number : ℕ) (params : ParamsView) (word : Option ℕ) → HoldsTickets state old.tickets → IsAsked state old new number params word → next ≡ after_call state (Call.Regrade number params word) → HoldsTickets next new.tickets
+pub regrade_holds : (state next : Domain) (old new : StockView) (number : ℕ) (params : ParamsView) (word : Option ℕ) → HoldsTickets state old.tickets → IsRegradeAsked state old new number params word → next ≡ after_call state (Call.Regrade number params word) → HoldsTickets next new.tickets
 regrade_holds state next old new number params word held (inl a) becomes = asked_held state next old.tickets new.tickets number params word a.1 held a.0 a.3 becomes
 regrade_holds state next old new number params word held (inr a) becomes =
     let none : next ≡ after_call state (Call.Regrade number params None) = becomes ∙ ap (λ (w : Option ℕ). after_call state (Call.Regrade number params w)) a.1 in
     let stays : after_call state (Call.Regrade number params None) ≡ state = refused_keeps state (Call.Regrade number params None) (refused_test state params (task_of state number) a.0) in
     ap (λ (x : StockView). map held_key x.tickets) a.2 ∙ held ∙ ap (λ (d : Domain). keys d.tasks) (sym (none ∙ stays))
 
-asked_stock : (state : Domain) (old new : StockView) (number : ℕ) (params : ParamsView) (word : Option ℕ) → IsAsked state old new number params word → new ≡ record old { tickets = new.tickets }
+asked_stock : (state : Domain) (old new : StockView) (number : ℕ) (params : ParamsView) (word : Option ℕ) → IsRegradeAsked state old new number params word → new ≡ record old { tickets = new.tickets }
 asked_stock state old new number params word (inl a) = a.2
 asked_stock state old new number params word (inr a) = a.2 ∙ ap (λ (x : StockView). record old { tickets = x.tickets }) (sym a.2)
 
 pub regrade_grows : (cpus limit workers : ℕ) (left : Option ℕ) (l grown : LedgerView) (s t : StockView) (state next : Domain) (number : ℕ) (params : ParamsView) (word : Option ℕ) (reply : Reply) (p : PassView Entry) → IsBook (book_of cpus limit workers left l s) state
-    → grown ≡ record l { history = l.history ++ entry_by p (Call.Regrade number params word) reply ∷ [] } → IsAsked state s t number params word
+    → grown ≡ record l { history = l.history ++ entry_by p (Call.Regrade number params word) reply ∷ [] } → IsRegradeAsked state s t number params word
     → reply ≡ reply_to state (Call.Regrade number params word) → next ≡ after_call state (Call.Regrade number params word) → IsBook (book_of cpus limit workers left grown t) next
 regrade_grows cpus limit workers left l grown s t state next number params word reply p is more asked lawful becomes =
     let stock = asked_stock state s t number params word asked in
@@ -173,7 +173,7 @@ regrade_grows cpus limit workers left l grown s t state next number params word 
     book_grows cpus limit workers left l grown s t state next (entry_by p (Call.Regrade number params word) reply) is more pieces refl (ap Some lawful) becomes (regrade_holds state next s t number params word is.held asked becomes) (omega arith)
 
 -- the call has a spelling, since 64 CPUs have 2^26
-pub regrade_spelled : (cpus limit workers : ℕ) (left : Option ℕ) (l : LedgerView) (s t : StockView) (state : Domain) (number : ℕ) (params : ParamsView) (word : Option ℕ) → IsBook (book_of cpus limit workers left l s) state → IsCall (Call.Regrade number params None) → IsAsked state s t number params word → IsCall (Call.Regrade number params word)
+pub regrade_spelled : (cpus limit workers : ℕ) (left : Option ℕ) (l : LedgerView) (s t : StockView) (state : Domain) (number : ℕ) (params : ParamsView) (word : Option ℕ) → IsBook (book_of cpus limit workers left l s) state → IsCall (Call.Regrade number params None) → IsRegradeAsked state s t number params word → IsCall (Call.Regrade number params word)
 regrade_spelled cpus limit workers left l s t state number params None is call asked = call
 regrade_spelled cpus limit workers left l s t state number params (Some seen) is call (inl a) =
     let capped = is.capped in
@@ -183,7 +183,7 @@ regrade_spelled cpus limit workers left l s t state number params (Some seen) is
 regrade_spelled cpus limit workers left l s t state number params (Some seen) is call (inr a) = absurd (let e = a.1 in cc)
 
 pub regrade_answer : (b : BookView) (cpus limit workers : ℕ) (left : Option ℕ) (l grown : LedgerView) (s t : StockView) (state : Domain) (number : ℕ) (params : ParamsView) (word : Option ℕ) (reply : Reply) (p q : PassView Entry) → book_of cpus limit workers left l s ≡ b → IsBook (book_of cpus limit workers left l s) state → length l.history < l.room
-    → grown ≡ record l { history = l.history ++ entry_by p (Call.Regrade number params word) reply ∷ [] } → q ≡ with_entry p (Call.Regrade number params word) reply → IsAsked state s t number params word → reply ≡ reply_to state (Call.Regrade number params word)
+    → grown ≡ record l { history = l.history ++ entry_by p (Call.Regrade number params word) reply ∷ [] } → q ≡ with_entry p (Call.Regrade number params word) reply → IsRegradeAsked state s t number params word → reply ≡ reply_to state (Call.Regrade number params word)
     → IsRegraded b (book_of cpus limit workers left grown t) p q number params reply
 regrade_answer b cpus limit workers left l grown s t state number params word reply p q view is room more made asked lawful =
     let old = book_of cpus limit workers left l s in

@@ -3,7 +3,7 @@ use Rattle.std.proofs.Common.{◌≡◌, ℕ, Bool, cond, List, [], ◌∷◌, m
 use Rattle.std.specs.Prelude.{All, sum_by}
 use Rattle.std.proofs.lemmas.List.Elements.{All-head, All-tail}
 use Rattle.std.proofs.lemmas.List.Sums.{sum_by-cons}
-use Rattle.bw_gate.specs.Pieces.{GateId, share_of, sum_of}
+use Rattle.bw_gate.specs.Pieces.{GateId, bw_in, bw_of_tickets}
 use Rattle.domain_run.specs.declared.task.Task.{Task}
 use Rattle.domain_run.proofs.CallerLemmas.{sum_first}
 use Rattle.domain_run.specs.Tick as tick
@@ -12,14 +12,14 @@ use Rattle.domain_run.specs.Keys.{key_of, keys}
 use Rattle.call_book.specs.declared.book.stock.Held.{Held}
 use Rattle.call_book.specs.Pieces.{held_key, IsTicketOf, HoldsTickets}
 
-of_tickets : (gate : GateId) (domain : ℕ) (tickets : List Held) → All (λ h. IsTicketOf gate domain h.ticket) tickets → sum_of domain (map (λ (h : Held). h.ticket) tickets) ≡ sum_by (λ (k : ℕ × ℕ). k.1) (map held_key tickets)
+of_tickets : (gate : GateId) (domain : ℕ) (tickets : List Held) → All (λ h. IsTicketOf gate domain h.ticket) tickets → bw_of_tickets domain (map (λ (h : Held). h.ticket) tickets) ≡ sum_by (λ (k : ℕ × ℕ). k.1) (map held_key tickets)
 of_tickets gate domain [] all = refl
 of_tickets gate domain (h ∷ tickets) all =
     let P : Held → Type 0 = λ h. IsTicketOf gate domain h.ticket in
     let first = All-head P h tickets all in
-    let share : share_of domain h.ticket ≡ h.ticket.bw = ap (λ (b : Bool). cond b h.ticket.bw 0) (eq-eqb h.ticket.domain domain first.inside) in
+    let share : bw_in domain h.ticket ≡ h.ticket.bw = ap (λ (b : Bool). cond b h.ticket.bw 0) (eq-eqb h.ticket.domain domain first.inside) in
     let rest = of_tickets gate domain tickets (All-tail P h tickets all) in
-    let left = sum_by-cons (share_of domain) h.ticket (map (λ (x : Held). x.ticket) tickets) in
+    let left = sum_by-cons (bw_in domain) h.ticket (map (λ (x : Held). x.ticket) tickets) in
     let right = sum_by-cons (λ (k : ℕ × ℕ). k.1) (held_key h) (map held_key tickets) in
     omega (arith, share, rest, left, right)
 
@@ -31,5 +31,5 @@ of_tasks (t ∷ tasks) =
     let right = sum_by-cons (λ (k : ℕ × ℕ). k.1) (key_of t) (keys tasks) in
     omega (arith, rest, left, right)
 
-pub tickets_sum : (gate : GateId) (domain : ℕ) (state : Domain) (tickets : List Held) → HoldsTickets state tickets → All (λ h. IsTicketOf gate domain h.ticket) tickets → sum_of domain (map (λ (h : Held). h.ticket) tickets) ≡ tick.sum_of state.tasks
+pub tickets_sum : (gate : GateId) (domain : ℕ) (state : Domain) (tickets : List Held) → HoldsTickets state tickets → All (λ h. IsTicketOf gate domain h.ticket) tickets → bw_of_tickets domain (map (λ (h : Held). h.ticket) tickets) ≡ tick.sum_of state.tasks
 tickets_sum gate domain state tickets held all = of_tickets gate domain tickets all ∙ ap (sum_by (λ (k : ℕ × ℕ). k.1)) held ∙ sym (of_tasks state.tasks)

@@ -52,12 +52,12 @@ abbrev pub state_of : BookView → Domain
 state_of b = run_of b.cpus b.limit (calls_of b.history)
 
 -- an entry beside its client, as a spine lists it
-abbrev pub keyed : Entry → ℕ × Entry
-keyed e = (e.client, e)
+abbrev pub with_key : Entry → ℕ × Entry
+with_key e = (e.client, e)
 
 -- the entries of a client
 abbrev pub own_entries : ℕ → List Entry → List Entry
-own_entries client history = own client (map keyed history)
+own_entries client history = own client (map with_key history)
 
 -- no stranger: the client is 1 to so many
 pub record IsMember (clients : ℕ) (client : ℕ) : Type 0 where

@@ -21,7 +21,7 @@ use Rattle.call_book.specs.Pieces.{is_kept, is_gone, AreGiven, IsTicketOf, AsksT
 use Rattle.call_book.specs.Book.{BookView, state_of, AdmissionView, admission, IsFull, Enters, EntersAlone, Stays, IsRefusedFull}
 
 -- ADMIT. The task is listed, its ticket is held for it, and a blank is handed out where one is kept
-pub record IsAdmitted (old new : BookView) (p q : PassView Entry) (a : AdmissionView)
+pub record IsAdmittedInBook (old new : BookView) (p q : PassView Entry) (a : AdmissionView)
     (ticket : TicketView) (blank : Option BlankView) : Type 0 where
   pub entered : Enters old new p q (admission a) replies.Admitted
   pub tickets : new.tickets ≡ old.tickets ++ record { number = a.number; ticket = ticket } ∷ []
@@ -48,7 +48,7 @@ pub record ComesBack (old new : BookView) (p q : PassView Entry) (a b : Admissio
 
 abbrev pub IsAdmit : BookView → BookView → PassView Entry → PassView Entry → AdmissionView
     → TicketView → Admit → Type 0
-IsAdmit old new p q a ticket (Admitted blank) = IsAdmitted old new p q a ticket blank
+IsAdmit old new p q a ticket (Admitted blank) = IsAdmittedInBook old new p q a ticket blank
 IsAdmit old new p q a ticket (Busy back seen) = IsBusy old new p q a ticket back seen
 IsAdmit old new p q a ticket (Full back b) =
     ComesBack old new p q a b ticket back

@@ -5,7 +5,7 @@ use Rattle.std.specs.Prelude.{◌≡◌, ℕ, ◌<◌, ◌≤◌, ◌⊎◌, [],
 use Rattle.attr_check.specs.Ratio.{cap}
 use Rattle.pass_seats.specs.Lists.{PassView}
 use Rattle.bw_gate.specs.Word.{used_of, cap_of}
-use Rattle.bw_gate.specs.Pieces.{BlankView, last_of}
+use Rattle.bw_gate.specs.Pieces.{BlankView, last_word_found}
 use Rattle.bw_gate.specs.Answers.{IsLimited}
 use Rattle.bw_gate.specs.declared.answer.Limit.{Limit as GateLimit}
 use Rattle.bw_gate.specs.declared.answer.Limit.TheVariants as gate
@@ -20,7 +20,7 @@ use Rattle.call_book.specs.Book.{BookView, state_of, entry_by, with_entry, Enter
 
 -- the last word that a blank found
 abbrev pub word_of_blank : BlankView → ℕ
-word_of_blank b = last_of b.found
+word_of_blank b = last_word_found b.found
 
 -- the gate's answer to a blank that asked for a limit: set, or refused with the whole word that it
 -- found last

@@ -41,7 +41,7 @@ arrival a = Arrive a.number a.name a.params a.script
 -- ---- the tests, in their order
 
 -- both histories have room, and the list of tasks where it comes to
-pub record HasRoom (from to : BookView) (a : AdmissionView) : Type 0 where
+pub record BothHaveRoom (from to : BookView) (a : AdmissionView) : Type 0 where
   pub from_book : length from.history < from.room
   pub to_book : length to.history < to.room
   pub listed : reply_to (state_of to) (arrival a) ≢ replies.Full
@@ -102,15 +102,15 @@ IsMove old new a ticket (Full back b) =
     ComeBack old new a b ticket back
     × (IsFull old.from ⊎ IsFull old.to ⊎ (reply_to (state_of old.to) (arrival a) ≡ replies.Full))
 IsMove old new a ticket (NotListed back b) =
-    ComeBack old new a b ticket back × HasRoom old.from old.to a
+    ComeBack old new a b ticket back × BothHaveRoom old.from old.to a
     × (reply_to (state_of old.from) (Depart a.number) ≡ replies.NotListed)
 IsMove old new a ticket (Stale now back b) =
-    ComeBack old new a b ticket back × HasRoom old.from old.to a × IsStale old.from a now
+    ComeBack old new a b ticket back × BothHaveRoom old.from old.to a × IsStale old.from a now
 IsMove old new a ticket (Twice back b) =
-    ComeBack old new a b ticket back × HasRoom old.from old.to a × IsAsPrepared old.from a
+    ComeBack old new a b ticket back × BothHaveRoom old.from old.to a × IsAsPrepared old.from a
     × (reply_to (state_of old.to) (arrival a) ≡ replies.Twice)
 IsMove old new a ticket (Busy seen back b) =
-    ComeBack old new a b ticket back × HasRoom old.from old.to a × IsAsPrepared old.from a
+    ComeBack old new a b ticket back × BothHaveRoom old.from old.to a × IsAsPrepared old.from a
     × LacksRoom old.to a seen
 
 -- PREPARE. Nothing is prepared: no such task may depart, or there was no memory though one may

@@ -2,7 +2,7 @@
 use Rattle.std.specs.Prelude.{◌≡◌, ℕ, ◌+◌, ◌-◌, ◌<◌, ◌≤◌, ◌==◌, Bool, not, List, ◌∷◌, ◌++◌, length, map, Option, Some, None, is_some, All}
 use Rattle.std.specs.List.{AllZip}
 use Rattle.bw_gate.specs.Word.{used_of, cap_of, IsWord as IsWholeWord}
-use Rattle.bw_gate.specs.Pieces.{GateId, BlankView, TicketView, cpus_of, last_of}
+use Rattle.bw_gate.specs.Pieces.{GateId, BlankView, TicketView, cpus_of, last_word_found}
 use Rattle.bw_gate.specs.Answers.{IsGive, IsRegrade}
 use Rattle.bw_gate.specs.declared.answer.Regrade.{Regrade}
 use Rattle.bw_gate.specs.declared.answer.Regrade.TheVariants as regrades
@@ -47,14 +47,14 @@ AreGiven tickets blanks = AllZip (λ h b. IsGive h.ticket b) tickets blanks
 
 -- the last word that a piece found
 abbrev pub word_at : TicketView → ℕ
-word_at u = last_of u.found
+word_at u = last_word_found u.found
 
 -- what the word of a ticket's domain says of another bandwidth for it: the ticket has it; or so
 -- much is used of the last word that it found, a whole word of the domain's CPUs, that the cap
 -- which this same word carries has no room for it in the place of the old one
-abbrev pub IsWord : TicketView → ℕ → TicketView → Option ℕ → Type 0
-IsWord t bw u None = u.bw ≡ bw
-IsWord t bw u (Some used) =
+abbrev pub IsWordAnswer : TicketView → ℕ → TicketView → Option ℕ → Type 0
+IsWordAnswer t bw u None = u.bw ≡ bw
+IsWordAnswer t bw u (Some used) =
     (u.bw ≡ t.bw) × (used_of (word_at u) ≡ used) × IsWholeWord (cpus_of t.gate t.domain) (word_at u)
     × (cap_of (word_at u) < used - t.bw + bw)
 
@@ -66,12 +66,13 @@ told_as u (Some used) = regrades.Refused u (word_at u)
 
 -- a ticket that asked for another bandwidth, by one call of the gate that ended as its last try
 -- did: it has found words, and is of its gate and domain still
-pub record IsAnswered (t : TicketView) (bw : ℕ) (u : TicketView) (word : Option ℕ) : Type 0 where
+pub record IsTicketAnswered (t : TicketView) (bw : ℕ) (u : TicketView)
+    (word : Option ℕ) : Type 0 where
   pub words : List ℕ
   pub some : 0 < length words
   pub found : u.found ≡ t.found ++ words
   pub own : IsTicketOf t.gate t.domain u
-  pub answer : IsWord t bw u word
+  pub answer : IsWordAnswer t bw u word
   pub asked : IsRegrade t bw (told_as u word)
 
 -- the ticket of a task asks the word for another bandwidth, and no other ticket changes
@@ -82,4 +83,4 @@ pub record AsksTheWord (number bw : ℕ) (old new : List Held) (word : Option �
   pub becomes : TicketView
   pub old_tickets : old ≡ before ++ record { number = number; ticket = was } ∷ behind
   pub new_tickets : new ≡ before ++ record { number = number; ticket = becomes } ∷ behind
-  pub answered : IsAnswered was bw becomes word
+  pub answered : IsTicketAnswered was bw becomes word

@@ -3,10 +3,11 @@
 //!
 //! Meets the definition "A domain's book" (`specs/Book.antt`, `specs/Pieces.antt`,
 //! `specs/BookAnswers.antt`, `specs/LimitAnswers.antt`, `specs/MoveAnswers.antt`; at its end
-//! `specs/Ending.antt`). To the crates above it promises that a [`Domain`]'s state is the run of its
-//! history, in which each client's calls stand once and in their order, and that it holds a ticket
-//! for each listed task, of its bandwidth, and gives it back when the task has gone; and that an
-//! [`EndingBook`] hears its last advance while it makes it, and enters it as the domain would.
+//! `specs/Ending.antt`). To the crates above it promises that a [`Domain`]'s state is the run of
+//! its history, in which each client's calls stand once and in their order, and that it holds a
+//! ticket for each listed task, of its bandwidth, and gives it back when the task has gone; and
+//! that an [`EndingBook`] hears its last advance while it makes it, and enters it as the domain
+//! would.
 //!
 //! A history as text is the crate `calls_text`'s; its public names are given out here too.
 #![tactic(auto)]

@@ -7,13 +7,13 @@ use Rattle.calls_text.specs.declared.fault.CallsFault.TheVariants as faults
 use Rattle.calls_text.specs.SectionView.{SectionView}
 use Rattle.calls_text.specs.Spelling.{spelling}
 use Rattle.calls_text.specs.Limits.{AreRead}
-use Rattle.calls_text.specs.BadLine.{Begins, IsBadLine, IsReadFault}
+use Rattle.calls_text.specs.BadLine.{BeginsSections, IsBadLine, IsReadFault}
 use Rattle.calls_text.proofs.Fronts.{GoesOn, compared}
 use Rattle.calls_text.proofs.Sections.{same_sections}
 use Rattle.calls_text.proofs.Stops.{begun_lines}
 
 -- the shorter front goes on as an accepted text does
-never_longer : (text : List ℕ) (n : ℕ) (bad : IsBadLine text n) (other : List (List ℕ)) → Begins other → GoesOn bad.front other bad.rest → ⊥
+never_longer : (text : List ℕ) (n : ℕ) (bad : IsBadLine text n) (other : List (List ℕ)) → BeginsSections other → GoesOn bad.front other bad.rest → ⊥
 never_longer text n bad other begins g =
     bad.stops g.line g.after g.rest_is (begins.0, begins.1, g.more ++ begins.2, begins.3 ∙ ap (λ (ls : List (List ℕ)). ls ++ begins.2) g.other_is ∙ simp append_assoc)
 

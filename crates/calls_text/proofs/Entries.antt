@@ -10,9 +10,9 @@ use Rattle.std.proofs.lemmas.List.Folds.{list_any-append}
 use Rattle.std.proofs.lemmas.List.Sums.{sum_by_push, count_by-le-length}
 use Rattle.calls_text.specs.declared.section.Entry.{Entry}
 use Rattle.calls_text.specs.Spelling.{entry_line, is_later, some_later, text_of}
-use Rattle.calls_text.specs.OwnCalls.{IsNumberedAfter, made_by}
+use Rattle.calls_text.specs.OwnCalls.{IsNumberedAfter, count_made_by}
 use Rattle.calls_text.specs.Limits.{IsClient}
-use Rattle.calls_text.specs.ReadSoFar.{Knows, IsEntryRead, entries_text, SoFar, Counts, LacksEntry}
+use Rattle.calls_text.specs.ReadSoFar.{KnowsLater, IsEntryRead, entries_text, SoFar, Counts, LacksEntry}
 use Rattle.calls_text.specs.private.Reading.{cut_at, known_at, IsNext}
 use Rattle.calls_text.proofs.Flags.{none_of}
 use Rattle.calls_text.proofs.Cuts.{cut_takes, cut_again}
@@ -37,12 +37,12 @@ each_more [] e each is = (is, tt)
 each_more (x ∷ entries) e each is = (each.0, each_more entries e each.1 is)
 
 -- one more call that the header has
-known_more : (later : Bool) (entries : List Entry) (e : Entry) → Knows later (some_later entries) → Knows later (is_later e.call) → Knows later (some_later (entries ++ e ∷ []))
+known_more : (later : Bool) (entries : List Entry) (e : Entry) → KnowsLater later (some_later entries) → KnowsLater later (is_later e.call) → KnowsLater later (some_later (entries ++ e ∷ []))
 known_more later entries e knows more = λ no. list_any-append (λ (x : Entry). is_later x.call) entries (e ∷ []) ∙ none_of (some_later entries) (some_later (e ∷ [])) (knows no) (none_of (is_later e.call) false (more no) refl)
 
-pub numbered_more : (before entries : List Entry) (e : Entry) → IsNumberedAfter before entries → e.seq ≡ made_by e.client (before ++ entries) → IsNumberedAfter before (entries ++ e ∷ [])
-numbered_more before [] e is h = (h ∙ ap (made_by e.client) (append-nil before), tt)
-numbered_more before (x ∷ entries) e is h = (is.0, numbered_more (before ++ x ∷ []) entries e is.1 (h ∙ ap (made_by e.client) (sym (append_assoc before (x ∷ []) entries))))
+pub numbered_more : (before entries : List Entry) (e : Entry) → IsNumberedAfter before entries → e.seq ≡ count_made_by e.client (before ++ entries) → IsNumberedAfter before (entries ++ e ∷ [])
+numbered_more before [] e is h = (h ∙ ap (count_made_by e.client) (append-nil before), tt)
+numbered_more before (x ∷ entries) e is h = (is.0, numbered_more (before ++ x ∷ []) entries e is.1 (h ∙ ap (count_made_by e.client) (sym (append_assoc before (x ∷ []) entries))))
 
 pub one_more : (later : Bool) (text rest line after made : List ℕ) (entries : List Entry) (e : Entry) → SoFar later text rest entries → Counts made entries → cut_at 10 rest ≡ Some (line, after) → IsNext later line made e → SoFar later text after (entries ++ e ∷ [])
 one_more later text rest line after made entries e so_far counts cut next =
@@ -59,13 +59,13 @@ one_more later text rest line after made entries e so_far counts cut next =
 
 pub counts_more : (made : List ℕ) (entries : List Entry) (e : Entry) → Counts made entries → length made ≡ 64 → IsClient e.client → e.seq ≡ get_or made (e.client - 1) 0 → Counts (set made (e.client - 1) (e.seq + 1)) (entries ++ e ∷ [])
 counts_more made entries e counts len is seq = λ client isc.
-    let push : made_by client (entries ++ e ∷ []) ≡ made_by client entries + cond (eqb e.client client) 1 0 = sum_by_push (λ (x : Entry). cond (eqb x.client client) 1 0) entries e in
+    let push : count_made_by client (entries ++ e ∷ []) ≡ count_made_by client entries + cond (eqb e.client client) 1 0 = sum_by_push (λ (x : Entry). cond (eqb x.client client) 1 0) entries e in
     elim (cases_eq e.client client) [
       | inl same ↦
           let is_place : client - 1 ≡ e.client - 1 = omega arith in
           let lt : e.client - 1 < length made = omega arith in
           let old = counts e.client is in
-          let one : made_by client entries ≡ made_by e.client entries = ap (λ (c : ℕ). made_by c entries) (sym same) in
+          let one : count_made_by client entries ≡ count_made_by e.client entries = ap (λ (c : ℕ). count_made_by c entries) (sym same) in
           rw (is_place, get_or-set_same made (e.client - 1) (e.seq + 1) 0 lt, push, eq-eqb e.client client same) (omega (arith, old, one))
       | inr other ↦
           let elsewhere : client - 1 ≡ e.client - 1 → ⊥ = λ p. other (omega arith) in
@@ -80,7 +80,7 @@ counts_few made entries counts len few k =
           let at = counts (k + 1) (omega arith, omega arith) in
           let place : k + 1 - 1 ≡ k = omega arith in
           let most = count_by-le-length (λ (x : Entry). eqb x.client (k + 1)) entries in
-          let here : get_or made k 0 ≡ made_by (k + 1) entries = ap (λ (i : ℕ). get_or made i 0) (sym place) ∙ at in
+          let here : get_or made k 0 ≡ count_made_by (k + 1) entries = ap (λ (i : ℕ). get_or made i 0) (sym place) ∙ at in
           omega (arith, most, here)
       | inr past ↦ rw (get_or_past made k 0 (omega arith)) (omega arith)
     ]

@@ -1,12 +1,12 @@
 -- An event at the front of a text, and what follows the comma after it.
 use Rattle.std.proofs.Common.{◌≡◌, ℕ, ◌-◌, ◌<◌, ◌≤◌, List, [], ◌∷◌, ◌++◌, take, drop, length, get_or, Option, Some, None, refl, sym, ap, ◌∙◌, append-nil, inl, inr, ◌⊎◌, arith}
 use Rattle.std.specs.Prelude.{decimal}
-use Rattle.task_script.specs.declared.script.Event.{Event}
-use Rattle.task_script.specs.declared.script.Event.TheVariants.{Run, Sleep, Timer, Wait}
+use Rattle.task_script.specs.declared.phase.Event.{Event}
+use Rattle.task_script.specs.declared.phase.Event.TheVariants.{Run, Sleep, Timer, Wait}
 use Rattle.calls_text.specs.Spelling.{event_text}
 use Rattle.calls_text.specs.declared.fault.PartFault.{PartFault}
 use Rattle.calls_text.specs.declared.fault.PartFault.TheVariants.{Bad, Memory}
-use Rattle.calls_text.specs.private.Reading.{Fails, NoDigit, IsFirstNumber, IsFirstEvent, event_first_at}
+use Rattle.calls_text.specs.private.Reading.{PartFails, NoDigit, IsFirstNumber, IsFirstEvent, event_first_at}
 use Rattle.calls_text.proofs.Cuts.{rest_is, front_byte, cut_again}
 use Rattle.calls_text.proofs.Numbers.{none_by}
 use Rattle.calls_text.proofs.Scripts.{event_again, event_lacks, comma, reads_events}
@@ -97,6 +97,6 @@ took text e (Some rest) h =
 pub no_event : (text : List ℕ) → ((e : Event) (rest : List ℕ) → Took text e rest → ⊥) → event_first_at text ≡ None
 no_event text none = none_by (event_first_at text) (λ p h. let t = took text p.0 p.1 h in none p.0 t.0 t.1)
 
-pub bad_event : (text : List ℕ) (fault : PartFault) → ((e : Event) (rest : List ℕ) → Took text e rest → ⊥) → Fails fault (event_first_at text)
+pub bad_event : (text : List ℕ) (fault : PartFault) → ((e : Event) (rest : List ℕ) → Took text e rest → ⊥) → PartFails fault (event_first_at text)
 bad_event text Memory none = tt
 bad_event text Bad none = no_event text none

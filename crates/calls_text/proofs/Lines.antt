@@ -19,9 +19,9 @@ use Rattle.calls_text.specs.declared.line_text.Newcomer.{Newcomer}
 use Rattle.calls_text.specs.declared.line_text.Word.{Word}
 use Rattle.calls_text.specs.declared.line_text.Word.TheVariants as word
 use Rattle.calls_text.specs.Spelling.{line_of, call_fields, flag_text, script_text, is_later}
-use Rattle.calls_text.specs.Limits.{IsClient, IsNumber, IsChecked, IsAdmission, IsCall}
-use Rattle.calls_text.specs.ReadSoFar.{Knows}
-use Rattle.calls_text.specs.private.Reading.{◌>>=◌, Fails, cut_at, number_within_at, IsFirstNumber, field_at, times_at, flag_at, flagged_at, params_at, name_at, script_at, plan_at, newcomer_at, admit_at, arrive_at, seen_at, answer, answer_at, regrade_at, numbered_at, change, change_at, limit_at, word_of, front_of, worded_at, called_at, call_at, known_at, domain_at}
+use Rattle.calls_text.specs.Limits.{IsClient, IsTaskNumber, IsChecked, IsAdmission, IsCall}
+use Rattle.calls_text.specs.ReadSoFar.{KnowsLater}
+use Rattle.calls_text.specs.private.Reading.{◌>>=◌, PartFails, cut_at, number_within_at, IsFirstNumber, field_at, times_at, flag_at, flagged_at, params_at, name_at, script_at, plan_at, newcomer_at, admit_at, arrive_at, seen_at, answer, answer_at, regrade_at, numbered_at, change, change_at, limit_at, word_spelled, front_of, worded_at, called_at, call_at, known_at, domain_at}
 use Rattle.calls_text.proofs.Cuts.{Lacks, Lacks-append, Lacks-written, cut_takes, cut_none, cut_again}
 use Rattle.calls_text.proofs.Numbers.{bind_some, within_takes, within_again, decimal_lacks, none_by}
 use Rattle.calls_text.proofs.Names.{name_yes, name_takes}
@@ -62,7 +62,7 @@ field_front least most text n after rest small e is =
 pub front_field : (least most : ℕ) (text : List ℕ) (f : ℕ × List ℕ) → field_at least most text ≡ Some f → IsFirstNumber least most text f.0 (32 ∷ f.1)
 front_field least most text f h = let t = field_takes least most text f h in record { text_is = t.text_is; low = t.low; high = t.high }
 
-pub bad_field : (least most : ℕ) (text : List ℕ) (fault : PartFault) → ((n : ℕ) (rest : List ℕ) → IsFirstNumber least most text n (32 ∷ rest) → ⊥) → Fails fault (field_at least most text)
+pub bad_field : (least most : ℕ) (text : List ℕ) (fault : PartFault) → ((n : ℕ) (rest : List ℕ) → IsFirstNumber least most text n (32 ∷ rest) → ⊥) → PartFails fault (field_at least most text)
 bad_field least most text Memory none = tt
 bad_field least most text Bad none = none_by (field_at least most text) (λ f h. none f.0 f.1 (front_field least most text f h))
 
@@ -261,7 +261,7 @@ name_lacks c (x ∷ xs) low h = ((λ same. omega (arith, same, h 0 0 (omega arit
 -- what was read of a task that comes
 record TookNewcomer (text : List ℕ) (new : Newcomer) (rest : List ℕ) : Type 0 where
   text_is : text ≡ newcomer_text new.number new.name new.params rest
-  numbered : IsNumber new.number
+  numbered : IsTaskNumber new.number
   named : IsName new.name
   checked : IsChecked new.params
 
@@ -281,7 +281,7 @@ took_newcomer text new p =
 newcomer_takes : (text : List ℕ) (new : Newcomer × List ℕ) → newcomer_at text ≡ Some new → TookNewcomer text new.0 new.1
 newcomer_takes text new h = took_newcomer text new (newcomer_parts text new h)
 
-newcomer_again : (number : ℕ) (name : List ℕ) (params : ParamsView) (rest : List ℕ) → IsNumber number → IsName name → IsChecked params → newcomer_at (newcomer_text number name params rest) ≡ made_newcomer number name params rest
+newcomer_again : (number : ℕ) (name : List ℕ) (params : ParamsView) (rest : List ℕ) → IsTaskNumber number → IsName name → IsChecked params → newcomer_at (newcomer_text number name params rest) ≡ made_newcomer number name params rest
 unfolding newcomer_at
 newcomer_again number name params rest numbered named checked =
     let flagged = flag_text params ++ (32 ∷ rest) in
@@ -650,39 +650,39 @@ call_none line none =
     let rest = decimal p.0 ++ (32 ∷ call_text p.1) in
     none (word_in p.1) rest (t.line_is ∙ (line_is p.0 p.1 ∙ front_in p.1 rest)))
 
-front_lacks : (w : Word) → Lacks 32 (word_of w)
-front_lacks w = letters_lack 32 (word_of w) (omega arith) (elim w as (λ v. list_all (λ b. leb 97 b) (word_of v) ≡ true) [ word.Admit ↦ refl | word.Regrade ↦ refl | word.Wake ↦ refl | word.Leave ↦ refl | word.Advance ↦ refl | word.Limit ↦ refl | word.Depart ↦ refl | word.Arrive ↦ refl ])
+front_lacks : (w : Word) → Lacks 32 (word_spelled w)
+front_lacks w = letters_lack 32 (word_spelled w) (omega arith) (elim w as (λ v. list_all (λ b. leb 97 b) (word_spelled v) ≡ true) [ word.Admit ↦ refl | word.Regrade ↦ refl | word.Wake ↦ refl | word.Leave ↦ refl | word.Advance ↦ refl | word.Limit ↦ refl | word.Depart ↦ refl | word.Arrive ↦ refl ])
 
 -- the call of a line is that behind its word
-pub call_behind : (line : List ℕ) (w : Word) (rest : List ℕ) → line ≡ front_of w ++ rest → call_at line ≡ called_at (word_of w) rest
+pub call_behind : (line : List ℕ) (w : Word) (rest : List ℕ) → line ≡ front_of w ++ rest → call_at line ≡ called_at (word_spelled w) rest
 unfolding call_at
 call_behind line w rest e =
-    let cut : cut_at 32 line ≡ Some (word_of w, rest) = ap (cut_at 32) (e ∙ append_assoc (word_of w) (codes " ") rest) ∙ cut_again 32 (word_of w) rest (front_lacks w) in
+    let cut : cut_at 32 line ≡ Some (word_spelled w, rest) = ap (cut_at 32) (e ∙ append_assoc (word_spelled w) (codes " ") rest) ∙ cut_again 32 (word_spelled w) rest (front_lacks w) in
     rw cut refl
 
 -- ---- behind a header
 
 -- a call is read where the header has such calls
-known_by : (later has : Bool) (p q : ℕ × Call) → has ≡ is_later p.1 → cond (has && not later) None (Some p) ≡ Some q → (p ≡ q) × Knows later (is_later q.1)
+known_by : (later has : Bool) (p q : ℕ × Call) → has ≡ is_later p.1 → cond (has && not later) None (Some p) ≡ Some q → (p ≡ q) × KnowsLater later (is_later q.1)
 known_by false false p q is h = let same = same_Some p q h in (same, λ no. ap (λ (x : ℕ × Call). is_later x.1) (sym same) ∙ sym is)
 known_by false true p q is h = absurd cc
 known_by true false p q is h = (same_Some p q h, λ no. absurd cc)
 known_by true true p q is h = (same_Some p q h, λ no. absurd cc)
 
-pub known_takes : (later : Bool) (line : List ℕ) (p : ℕ × Call) → known_at later line ≡ Some p → (call_at line ≡ Some p) × Knows later (is_later p.1)
+pub known_takes : (later : Bool) (line : List ℕ) (p : ℕ × Call) → known_at later line ≡ Some p → (call_at line ≡ Some p) × KnowsLater later (is_later p.1)
 unfolding known_at
 known_takes later line p h =
     let a = bind_some (call_at line) (λ q. cond (is_later q.1 && not later) None (Some q)) p h in
     let b = known_by later (is_later a.0.1) a.0 p refl a.2 in
     (a.1 ∙ ap (λ (x : ℕ × Call). Some x) b.0, b.1)
 
-read_by : (later has : Bool) (client : ℕ) (call : Call) → Knows later has → cond (has && not later) None (Some (client, call)) ≡ made_call client call
+read_by : (later has : Bool) (client : ℕ) (call : Call) → KnowsLater later has → cond (has && not later) None (Some (client, call)) ≡ made_call client call
 read_by false false client call knows = refl
 read_by false true client call knows = absurd (let e = knows refl in cc)
 read_by true false client call knows = refl
 read_by true true client call knows = refl
 
-pub known_again : (later : Bool) (client : ℕ) (call : Call) → IsClient client → IsCall call → Knows later (is_later call) → known_at later (line_of (call_fields client call)) ≡ made_call client call
+pub known_again : (later : Bool) (client : ℕ) (call : Call) → IsClient client → IsCall call → KnowsLater later (is_later call) → known_at later (line_of (call_fields client call)) ≡ made_call client call
 unfolding known_at
 known_again later client call is read knows = rw (call_again client call is read) (read_by later (is_later call) client call knows)
 
@@ -697,7 +697,7 @@ times_lack t rest small h =
     let d = between_lacks (decimal t.deadline) (decimal t.period ++ (32 ∷ rest)) (decimal_lacks 10 t.deadline refl (omega (arith, small.deadline.1))) p in
     between_lacks (decimal t.runtime) (decimal t.deadline ++ (32 ∷ (decimal t.period ++ (32 ∷ rest)))) (decimal_lacks 10 t.runtime refl (omega (arith, small.runtime.1))) d
 
-number_lacks : (number : ℕ) (rest : List ℕ) → IsNumber number → Lacks 10 rest → Lacks 10 (decimal number ++ (32 ∷ rest))
+number_lacks : (number : ℕ) (rest : List ℕ) → IsTaskNumber number → Lacks 10 rest → Lacks 10 (decimal number ++ (32 ∷ rest))
 number_lacks number rest is h = between_lacks (decimal number) rest (decimal_lacks 10 number refl (omega (arith, is.1))) h
 
 answer_lacks : (params : ParamsView) (word : Option ℕ) → IfSome word (λ seen. seen ≤ 2 ^ 26) → Lacks 10 (answer_text params word)
@@ -705,7 +705,7 @@ answer_lacks params None high = flag_lacks 10 params.reclaim refl refl
 answer_lacks params (Some seen) high =
     between_lacks (flag_text params) (seen_text seen) (flag_lacks 10 params.reclaim refl refl) (between_lacks (codes "busy") (decimal seen) (Lacks-written 10 (codes "busy") refl) (decimal_lacks 10 seen refl (omega (arith, high))))
 
-newcomer_lacks : (number : ℕ) (name : List ℕ) (params : ParamsView) (rest : List ℕ) → IsNumber number → IsName name → IsChecked params → Lacks 10 rest → Lacks 10 (newcomer_text number name params rest)
+newcomer_lacks : (number : ℕ) (name : List ℕ) (params : ParamsView) (rest : List ℕ) → IsTaskNumber number → IsName name → IsChecked params → Lacks 10 rest → Lacks 10 (newcomer_text number name params rest)
 newcomer_lacks number name params rest numbered is_name checked h =
     let flagged = between_lacks (flag_text params) rest (flag_lacks 10 params.reclaim refl refl) h in
     let planned = flag_text params ++ (32 ∷ rest) in

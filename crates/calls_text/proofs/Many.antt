@@ -2,7 +2,7 @@
 use Rattle.std.proofs.Common.{◌≡◌, ℕ, suc, ◌-◌, ◌+◌, ◌≤◌, ◌<◌, List, [], ◌∷◌, ◌++◌, Option, Some, None, refl, sym, ap, ◌∙◌, append_assoc, arith}
 use Rattle.calls_text.specs.declared.fault.PartFault.{PartFault}
 use Rattle.calls_text.specs.declared.fault.PartFault.TheVariants.{Bad, Memory}
-use Rattle.calls_text.specs.private.Reading.{◌>>=◌, Fails, many_at}
+use Rattle.calls_text.specs.private.Reading.{◌>>=◌, PartFails, many_at}
 
 -- what was read before, and what is still read
 abbrev pub with_front : {X : Type 0} → List X → Option (List X) → Option (List X)
@@ -29,7 +29,7 @@ ends item front count i text x total lt h so_far =
     sym so_far ∙ one
 
 pub stops : {X : Type 0} (item : List ℕ → Option (X × Option (List ℕ))) (e : PartFault) (front : List X) (count i : ℕ) (text : List ℕ) (total : Option (List X))
-    → i < count → Fails e (item text) → with_front front (many_at item (count - i) text) ≡ total → Fails e total
+    → i < count → PartFails e (item text) → with_front front (many_at item (count - i) text) ≡ total → PartFails e total
 unfolding many_at
 stops item Memory front count i text total lt h so_far = tt
 stops item Bad front count i text total lt h so_far =

@@ -8,17 +8,17 @@ use Rattle.std.proofs.lemmas.List.Sums.{AllPass-from_list_all, list_all-from_All
 use Rattle.std.proofs.lemmas.Option.{cond_some}
 use Rattle.std.proofs.lemmas.Str.{IsUtf8-from_ascii}
 use Rattle.task_script.specs.NameView.{IsName}
-use Rattle.calls_text.specs.private.Reading.{is_name, name_at}
+use Rattle.calls_text.specs.private.Reading.{is_short_name, name_at}
 
 abbrev in_range : ℕ → Bool
 in_range b = leb 33 b && leb b 126
 
-is_name-from : (text : List ℕ) → IsName text → is_name text ≡ true
+is_name-from : (text : List ℕ) → IsName text → is_short_name text ≡ true
 is_name-from text h =
     and_from (ltb 0 (length text) && leb (length text) 15) (list_all in_range text) (and_from _ _ (lt-ltb _ _ h.some) (le-leb _ _ h.most))
     (list_all-from_AllPass in_range text (λ k d lt. let b = h.bytes k d lt in and_from _ _ (le-leb _ _ b.0) (le-leb _ _ b.1)))
 
-from-is_name : (text : List ℕ) → is_name text ≡ true → IsName text
+from-is_name : (text : List ℕ) → is_short_name text ≡ true → IsName text
 from-is_name text e =
     let p = and_parts (ltb 0 (length text) && leb (length text) 15) (list_all in_range text) e in
     let q = and_parts (ltb 0 (length text)) (leb (length text) 15) p.0 in
@@ -35,14 +35,14 @@ name_yes text h = rw (is_name-from text h) refl
 pub name_no : (text : List ℕ) → (IsName text → ⊥) → name_at text ≡ None
 unfolding name_at
 name_no text h =
-    elim (cases_Bool (is_name text)) [
+    elim (cases_Bool (is_short_name text)) [
       | inl is ↦ absurd (h (from-is_name text is))
       | inr isnt ↦ rw isnt refl
     ]
 
 pub name_takes : (text name : List ℕ) → name_at text ≡ Some name → (text ≡ name) × IsName text
 unfolding name_at
-name_takes text name e = let both = cond_some (is_name text) text name e in (both.1, from-is_name text both.0)
+name_takes text name e = let both = cond_some (is_short_name text) text name e in (both.1, from-is_name text both.0)
 
 -- a name is text
 pub name_is_utf8 : (text : List ℕ) → IsName text → IsUtf8 text

@@ -11,7 +11,7 @@ use Rattle.std.proofs.lemmas.Str.Parse.{IsNumeralModel, numerals_by_fold, tells_
 use Rattle.std.proofs.lemmas.Fmt.{decimal-digits_value, digits_decimal, digits_value-decimal, length-decimal-le, decimal_nonempty, first_decimal, decimal_digit}
 use Rattle.calls_text.specs.declared.fault.PartFault.{PartFault}
 use Rattle.calls_text.specs.declared.fault.PartFault.TheVariants.{Bad, Memory}
-use Rattle.calls_text.specs.private.Reading.{◌>>=◌, digits_on, is_short, number_at, number_within_at, digits_front, NoDigit, IsFirstNumber, Fails}
+use Rattle.calls_text.specs.private.Reading.{◌>>=◌, digits_on, is_short, number_parsed, number_within_at, digits_front, NoDigit, IsFirstNumber, PartFails}
 use Rattle.calls_text.proofs.Cuts.{Lacks, rest_is}
 
 -- the value of digits, after the number so far
@@ -52,8 +52,8 @@ alone text h some zero_first =
       | inr other ↦ absurd (eqb-false _ _ (not-true _ other) zero_first)
     ]
 
-pub number_takes : (text : List ℕ) (n : ℕ) → number_at text ≡ Some n → (text ≡ decimal n) × (n < 10000000000000000000)
-unfolding number_at
+pub number_takes : (text : List ℕ) (n : ℕ) → number_parsed text ≡ Some n → (text ≡ decimal n) × (n < 10000000000000000000)
+unfolding number_parsed
 number_takes text n e =
     let p = tested (is_short text) (digits_on 0 text) n e in
     let q = and_parts (ltb 0 (length text) && leb (length text) 19) (leb (length text) 1 || not (eqb (get_or text 0 0) 48)) p.0 in
@@ -72,8 +72,8 @@ first_digit (suc n) h =
     let e : eqb (get_or (decimal (suc n)) 0 0) 48 ≡ false = ne_eqb _ _ (λ same. omega (arith, above, same)) in
     rw e (or-true (leb (length (decimal (suc n))) 1))
 
-pub number_again : (n : ℕ) → n < 10000000000000000000 → number_at (decimal n) ≡ Some n
-unfolding number_at
+pub number_again : (n : ℕ) → n < 10000000000000000000 → number_parsed (decimal n) ≡ Some n
+unfolding number_parsed
 number_again n h =
     let some = lt-ltb _ _ (decimal_nonempty n (omega arith)) in
     let most = le-leb _ _ (length-decimal-le 19 n (omega arith) (omega arith) (omega arith)) in
@@ -83,7 +83,7 @@ number_again n h =
 pub within_takes : (least most : ℕ) (text : List ℕ) (n : ℕ) → number_within_at least most text ≡ Some n → (text ≡ decimal n) × (least ≤ n) × (n ≤ most)
 unfolding number_within_at
 within_takes least most text n e =
-    let b = bind_some (number_at text) (λ m. cond (leb least m && leb m most) (Some m) None) n e in
+    let b = bind_some (number_parsed text) (λ m. cond (leb least m && leb m most) (Some m) None) n e in
     let p = cond_some (leb least b.0 && leb b.0 most) b.0 n b.2 in
     let q = and_parts (leb least b.0) (leb b.0 most) p.0 in
     let low = leb-true _ _ q.0 in
@@ -245,6 +245,6 @@ within_by least most text n [] small none is = ap (number_within_at least most) 
 within_by least most text n (x ∷ rest) small none is = absurd (omega arith)
 
 -- a text at whose front no number is found is no number
-pub bad_within : (least most : ℕ) (text : List ℕ) (fault : PartFault) → ((n : ℕ) → IsFirstNumber least most text n [] → ⊥) → Fails fault (number_within_at least most text)
+pub bad_within : (least most : ℕ) (text : List ℕ) (fault : PartFault) → ((n : ℕ) → IsFirstNumber least most text n [] → ⊥) → PartFails fault (number_within_at least most text)
 bad_within least most text Memory none = tt
 bad_within least most text Bad none = none_by (number_within_at least most text) (λ n h. none n (within_front least most text n h))

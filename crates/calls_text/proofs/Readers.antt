@@ -11,7 +11,7 @@ use Rattle.calls_text.specs.BadLine.{IsBadLine}
 use Rattle.calls_text.specs.declared.calls_reader.CallsReader.TheInside.{Inside}
 use Rattle.calls_text.specs.Reader.{ReaderView, IsBehind, IsWithin, IsNextDomain, IsNextEntry}
 use Rattle.calls_text.specs.ReadSoFar.{IsSectionRead, LacksEntry, last_full}
-use Rattle.calls_text.specs.private.Reading.{cut_at, AreSectionsOf, IsFirstSection, LacksDomain, bad_place, is_whole}
+use Rattle.calls_text.specs.private.Reading.{cut_at, AreSectionsOf, IsFirstSection, LacksDomain, bad_place, is_whole_text}
 use Rattle.calls_text.proofs.Cuts.{cut_takes}
 use Rattle.calls_text.proofs.Sections.{is_section}
 use Rattle.calls_text.proofs.Stops.{sections_found, sections_stop}
@@ -84,10 +84,10 @@ bad_is lines n b stuck same is = ap (λ (m : ℕ). m + cond b 1 2) same ∙ ap (
 are_sections : (text : List ℕ) (done : List SectionView) (r : ReaderView) (b : IsBehind text done r) → (length done < 8 → LacksDomain r.rest) → AreSectionsOf r.later b.body r.rest done
 are_sections text done r b ends = record { so_far = b.so_far; most = b.few; ends = ends }
 
-pub whole_at_end : (text : List ℕ) (done : List SectionView) (r : ReaderView) → IsBehind text done r → (length done < 8 → LacksDomain r.rest) → is_whole r.later r.rest done ≡ true → AreRead done × (text ≡ spelling done)
+pub whole_at_end : (text : List ℕ) (done : List SectionView) (r : ReaderView) → IsBehind text done r → (length done < 8 → LacksDomain r.rest) → is_whole_text r.later r.rest done ≡ true → AreRead done × (text ≡ spelling done)
 whole_at_end text done r b ends whole = sections_found r.later text b.body r.rest done b.header (are_sections text done r b ends) whole
 
-pub bad_at_end : (text : List ℕ) (done : List SectionView) (r : ReaderView) (n : ℕ) → IsBehind text done r → (length done < 8 → LacksDomain r.rest) → is_whole r.later r.rest done ≡ false → n ≡ bad_place r.later done → IsBadLine text n
+pub bad_at_end : (text : List ℕ) (done : List SectionView) (r : ReaderView) (n : ℕ) → IsBehind text done r → (length done < 8 → LacksDomain r.rest) → is_whole_text r.later r.rest done ≡ false → n ≡ bad_place r.later done → IsBadLine text n
 bad_at_end text done r n b ends part place = subst (IsBadLine text) (sym place) (sections_stop r.later text b.body r.rest done b.header (are_sections text done r b ends) part)
 
 -- ---- at the end of a section

@@ -11,12 +11,12 @@ use Rattle.std.proofs.lemmas.Option.{same_Some}
 use Rattle.std.proofs.lemmas.List.{append-nil, length-append}
 use Rattle.std.proofs.lemmas.List.Elements.{All-from_recursion, recursion_from_All, All-weaker}
 use Rattle.std.proofs.lemmas.Slice.Eq.{bytes_eq-Decides}
-use Rattle.task_script.specs.declared.script.Event.{Event}
-use Rattle.task_script.specs.declared.script.Event.TheVariants.{Run, Sleep, Timer, Wait}
+use Rattle.task_script.specs.declared.phase.Event.{Event}
+use Rattle.task_script.specs.declared.phase.Event.TheVariants.{Run, Sleep, Timer, Wait}
 use Rattle.task_script.specs.script.Segments.{rounds_of, IsLoops}
 use Rattle.task_script.specs.script.ScriptView.{PhaseView, ScriptView, script_of, IsEvent, IsPhase, IsScript}
 use Rattle.calls_text.specs.Spelling.{event_text, events_text, phase_text, loops_text, script_text}
-use Rattle.calls_text.specs.private.Reading.{◌>>=◌, cut_at, number_within_at, lasting_at, event_at, event_first_at, events_at, phase_at, phase_first_at, phases_at, rounds_at, script_at}
+use Rattle.calls_text.specs.private.Reading.{◌>>=◌, cut_at, number_within_at, lasting_at, event_parsed, event_first_at, events_at, phase_at, phase_first_at, phases_at, rounds_at, script_at}
 use Rattle.calls_text.proofs.Cuts.{Lacks, Lacks-append, cut_takes, cut_none, cut_again}
 use Rattle.calls_text.proofs.Numbers.{bind_some, within_takes, within_again, decimal_lacks}
 use Rattle.calls_text.proofs.Lists.{ReadsItems, TookItem, many_takes, many_again, joined-comma, joined-flat}
@@ -53,13 +53,13 @@ by_letter c digits e false false true wait e1 e2 is e4 h = with_letter c 116 dig
 by_letter c digits e false false false true e1 e2 e3 is h = wait_takes c digits e is h
 by_letter c digits e false false false false e1 e2 e3 e4 h = absurd cc
 
-event_takes : (text : List ℕ) (e : Event) → event_at text ≡ Some e → IsEvent e × (text ≡ event_text e)
-unfolding event_at
+event_takes : (text : List ℕ) (e : Event) → event_parsed text ≡ Some e → IsEvent e × (text ≡ event_text e)
+unfolding event_parsed
 event_takes [] e h = absurd cc
 event_takes (c ∷ digits) e h = by_letter c digits e (eqb c 114) (eqb c 115) (eqb c 116) (eqb c 119 && eqb (length digits) 0) refl refl refl refl h
 
-pub event_again : (e : Event) → IsEvent e → event_at (event_text e) ≡ Some e
-unfolding event_at
+pub event_again : (e : Event) → IsEvent e → event_parsed (event_text e) ≡ Some e
+unfolding event_parsed
 event_again (Run n) is = rw (within_again 1 1000000000 n (omega (arith, is.0)) is.1 (omega arith)) refl
 event_again (Sleep n) is = rw (within_again 1 1000000000 n (omega (arith, is.0)) is.1 (omega arith)) refl
 event_again (Timer n) is = rw (within_again 1 1000000000 n (omega (arith, is.0)) is.1 (omega arith)) refl
@@ -90,13 +90,13 @@ abbrev put : {X : Type 0} → X → Option (List ℕ) → Option (X × Option (L
 put x rest = Some (x, rest)
 
 first_by : (text : List ℕ) (x : Event) (rest : Option (List ℕ)) (o : Option (List ℕ × List ℕ)) → cut_at 44 text ≡ o
-    → option_map_or (λ p. event_at p.0 >>= λ e. put e (Some p.1)) o (event_at text >>= λ e. put e None) ≡ put x rest
+    → option_map_or (λ p. event_parsed p.0 >>= λ e. put e (Some p.1)) o (event_parsed text >>= λ e. put e None) ≡ put x rest
     → TookItem IsEvent (44 ∷ []) event_text text x rest
 first_by text x rest None cut h =
-    let b = bind_some (event_at text) (λ e. put e None) (x, rest) h in
+    let b = bind_some (event_parsed text) (λ e. put e None) (x, rest) h in
     subst (λ (q : Event × Option (List ℕ)). TookItem IsEvent (44 ∷ []) event_text text q.0 q.1) (same_Some (b.0, None) (x, rest) b.2) (event_takes text b.0 b.1)
 first_by text x rest (Some p) cut h =
-    let b = bind_some (event_at p.0) (λ e. put e (Some p.1)) (x, rest) h in
+    let b = bind_some (event_parsed p.0) (λ e. put e (Some p.1)) (x, rest) h in
     let t = event_takes p.0 b.0 b.1 in
     let whole : text ≡ event_text b.0 ++ (44 ∷ p.1) = cut_takes 44 text p cut ∙ ap (λ (a : List ℕ). a ++ (44 ∷ p.1)) t.1 in
     subst (λ (q : Event × Option (List ℕ)). TookItem IsEvent (44 ∷ []) event_text text q.0 q.1) (same_Some (b.0, Some p.1) (x, rest) b.2) (t.0, whole)

@@ -9,8 +9,8 @@ use Rattle.calls_text.specs.declared.fault.PartFault.{PartFault}
 use Rattle.calls_text.specs.declared.fault.PartFault.TheVariants.{Bad, Memory}
 use Rattle.calls_text.specs.SectionView.{SectionView}
 use Rattle.calls_text.specs.Spelling.{domain_line, section_lines, some_later, has_later, text_of}
-use Rattle.calls_text.specs.ReadSoFar.{Knows, entries_text, SoFar, LacksEntry, IsSectionRead, sections_text, HasRoom, SectionsSoFar}
-use Rattle.calls_text.specs.private.Reading.{cut_at, domain_at, Fails, IsFirstSection, LacksDomain, IsNoSection}
+use Rattle.calls_text.specs.ReadSoFar.{KnowsLater, entries_text, SoFar, LacksEntry, IsSectionRead, sections_text, LastHasRoom, SectionsSoFar}
+use Rattle.calls_text.specs.private.Reading.{cut_at, domain_at, PartFails, IsFirstSection, LacksDomain, IsNoSection}
 use Rattle.calls_text.proofs.Cuts.{cut_takes, cut_again}
 use Rattle.calls_text.proofs.Lines.{domain_text, domain_takes, domain_again, domain_lacks}
 use Rattle.calls_text.proofs.Flags.{none_of}
@@ -47,13 +47,13 @@ domain_bad text line rest cut none = λ s after is same.
     let line_is = (some_pair_parts line (domain_line s) rest after (sym cut ∙ ap (cut_at 10) same ∙ domain_cut s after is)).0 in
     absurd (let f = sym none ∙ ap domain_at line_is ∙ domain_again s.cpus s.limit is.some is.most is.low is.high in cc)
 
-pub no_section : (text line rest : List ℕ) (fault : PartFault) → cut_at 10 text ≡ Some (line, rest) → Fails fault (domain_at line) → IsNoSection text fault
+pub no_section : (text line rest : List ℕ) (fault : PartFault) → cut_at 10 text ≡ Some (line, rest) → PartFails fault (domain_at line) → IsNoSection text fault
 no_section text line rest Bad cut none = domain_bad text line rest cut none
 no_section text line rest Memory cut none = tt
 
 -- ---- one section more
 
-last_room : (sections : List SectionView) (s : SectionView) → HasRoom (sections ++ s ∷ []) → length s.entries < 65536
+last_room : (sections : List SectionView) (s : SectionView) → LastHasRoom (sections ++ s ∷ []) → length s.entries < 65536
 last_room [] s room = room
 last_room (t ∷ []) s room = room
 last_room (t ∷ u ∷ sections) s room = last_room (u ∷ sections) s room
@@ -68,7 +68,7 @@ parts_more : (later : Bool) (text rest after : List ℕ) (sections : List Sectio
 parts_more later text rest after sections s so_far first =
     so_far.parts ∙ ap (λ (r : List ℕ). sections_text sections ++ r) first.parts ∙ sym (append_assoc (sections_text sections) (text_of (section_lines s)) after) ∙ ap (λ (t : List ℕ). t ++ after) (sym (text_more sections s))
 
-known_more : (later : Bool) (sections : List SectionView) (s : SectionView) → Knows later (has_later sections) → Knows later (some_later s.entries) → Knows later (has_later (sections ++ s ∷ []))
+known_more : (later : Bool) (sections : List SectionView) (s : SectionView) → KnowsLater later (has_later sections) → KnowsLater later (some_later s.entries) → KnowsLater later (has_later (sections ++ s ∷ []))
 known_more later sections s knows more =
     λ no. list_any-append (λ (x : SectionView). some_later x.entries) sections (s ∷ []) ∙ none_of (has_later sections) (has_later (s ∷ [])) (knows no) (none_of (some_later s.entries) false (more no) refl)
 

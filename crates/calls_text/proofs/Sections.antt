@@ -10,9 +10,9 @@ use Rattle.domain_run.specs.declared.call.Reply.{Reply}
 use Rattle.calls_text.specs.declared.section.Entry.{Entry}
 use Rattle.calls_text.specs.SectionView.{SectionView}
 use Rattle.calls_text.specs.Spelling.{line_of, call_fields, entry_line, domain_line, section_lines, is_later, some_later, has_later, header_line, lines_of, spelling}
-use Rattle.calls_text.specs.OwnCalls.{IsNumberedAfter, made_by}
+use Rattle.calls_text.specs.OwnCalls.{IsNumberedAfter, count_made_by}
 use Rattle.calls_text.specs.Limits.{IsEntry, IsSection, AreRead}
-use Rattle.calls_text.specs.ReadSoFar.{IsEntryRead, IsSectionRead, HasRoom}
+use Rattle.calls_text.specs.ReadSoFar.{IsEntryRead, IsSectionRead, LastHasRoom}
 use Rattle.calls_text.specs.private.Reading.{call_at, domain_at}
 use Rattle.calls_text.proofs.Flags.{by_first, by_second}
 use Rattle.calls_text.proofs.Lines.{call_again, domain_again}
@@ -133,7 +133,7 @@ pub record EntryFollows (sections others : List SectionView) (line : List ℕ) :
   pub entry : Entry
   pub is : IsEntryRead entry
   pub line_is : line ≡ entry_line entry
-  pub room : HasRoom sections
+  pub room : LastHasRoom sections
   pub among : is_later entry.call ≡ true → has_later others ≡ true
 
 -- or a domain's, where there are not yet as many sections as in the text
@@ -143,7 +143,7 @@ pub record DomainFollows (sections others : List SectionView) (line : List ℕ) 
   pub line_is : line ≡ domain_line section
   pub within : length sections < length others
 
-pub more_room : (s : SectionView) (sections : List SectionView) → HasRoom sections → HasRoom (s ∷ sections)
+pub more_room : (s : SectionView) (sections : List SectionView) → LastHasRoom sections → LastHasRoom (s ∷ sections)
 more_room s [] room = absurd room
 more_room s (t ∷ sections) room = room
 
@@ -189,11 +189,11 @@ unfolding entry_from
 same_entry e f a b c d =
     ap (λ (x : ℕ). entry_from x e.seq e.call e.reply) a ∙ ap (λ (x : ℕ). entry_from f.client x e.call e.reply) b ∙ ap (λ (x : Call). entry_from f.client f.seq x e.reply) c ∙ ap (λ (x : Option Reply). entry_from f.client f.seq f.call x) d
 
-same_line : (e f : Entry) (before : List Entry) → IsEntryRead e → IsEntryRead f → e.seq ≡ made_by e.client before → f.seq ≡ made_by f.client before → entry_line e ≡ entry_line f → e ≡ f
+same_line : (e f : Entry) (before : List Entry) → IsEntryRead e → IsEntryRead f → e.seq ≡ count_made_by e.client before → f.seq ≡ count_made_by f.client before → entry_line e ≡ entry_line f → e ≡ f
 same_line e f before is is' seq seq' same =
     let again = sym (call_again e.client e.call is.within.client is.within.call) ∙ ap call_at same ∙ call_again f.client f.call is'.within.client is'.within.call in
     let p = some_pair_parts e.client f.client e.call f.call again in
-    same_entry e f p.0 (seq ∙ ap (λ (c : ℕ). made_by c before) p.0 ∙ sym seq') p.1 (is.no_reply ∙ sym is'.no_reply)
+    same_entry e f p.0 (seq ∙ ap (λ (c : ℕ). count_made_by c before) p.0 ∙ sym seq') p.1 (is.no_reply ∙ sym is'.no_reply)
 
 same_entries : (before entries others : List Entry) → AllByRecursion IsEntryRead entries → AllByRecursion IsEntryRead others → IsNumberedAfter before entries → IsNumberedAfter before others → map entry_line entries ≡ map entry_line others → entries ≡ others
 same_entries before [] [] each each' numbered numbered' e = refl

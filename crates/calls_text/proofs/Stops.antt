@@ -12,11 +12,11 @@ use Rattle.domain_run.specs.declared.call.Call.TheVariants.{Limit}
 use Rattle.calls_text.specs.declared.section.Entry.{Entry}
 use Rattle.calls_text.specs.SectionView.{SectionView}
 use Rattle.calls_text.specs.Spelling.{entry_line, domain_line, section_lines, is_later, some_later, has_later, header_line, lines_of, text_of, spelling}
-use Rattle.calls_text.specs.OwnCalls.{IsNumberedAfter, made_by}
+use Rattle.calls_text.specs.OwnCalls.{IsNumberedAfter, count_made_by}
 use Rattle.calls_text.specs.Limits.{AreRead}
-use Rattle.calls_text.specs.BadLine.{IsAccepted, Begins, IsBadLine}
-use Rattle.calls_text.specs.ReadSoFar.{Knows, IsEntryRead, IsSectionRead, LacksEntry, HasRoom, sections_text, last_full}
-use Rattle.calls_text.specs.private.Reading.{cut_at, header_at, LacksDomain, AreSectionsOf, is_full, is_stuck, bad_place, is_whole}
+use Rattle.calls_text.specs.BadLine.{IsAccepted, BeginsSections, IsBadLine}
+use Rattle.calls_text.specs.ReadSoFar.{KnowsLater, IsEntryRead, IsSectionRead, LacksEntry, LastHasRoom, sections_text, last_full}
+use Rattle.calls_text.specs.private.Reading.{cut_at, header_at, LacksDomain, AreSectionsOf, is_full, is_stuck, bad_place, is_whole_text}
 use Rattle.calls_text.proofs.Flags.{by_second}
 use Rattle.calls_text.proofs.Cuts.{cut_takes, cut_again}
 use Rattle.calls_text.proofs.Lines.{line_lacks}
@@ -111,7 +111,7 @@ changed_behind sections each few = record {
 abbrev longer_by : SectionView → Entry → SectionView
 longer_by s e = section_from s.cpus s.limit (s.entries ++ e ∷ [])
 
-longer_read : (s : SectionView) (e : Entry) → IsSectionRead s → IsEntryRead e → e.seq ≡ made_by e.client s.entries → length s.entries < 65536 → IsSectionRead (longer_by s e)
+longer_read : (s : SectionView) (e : Entry) → IsSectionRead s → IsEntryRead e → e.seq ≡ count_made_by e.client s.entries → length s.entries < 65536 → IsSectionRead (longer_by s e)
 longer_read s e is read seq few = record {
   some = is.some;
   most = is.most;
@@ -139,13 +139,13 @@ record ChangedLast (sections : List SectionView) : Type 0 where
   lines : body others ≡ body sections ++ more
   has : has_later others ≡ true
 
-changed_last : (sections : List SectionView) → AllByRecursion IsSectionRead sections → HasRoom sections → ChangedLast sections
+changed_last : (sections : List SectionView) → AllByRecursion IsSectionRead sections → LastHasRoom sections → ChangedLast sections
 changed_last [] each room = absurd room
 changed_last (s ∷ []) each room =
-    let e = change (made_by 1 s.entries) in
+    let e = change (count_made_by 1 s.entries) in
     record {
       others = longer_by s e ∷ [];
-      each = (longer_read s e each.0 (change_is (made_by 1 s.entries)) refl room, tt);
+      each = (longer_read s e each.0 (change_is (count_made_by 1 s.entries)) refl room, tt);
       count = refl;
       more = entry_line e ∷ [];
       lines = longer_lines s e;
@@ -162,7 +162,7 @@ changed_last (s ∷ t ∷ sections) each room =
       has = by_second (some_later s.entries) (has_later r.others) r.has;
     }
 
-in_last : (sections : List SectionView) → AllByRecursion IsSectionRead sections → length sections ≤ 8 → HasRoom sections → Changed sections
+in_last : (sections : List SectionView) → AllByRecursion IsSectionRead sections → length sections ≤ 8 → LastHasRoom sections → Changed sections
 in_last sections each most room =
     let r = changed_last sections each room in
     record { others = r.others; each = r.each; most = omega (arith, r.count, most); more = r.more; lines = r.lines; has = r.has }
@@ -172,19 +172,19 @@ room_by : (n : ℕ) (full : Bool) → eqb n 65536 ≡ full → n ≤ 65536 → (
 room_by n true e few = inr refl
 room_by n false e few = inl (let differ = eqb-false n 65536 e in omega (arith, differ, few))
 
-has_room : (sections : List SectionView) → AllByRecursion IsSectionRead sections → 0 < length sections → HasRoom sections ⊎ (last_full sections ≡ true)
+has_room : (sections : List SectionView) → AllByRecursion IsSectionRead sections → 0 < length sections → LastHasRoom sections ⊎ (last_full sections ≡ true)
 has_room [] each some = absurd (omega (arith, some))
 has_room (s ∷ []) each some = room_by (length s.entries) (eqb (length s.entries) 65536) refl each.0.few
 has_room (s ∷ t ∷ sections) each some = has_room (t ∷ sections) each.1 (omega arith)
 
-no_room : (sections : List SectionView) → last_full sections ≡ true → HasRoom sections → ⊥
+no_room : (sections : List SectionView) → last_full sections ≡ true → LastHasRoom sections → ⊥
 no_room [] full room = room
 no_room (s ∷ []) full room = let n = eqb-true (length s.entries) 65536 full in omega (arith, n, room)
 no_room (s ∷ t ∷ sections) full room = no_room (t ∷ sections) full room
 
 -- ---- which lines begin an accepted text
 
-begins_by : (later : Bool) (sections others : List SectionView) (more : List (List ℕ)) → AllByRecursion IsSectionRead others → 0 < length others → length others ≤ 8 → has_later others ≡ later → body others ≡ body sections ++ more → Begins (headed later sections)
+begins_by : (later : Bool) (sections others : List SectionView) (more : List (List ℕ)) → AllByRecursion IsSectionRead others → 0 < length others → length others ≤ 8 → has_later others ≡ later → body others ≡ body sections ++ more → BeginsSections (headed later sections)
 begins_by later sections others more each some most has lines =
     (others, are_read others each some most, more, ap (λ (b : Bool). headed b others) has ∙ ap (λ (ls : List (List ℕ)). header_line later ∷ ls) lines)
 
@@ -192,19 +192,19 @@ some_where : (sections : List SectionView) → has_later sections ≡ true → 0
 some_where [] has = absurd cc
 some_where (s ∷ sections) has = omega arith
 
-changed_begins : (sections : List SectionView) → Changed sections → Begins (headed true sections)
+changed_begins : (sections : List SectionView) → Changed sections → BeginsSections (headed true sections)
 changed_begins sections c = begins_by true sections c.others c.more c.each (some_where c.others c.has) c.most c.has c.lines
 
-itself_begins : (later : Bool) (sections : List SectionView) → AllByRecursion IsSectionRead sections → 0 < length sections → length sections ≤ 8 → has_later sections ≡ later → Begins (headed later sections)
+itself_begins : (later : Bool) (sections : List SectionView) → AllByRecursion IsSectionRead sections → 0 < length sections → length sections ≤ 8 → has_later sections ≡ later → BeginsSections (headed later sections)
 itself_begins later sections each some most has = begins_by later sections sections [] each some most has (sym (append-nil (body sections)))
 
 empty_is : IsSectionRead (section_from 1 1048576 [])
 empty_is = record { some = omega arith; most = omega arith; low = omega arith; high = omega arith; few = omega arith; each = tt; numbered = tt }
 
-header_begins : Begins (headed false [])
+header_begins : BeginsSections (headed false [])
 header_begins = begins_by false [] (section_from 1 1048576 [] ∷ []) (body (section_from 1 1048576 [] ∷ [])) (empty_is, tt) (omega arith) (omega arith) refl refl
 
-plain_begins : (sections : List SectionView) → AllByRecursion IsSectionRead sections → length sections ≤ 8 → has_later sections ≡ false → Begins (headed false sections)
+plain_begins : (sections : List SectionView) → AllByRecursion IsSectionRead sections → length sections ≤ 8 → has_later sections ≡ false → BeginsSections (headed false sections)
 plain_begins [] each most has = header_begins
 plain_begins (s ∷ sections) each most has = itself_begins false (s ∷ sections) each (omega arith) most has
 
@@ -216,7 +216,7 @@ may_change sections true e each most free =
       | inr full ↦ absurd (let f = sym full ∙ free in cc)
     ]
 
-begins_headed : (later has : Bool) (sections : List SectionView) → has_later sections ≡ has → AllByRecursion IsSectionRead sections → length sections ≤ 8 → Knows later has → (later && not has && (eqb (length sections) 8 && last_full sections)) ≡ false → Begins (headed later sections)
+begins_headed : (later has : Bool) (sections : List SectionView) → has_later sections ≡ has → AllByRecursion IsSectionRead sections → length sections ≤ 8 → KnowsLater later has → (later && not has && (eqb (length sections) 8 && last_full sections)) ≡ false → BeginsSections (headed later sections)
 begins_headed false has sections e each most knows free = plain_begins sections each most (e ∙ knows refl)
 begins_headed true true sections e each most knows free = itself_begins true sections each (some_where sections e) most e
 begins_headed true false sections e each most knows free = changed_begins sections (may_change sections (eqb (length sections) 8) refl each most free)
@@ -244,7 +244,7 @@ follows_from later sections more others are e =
 
 -- no line behind these sections goes on as in an accepted text
 abbrev NoLineFollows : Bool → List ℕ → List SectionView → Type 0
-NoLineFollows later rest sections = (line after : List ℕ) → rest ≡ line ++ 10 ∷ after → Begins (headed later sections ++ line ∷ []) → ⊥
+NoLineFollows later rest sections = (line after : List ℕ) → rest ≡ line ++ 10 ∷ after → BeginsSections (headed later sections ++ line ∷ []) → ⊥
 
 not_true : (b : Bool) → (b ≡ true → ⊥) → b ≡ false
 not_true false never = refl
@@ -253,12 +253,12 @@ not_true true never = absurd (never refl)
 never_true : (b : Bool) → b ≡ false → b ≡ true → ⊥
 never_true b is isnt = let f = sym is ∙ isnt in cc
 
-no_line_follows : (later : Bool) (rest : List ℕ) (sections : List SectionView) → (HasRoom sections → LacksEntry later rest) → (length sections < 8 → LacksDomain rest) → NoLineFollows later rest sections
+no_line_follows : (later : Bool) (rest : List ℕ) (sections : List SectionView) → (LastHasRoom sections → LacksEntry later rest) → (length sections < 8 → LacksDomain rest) → NoLineFollows later rest sections
 no_line_follows later rest sections stops ends = λ line after same begins.
     let f = follows_from later sections (line ∷ begins.2) begins.0 begins.1 (begins.3 ∙ append_assoc (headed later sections) (line ∷ []) begins.2) in
     elim (follows sections f.others line begins.2 f.each f.lines) [
       | inl g ↦
-          let knows : Knows later (is_later g.entry.call) = λ no. not_true (is_later g.entry.call) (λ yes. never_true (has_later f.others) (f.has ∙ no) (g.among yes)) in
+          let knows : KnowsLater later (is_later g.entry.call) = λ no. not_true (is_later g.entry.call) (λ yes. never_true (has_later f.others) (f.has ∙ no) (g.among yes)) in
           stops g.room g.entry after g.is knows (same ∙ ap (λ (l : List ℕ). l ++ 10 ∷ after) g.line_is)
       | inr g ↦ ends (omega (arith, g.within, f.most)) g.section after g.is (same ∙ ap (λ (l : List ℕ). l ++ 10 ∷ after) g.line_is)
     ]
@@ -336,7 +336,7 @@ record Shorter (sections : List SectionView) : Type 0 where
   is : IsEntryRead last
   each : AllByRecursion IsSectionRead front
   count : length front ≡ length sections
-  room : HasRoom front
+  room : LastHasRoom front
   lines : body sections ≡ body front ++ entry_line last ∷ []
 
 one_shorter : (cpus limit : ℕ) (front : List Entry) (last : Entry) → IsSectionRead (section_from cpus limit (front ++ last ∷ [])) → Shorter (section_from cpus limit (front ++ last ∷ []) ∷ [])
@@ -372,11 +372,11 @@ last_text [] line rest = simp append_assoc
 last_text (x ∷ front) line rest = append_assoc (x ++ codes "\n") (text_of (front ++ line ∷ [])) rest ∙ ap (λ (t : List ℕ). (x ++ codes "\n") ++ t) (last_text front line rest) ∙ sym (append_assoc (x ++ codes "\n") (text_of front) (line ++ 10 ∷ rest))
 
 -- no change of the limit can follow all of these lines
-never_begins : (sections : List SectionView) → AllByRecursion IsSectionRead sections → length sections ≡ 8 → last_full sections ≡ true → has_later sections ≡ false → Begins (headed true sections) → ⊥
+never_begins : (sections : List SectionView) → AllByRecursion IsSectionRead sections → length sections ≡ 8 → last_full sections ≡ true → has_later sections ≡ false → BeginsSections (headed true sections) → ⊥
 never_begins sections each eight full none begins =
     never_true (has_later sections) none (full_ends true sections begins.2 each eight full (follows_from true sections begins.2 begins.0 begins.1 begins.3))
 
-accepted_begins : (text rest : List ℕ) (front : List (List ℕ)) → AreLines front → text ≡ text_of front ++ rest → IsAccepted text → Begins front
+accepted_begins : (text rest : List ℕ) (front : List (List ℕ)) → AreLines front → text ≡ text_of front ++ rest → IsAccepted text → BeginsSections front
 accepted_begins text rest front lines parts accepted =
     let others = accepted.0 in
     let same : text_of front ++ rest ≡ text_of (lines_of others) ++ [] = sym parts ∙ accepted.2 ∙ sym (append-nil (spelling others)) in
@@ -392,7 +392,7 @@ last_lacks [] line lines = lines
 last_lacks (x ∷ front) line lines = last_lacks front line lines.1
 
 -- the lines at the front of an accepted text
-pub begun_lines : (front : List (List ℕ)) → Begins front → AreLines front
+pub begun_lines : (front : List (List ℕ)) → BeginsSections front → AreLines front
 begun_lines front begins = front_lines front begins.2 (subst AreLines begins.3 (sections_lines begins.0 (each_read begins.0 begins.1)))
 
 bad_last : (text text_body rest : List ℕ) (sections : List SectionView) (n : ℕ) → text ≡ header_line true ++ (10 ∷ text_body) → AreSectionsOf true text_body rest sections → length sections ≡ 8 → last_full sections ≡ true → has_later sections ≡ false → n ≡ length (body sections) + 1 → IsBadLine text n
@@ -415,7 +415,7 @@ bad_last text text_body rest sections n header are eight full none place =
           let lacks = last_lacks front other (begun_lines (front ++ other ∷ []) begins) in
           let cuts = sym (cut_again 10 line rest (line_lacks s.last.client s.last.call s.is.within.client s.is.within.call)) ∙ ap (cut_at 10) same ∙ cut_again 10 other after lacks.0 in
           let is = (some_pair_parts line other rest after cuts).0 in
-          never (subst Begins (sym all) (subst (λ (l : List ℕ). Begins (front ++ l ∷ [])) (sym is) begins));
+          never (subst BeginsSections (sym all) (subst (λ (l : List ℕ). BeginsSections (front ++ l ∷ [])) (sym is) begins));
       refused = λ accepted. never (accepted_begins text rest (headed true sections) (headed_lines true sections each) parts accepted);
     }
 
@@ -463,7 +463,7 @@ header_first text header rest later cut read = cut_takes 10 text (header, rest) 
 -- ---- a whole text
 
 -- what the header says of the sections
-fits_by : (later has : Bool) → Knows later has → (not later || has) ≡ true → has ≡ later
+fits_by : (later has : Bool) → KnowsLater later has → (not later || has) ≡ true → has ≡ later
 fits_by false has knows fits = knows refl
 fits_by true has knows fits = fits
 
@@ -482,20 +482,20 @@ spelled_all later text text_body [] sections header are none some has =
     (are_read sections are.so_far.each some are.most, parts ∙ append-nil (text_of (headed later sections)) ∙ ap (λ (b : Bool). text_of (headed b sections)) (sym has))
 spelled_all later text text_body (c ∷ rest) sections header are none some has = absurd (omega (arith, none))
 
-pub sections_found : (later : Bool) (text text_body rest : List ℕ) (sections : List SectionView) → text ≡ header_line later ++ (10 ∷ text_body) → AreSectionsOf later text_body rest sections → is_whole later rest sections ≡ true → AreRead sections × (text ≡ spelling sections)
+pub sections_found : (later : Bool) (text text_body rest : List ℕ) (sections : List SectionView) → text ≡ header_line later ++ (10 ∷ text_body) → AreSectionsOf later text_body rest sections → is_whole_text later rest sections ≡ true → AreRead sections × (text ≡ spelling sections)
 sections_found later text text_body rest sections header are whole =
     let a = and_parts (eqb (length rest) 0 && not (eqb (length sections) 0)) (not later || has_later sections) whole in
     let b = and_parts (eqb (length rest) 0) (not (eqb (length sections) 0)) a.0 in
     spelled_all later text text_body rest sections header are (eqb-true (length rest) 0 b.0) (some_by sections b.1) (fits_by later (has_later sections) are.so_far.known a.1)
 
-whole_by : (later : Bool) (rest : List ℕ) (sections : List SectionView) → length rest ≡ 0 → 0 < length sections → has_later sections ≡ later → is_whole later rest sections ≡ true
+whole_by : (later : Bool) (rest : List ℕ) (sections : List SectionView) → length rest ≡ 0 → 0 < length sections → has_later sections ≡ later → is_whole_text later rest sections ≡ true
 whole_by later rest sections none some has =
     rw (eq-eqb (length rest) 0 none, ne_eqb (length sections) 0 (λ same. omega (arith, same, some))) (unfits_by later (has_later sections) has)
 
 -- else they stop at the bad line
-pub sections_stop : (later : Bool) (text text_body rest : List ℕ) (sections : List SectionView) → text ≡ header_line later ++ (10 ∷ text_body) → AreSectionsOf later text_body rest sections → is_whole later rest sections ≡ false → IsBadLine text (bad_place later sections)
+pub sections_stop : (later : Bool) (text text_body rest : List ℕ) (sections : List SectionView) → text ≡ header_line later ++ (10 ∷ text_body) → AreSectionsOf later text_body rest sections → is_whole_text later rest sections ≡ false → IsBadLine text (bad_place later sections)
 sections_stop later text text_body rest sections header are part =
-    bad_behind later text text_body rest sections header are (λ none some has. never_true (is_whole later rest sections) part (whole_by later rest sections none some has))
+    bad_behind later text text_body rest sections header are (λ none some has. never_true (is_whole_text later rest sections) part (whole_by later rest sections none some has))
 
 -- ---- the last section
 

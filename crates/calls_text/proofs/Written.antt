@@ -7,12 +7,12 @@ use Rattle.std.proofs.lemmas.Grind.{flat_map-append}
 use Rattle.std.proofs.lemmas.List.{append-nil, take_all, take_more}
 use Rattle.calls_text.specs.declared.section.Entry.{Entry}
 use Rattle.calls_text.specs.SectionView.{SectionView}
-use Rattle.task_script.specs.declared.script.Event.{Event}
+use Rattle.task_script.specs.declared.phase.Event.{Event}
 use Rattle.task_script.specs.script.Segments.{loops_of}
 use Rattle.calls_text.specs.Spelling.{event_text, events_text, loops_text, entry_line, domain_line, section_lines, is_later, some_later, has_later, header_line, text_of, spelling}
 use Rattle.calls_text.specs.Limits.{AreRead}
 use Rattle.calls_text.specs.ReadSoFar.{entries_text}
-use Rattle.calls_text.specs.RoundTrip.{bare, unanswered, IsReadAs}
+use Rattle.calls_text.specs.RoundTrip.{without_reply, without_replies, IsReadAs}
 use Rattle.draft.specs.Draft.{DraftView, Adds}
 use Rattle.draft.proofs.CallerLemmas.{joined, as_text, more_lines}
 use Rattle.calls_text.proofs.Cuts.{rest_is}
@@ -73,31 +73,31 @@ loops_said (Some n) = refl
 
 -- ---- replies
 
-entries_bare : (entries : List Entry) → map entry_line (map bare entries) ≡ map entry_line entries
+entries_bare : (entries : List Entry) → map entry_line (map without_reply entries) ≡ map entry_line entries
 entries_bare [] = refl
 entries_bare (e ∷ entries) = ap (λ (ls : List (List ℕ)). entry_line e ∷ ls) (entries_bare entries)
 
-lines_bare : (sections : List SectionView) → flat_map section_lines (map unanswered sections) ≡ flat_map section_lines sections
+lines_bare : (sections : List SectionView) → flat_map section_lines (map without_replies sections) ≡ flat_map section_lines sections
 lines_bare [] = refl
 lines_bare (s ∷ sections) =
-    ap (λ (ls : List (List ℕ)). (domain_line s ∷ ls) ++ flat_map section_lines (map unanswered sections)) (entries_bare s.entries)
+    ap (λ (ls : List (List ℕ)). (domain_line s ∷ ls) ++ flat_map section_lines (map without_replies sections)) (entries_bare s.entries)
     ∙ ap (λ (ls : List (List ℕ)). section_lines s ++ ls) (lines_bare sections)
 
-some_bare : (entries : List Entry) → some_later (map bare entries) ≡ some_later entries
+some_bare : (entries : List Entry) → some_later (map without_reply entries) ≡ some_later entries
 some_bare [] = refl
 some_bare (e ∷ entries) = ap (λ (b : Bool). is_later e.call || b) (some_bare entries)
 
-has_bare : (sections : List SectionView) → has_later (map unanswered sections) ≡ has_later sections
+has_bare : (sections : List SectionView) → has_later (map without_replies sections) ≡ has_later sections
 has_bare [] = refl
-has_bare (s ∷ sections) = ap (λ (b : Bool). b || has_later (map unanswered sections)) (some_bare s.entries) ∙ ap (λ (b : Bool). some_later s.entries || b) (has_bare sections)
+has_bare (s ∷ sections) = ap (λ (b : Bool). b || has_later (map without_replies sections)) (some_bare s.entries) ∙ ap (λ (b : Bool). some_later s.entries || b) (has_bare sections)
 
 -- no reply is written
-spelling_bare : (sections : List SectionView) → spelling (map unanswered sections) ≡ spelling sections
+spelling_bare : (sections : List SectionView) → spelling (map without_replies sections) ≡ spelling sections
 spelling_bare sections =
-    ap (λ (b : Bool). text_of (header_line b ∷ flat_map section_lines (map unanswered sections))) (has_bare sections) ∙ ap (λ (ls : List (List ℕ)). text_of (header_line (has_later sections) ∷ ls)) (lines_bare sections)
+    ap (λ (b : Bool). text_of (header_line b ∷ flat_map section_lines (map without_replies sections))) (has_bare sections) ∙ ap (λ (ls : List (List ℕ)). text_of (header_line (has_later sections) ∷ ls)) (lines_bare sections)
 
 -- what is written is read as what was written
-pub read_as : (text : List ℕ) (sections : List SectionView) → text ≡ spelling sections → AreRead (map unanswered sections) → IsReadAs text (map unanswered sections)
+pub read_as : (text : List ℕ) (sections : List SectionView) → text ≡ spelling sections → AreRead (map without_replies sections) → IsReadAs text (map without_replies sections)
 read_as text sections e are =
-    let spelled : text ≡ spelling (map unanswered sections) = e ∙ sym (spelling_bare sections) in
-    record { accepted = are; spelled = spelled; alone = λ others are' same. same_sections others (map unanswered sections) are' are (sym same ∙ spelled) }
+    let spelled : text ≡ spelling (map without_replies sections) = e ∙ sym (spelling_bare sections) in
+    record { accepted = are; spelled = spelled; alone = λ others are' same. same_sections others (map without_replies sections) are' are (sym same ∙ spelled) }

@@ -11,8 +11,8 @@ abbrev pub IsAccepted : List ℕ → Type 0
 IsAccepted text = (sections : List SectionView) × AreRead sections × (text ≡ spelling sections)
 
 -- these are the first lines of some accepted text
-abbrev pub Begins : List (List ℕ) → Type 0
-Begins lines =
+abbrev pub BeginsSections : List (List ℕ) → Type 0
+BeginsSections lines =
     (sections : List SectionView) × AreRead sections × (more : List (List ℕ))
     × (lines_of sections ≡ lines ++ more)
 
@@ -27,8 +27,9 @@ pub record IsBadLine (text : List ℕ) (n : ℕ) : Type 0 where
   pub rest : List ℕ
   pub parts : text ≡ text_of front ++ rest
   pub place : n ≡ length front + 1
-  pub before : Begins front
-  pub stops : (line after : List ℕ) → rest ≡ line ++ 10 ∷ after → Begins (front ++ line ∷ []) → ⊥
+  pub before : BeginsSections front
+  pub stops : (line after : List ℕ) → rest ≡ line ++ 10 ∷ after
+      → BeginsSections (front ++ line ∷ []) → ⊥
   pub refused : IsAccepted text → ⊥
 
 -- what a fault says of a text; memory may run out at any

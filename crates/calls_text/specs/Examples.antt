@@ -4,8 +4,8 @@ use Rattle.std.specs.Fmt.{digits}
 use Rattle.attr_check.specs.ParamsView.{ParamsView}
 use Rattle.attr_check.specs.Accepted.{accepted}
 use Rattle.attr_check.specs.declared.refusal.AttrRefusal.TheVariants.{Small}
-use Rattle.task_script.specs.declared.script.Event.{Event}
-use Rattle.task_script.specs.declared.script.Event.TheVariants.{Run, Sleep, Timer, Wait}
+use Rattle.task_script.specs.declared.phase.Event.{Event}
+use Rattle.task_script.specs.declared.phase.Event.TheVariants.{Run, Sleep, Timer, Wait}
 use Rattle.task_script.specs.script.ScriptView.{PhaseView, script_of}
 use Rattle.domain_run.specs.declared.call.Call.{Call}
 use Rattle.domain_run.specs.declared.call.Call.TheVariants.{Admit, Regrade, Wake, Leave, Advance, Limit, Depart, Arrive}

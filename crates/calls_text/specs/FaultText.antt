@@ -4,6 +4,6 @@ use Rattle.calls_text.specs.declared.fault.CallsFault.{CallsFault}
 use Rattle.calls_text.specs.declared.fault.CallsFault.TheVariants.{BadLine, Memory}
 
 -- own
-abbrev pub fault_text : CallsFault → List ℕ
-fault_text (BadLine n) = codes "bad line " ++ decimal n
-fault_text Memory = codes "out of memory"
+abbrev pub calls_fault_text : CallsFault → List ℕ
+calls_fault_text (BadLine n) = codes "bad line " ++ decimal n
+calls_fault_text Memory = codes "out of memory"

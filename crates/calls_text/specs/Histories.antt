@@ -1,7 +1,7 @@
 -- The history of a domain, and histories of several: the states that they lead to, and what they
 -- tell (own).
 use Rattle.std.specs.Prelude.{◌≡◌, ℕ, ◌<◌, Bool, IsTrue, List, Some, length, map, All, slice_index_or}
-use Rattle.domain_run.specs.Domain.{Domain, opened}
+use Rattle.domain_run.specs.Domain.{Domain, empty_domain}
 use Rattle.domain_run.specs.Happened.{told_by_calls}
 use Rattle.domain_run.specs.Log.{LogView}
 use Rattle.calls_text.specs.SectionView.{SectionView}
@@ -15,7 +15,7 @@ calls_of history = map (λ e. e.call) history
 -- a history is legal where each entry has the reply that the run gives to its call
 abbrev pub IsLegal : ℕ → ℕ → List Entry → Type 0
 IsLegal cpus limit history =
-    map (λ e. e.reply) history ≡ map Some (replies_to (opened cpus limit) (calls_of history))
+    map (λ e. e.reply) history ≡ map Some (replies_to (empty_domain cpus limit) (calls_of history))
 
 -- each entry has its lawful reply
 abbrev pub AreLegal : List SectionView → Type 0
@@ -37,4 +37,4 @@ pub record AreTold (wanted : Bool) (histories : List SectionView) (logs : List L
   pub told : (d : ℕ) (s : SectionView) (x : LogView) → d < length histories → IsTrue wanted
       → let h = slice_index_or histories d s in
       (slice_index_or logs d x).happened
-      ≡ told_by_calls (opened h.cpus h.limit) (calls_of h.entries)
+      ≡ told_by_calls (empty_domain h.cpus h.limit) (calls_of h.entries)

@@ -7,22 +7,22 @@ use Rattle.calls_text.specs.declared.kept_call.Kept.{Kept}
 use Rattle.calls_text.specs.declared.kept_call.Kept.TheVariants.{Wake, Leave, Depart, Advance, Long}
 use Rattle.calls_text.specs.declared.section.Entry.{Entry}
 use Rattle.calls_text.specs.SectionView.{SectionView}
-use Rattle.calls_text.specs.Reader.{ReaderView, IsBehind, IsWithin, with_entries}
+use Rattle.calls_text.specs.Reader.{ReaderView, IsBehind, IsWithin, section_with_entries}
 
 -- the call that is kept
-abbrev pub call_of : Kept → Call
-call_of (Wake number) = calls.Wake number
-call_of (Leave number) = calls.Leave number
-call_of (Depart number) = calls.Depart number
-call_of (Advance ticks) = calls.Advance ticks
-call_of (Long spelled) = spelled.value.call
+abbrev pub call_kept : Kept → Call
+call_kept (Wake number) = calls.Wake number
+call_kept (Leave number) = calls.Leave number
+call_kept (Depart number) = calls.Depart number
+call_kept (Advance ticks) = calls.Advance ticks
+call_kept (Long spelled) = spelled.value.call
 
 -- the entry that is read next has this call
 pub record IsNextCall (text : List ℕ) (before : List SectionView) (s : SectionView) (r : ReaderView)
     (kept : Kept) : Type 0 where
   pub entry : Entry
-  pub same : entry.call ≡ call_of kept
-  pub within : IsWithin text before (with_entries s (entry ∷ [])) r
+  pub same : entry.call ≡ call_kept kept
+  pub within : IsWithin text before (section_with_entries s (entry ∷ [])) r
 
 -- within a section: the call of its next entry, or it is read to its end; where memory ran out, all
 -- is as before

@@ -16,8 +16,8 @@ use Rattle.calls_text.specs.OwnCalls.{IsNumbered}
 abbrev pub IsClient : ℕ → Type 0
 IsClient c = (0 < c) × (c ≤ 64)
 
-abbrev pub IsNumber : ℕ → Type 0
-IsNumber n = (0 < n) × (n ≤ 65535)
+abbrev pub IsTaskNumber : ℕ → Type 0
+IsTaskNumber n = (0 < n) × (n ≤ 65535)
 
 -- a task's own times in nanoseconds, with SCHED_DEADLINE (policy 6) and, where it reclaims,
 -- SCHED_FLAG_RECLAIM (2) (sched_setattr(2))
@@ -37,7 +37,7 @@ IsChecked p = accepted (attr_of p) ≡ Ok p
 
 pub record IsAdmission (number : ℕ) (name : List ℕ) (params : ParamsView) (delay : ℕ)
     (script : ScriptView) : Type 0 where
-  pub numbered : IsNumber number
+  pub numbered : IsTaskNumber number
   pub named : IsName name
   pub checked : IsChecked params
   pub soon : delay ≤ 1000000000
@@ -46,13 +46,13 @@ pub record IsAdmission (number : ℕ) (name : List ℕ) (params : ParamsView) (d
 abbrev pub IsCall : Call → Type 0
 IsCall (Admit number name params delay script) = IsAdmission number name params delay script
 IsCall (Regrade number params word) =
-    IsNumber number × IsChecked params × IfSome word (λ seen. seen ≤ 2 ^ 26)
-IsCall (Wake number) = IsNumber number
-IsCall (Leave number) = IsNumber number
+    IsTaskNumber number × IsChecked params × IfSome word (λ seen. seen ≤ 2 ^ 26)
+IsCall (Wake number) = IsTaskNumber number
+IsCall (Leave number) = IsTaskNumber number
 IsCall (Advance ticks) = (0 < ticks) × (ticks ≤ 60000000)
 IsCall (Limit limit word) =
     (10485 ≤ limit) × (limit ≤ 1048576) × IfSome word (λ seen. seen ≤ 2 ^ 26)
-IsCall (Depart number) = IsNumber number
+IsCall (Depart number) = IsTaskNumber number
 IsCall (Arrive number name params script) = IsAdmission number name params 0 script
 
 -- ---- entries

@@ -4,14 +4,14 @@ use Rattle.std.specs.List.{flat_map, AllByRecursion}
 use Rattle.calls_text.specs.declared.section.Entry.{Entry}
 use Rattle.calls_text.specs.SectionView.{SectionView}
 use Rattle.calls_text.specs.Spelling.{entry_line, section_lines, is_later, some_later, has_later, text_of}
-use Rattle.calls_text.specs.OwnCalls.{IsNumbered, made_by}
+use Rattle.calls_text.specs.OwnCalls.{IsNumbered, count_made_by}
 use Rattle.calls_text.specs.Limits.{IsClient, IsEntry}
 
 -- ---- entries
 
 -- behind a header that has no calls of the second form there is none
-abbrev pub Knows : Bool → Bool → Type 0
-Knows later has = later ≡ false → has ≡ false
+abbrev pub KnowsLater : Bool → Bool → Type 0
+KnowsLater later has = later ≡ false → has ≡ false
 
 -- an entry of a text has no reply
 pub record IsEntryRead (e : Entry) : Type 0 where
@@ -25,19 +25,19 @@ entries_text entries = text_of (map entry_line entries)
 -- the text is that of these entries, and then the rest
 pub record SoFar (later : Bool) (text rest : List ℕ) (entries : List Entry) : Type 0 where
   pub parts : text ≡ entries_text entries ++ rest
-  pub known : Knows later (some_later entries)
+  pub known : KnowsLater later (some_later entries)
   pub each : AllByRecursion IsEntryRead entries
   pub numbered : IsNumbered entries
 
 -- how many calls each client made
 abbrev pub Counts : List ℕ → List Entry → Type 0
 Counts made entries =
-    (client : ℕ) → IsClient client → slice_index made (client - 1) ≡ made_by client entries
+    (client : ℕ) → IsClient client → slice_index made (client - 1) ≡ count_made_by client entries
 
 -- the text does not begin with the line of an entry
 abbrev pub LacksEntry : Bool → List ℕ → Type 0
 LacksEntry later text =
-    (e : Entry) (after : List ℕ) → IsEntryRead e → Knows later (is_later e.call)
+    (e : Entry) (after : List ℕ) → IsEntryRead e → KnowsLater later (is_later e.call)
     → text ≡ entry_line e ++ 10 ∷ after → ⊥
 
 -- ---- sections
@@ -57,18 +57,18 @@ abbrev pub sections_text : List SectionView → List ℕ
 sections_text sections = text_of (flat_map section_lines sections)
 
 -- there is a last section, and it may have one more entry
-abbrev pub HasRoom : List SectionView → Type 0
-HasRoom [] = ⊥
-HasRoom (s ∷ []) = length s.entries < 65536
-HasRoom (s ∷ t ∷ sections) = HasRoom (t ∷ sections)
+abbrev pub LastHasRoom : List SectionView → Type 0
+LastHasRoom [] = ⊥
+LastHasRoom (s ∷ []) = length s.entries < 65536
+LastHasRoom (s ∷ t ∷ sections) = LastHasRoom (t ∷ sections)
 
 -- the text is that of these sections, and then the rest, which does not go on with the last of them
 pub record SectionsSoFar (later : Bool) (text rest : List ℕ) (sections : List SectionView)
     : Type 0 where
   pub parts : text ≡ sections_text sections ++ rest
   pub each : AllByRecursion IsSectionRead sections
-  pub known : Knows later (has_later sections)
-  pub stops : HasRoom sections → LacksEntry later rest
+  pub known : KnowsLater later (has_later sections)
+  pub stops : LastHasRoom sections → LacksEntry later rest
 
 -- the last section has as many calls as it may have
 abbrev pub last_full : List SectionView → Bool

@@ -24,16 +24,16 @@ pub record ReaderView : Type 0 where
   pub made : List ℕ
 
 -- how many bytes of the text are left
-abbrev pub left : ReaderView → ℕ
-left r = length r.rest
+abbrev pub bytes_left : ReaderView → ℕ
+bytes_left r = length r.rest
 
 -- a section of which no entry is read
-abbrev pub begun : ℕ → ℕ → SectionView
-begun cpus limit = record { cpus = cpus; limit = limit; entries = [] }
+abbrev pub empty_section : ℕ → ℕ → SectionView
+empty_section cpus limit = record { cpus = cpus; limit = limit; entries = [] }
 
 -- a section with more entries behind its own
-abbrev pub with_entries : SectionView → List Entry → SectionView
-with_entries s entries = record s { entries = s.entries ++ entries }
+abbrev pub section_with_entries : SectionView → List Entry → SectionView
+section_with_entries s entries = record s { entries = s.entries ++ entries }
 
 -- The reader has read these sections of the text, the last of them to its end: the text is the
 -- header's line, the lines of these sections, and then the rest, which does not go on with the last
@@ -77,7 +77,7 @@ pub record IsWithin (text : List ℕ) (before : List SectionView) (s : SectionVi
 -- behind sections of a text: a section begins, or they are all of the text, or it has a bad line
 abbrev pub IsNextDomain : List ℕ → List SectionView → ReaderView
     → Result (Option (ℕ × ℕ)) CallsFault → Type 0
-IsNextDomain text done r (Ok (Some d)) = IsWithin text done (begun d.0 d.1) r
+IsNextDomain text done r (Ok (Some d)) = IsWithin text done (empty_section d.0 d.1) r
 IsNextDomain text done r (Ok None) = AreRead done × (text ≡ spelling done)
 IsNextDomain text done r (Err e) = IsReadFault text e × IsBehind text done r
 
@@ -85,10 +85,10 @@ IsNextDomain text done r (Err e) = IsReadFault text e × IsBehind text done r
 -- before
 abbrev pub IsNextEntry : List ℕ → List SectionView → SectionView → ReaderView
     → Result (Option Entry) CallsFault → Type 0
-IsNextEntry text before s r (Ok (Some e)) = IsWithin text before (with_entries s (e ∷ [])) r
+IsNextEntry text before s r (Ok (Some e)) = IsWithin text before (section_with_entries s (e ∷ [])) r
 IsNextEntry text before s r (Ok None) = IsBehind text (before ++ s ∷ []) r
 IsNextEntry text before s r (Err e) = IsWithin text before s r
 
 -- within a section: these are all that follow in it
 abbrev pub AreOthers : List ℕ → List SectionView → SectionView → ReaderView → List Entry → Type 0
-AreOthers text before s r entries = IsBehind text (before ++ with_entries s entries ∷ []) r
+AreOthers text before s r entries = IsBehind text (before ++ section_with_entries s entries ∷ []) r

@@ -6,12 +6,12 @@ use Rattle.calls_text.specs.Spelling.{spelling}
 use Rattle.calls_text.specs.Limits.{AreRead}
 
 -- the same call without its reply, which no text has
-abbrev pub bare : Entry → Entry
-bare e = record e { reply = None }
+abbrev pub without_reply : Entry → Entry
+without_reply e = record e { reply = None }
 
 -- the same calls without their replies
-abbrev pub unanswered : SectionView → SectionView
-unanswered s = record s { entries = map bare s.entries }
+abbrev pub without_replies : SectionView → SectionView
+without_replies s = record s { entries = map without_reply s.entries }
 
 -- the text is accepted, and is that of these sections and of no others
 pub record IsReadAs (text : List ℕ) (sections : List SectionView) : Type 0 where

@@ -2,8 +2,8 @@
 
 ghost use Rattle.std.specs.Prelude.{◌≡◌, ◌+◌, ◌-◌, ◌≤◌, ℕ, slice_index, slice_set, IfOk, IfErr};
 ghost use Rattle.calls_text.specs.Limits.{IsClient};
-ghost use Rattle.calls_text.specs.private.Reading.{Fails, known_at, IsNext};
-ghost use Rattle.calls_text.specs.private.Numbered.{entry_of, IsNextNumbered};
+ghost use Rattle.calls_text.specs.private.Reading.{PartFails, known_at, IsNext};
+ghost use Rattle.calls_text.specs.private.Numbered.{numbered_entry, IsNextNumbered};
 
 use crate::cut::cut_line;
 use crate::fault::{CallsFault, PartFault};
@@ -41,11 +41,11 @@ struct Numbered {
 }
 
 impl Numbered {
-    ghost use Rattle.calls_text.specs.private.Numbered.{entry_of};
+    ghost use Rattle.calls_text.specs.private.Numbered.{numbered_entry};
 
     /// The entry of the call.
     fn into_entry(self) -> Entry
-        ensures { result ≡ entry_of self }
+        ensures { result ≡ numbered_entry self }
     {
         let Numbered { client, seq, kept } = self;
         Entry {
@@ -67,10 +67,10 @@ fn numbered_of(
     made: &mut [u64; 64],
 ) -> Result<Numbered, PartFault>
     requires { (k : ℕ) → slice_index made.old k ≤ 65536 }
-    ensures found { IfOk result (λ n. IsNext later line.now made.old (entry_of n)) }
+    ensures found { IfOk result (λ n. IsNext later line.now made.old (numbered_entry n)) }
     ensures made { IfOk result (λ n. made.new ≡ slice_set made.old (n.client - 1) (n.seq + 1)) }
     ensures kept { IfErr result (λ _. made.new ≡ made.old) }
-    ensures fault { IfErr result (λ e. Fails e (known_at later line.now)) }
+    ensures fault { IfErr result (λ e. PartFails e (known_at later line.now)) }
 {
     let (client, kept) = known_call(alloc, line, later)?;
     Ok(Numbered {
@@ -127,9 +127,9 @@ impl<'t> CallsReader<'t> {
     ghost use Rattle.calls_text.specs.SectionView.{SectionView};
     ghost use Rattle.calls_text.specs.Limits.{IsCall, IsEntry};
     ghost use Rattle.calls_text.specs.BadLine.{IsReadFault};
-    ghost use Rattle.calls_text.specs.Reader.{IsBehind, IsWithin, IsNextDomain, IsNextEntry, AreOthers, left};
-    ghost use Rattle.calls_text.specs.KeptCall.{IsNextKept, call_of};
-    ghost use Rattle.calls_text.specs.private.Reading.{LacksDomain, bad_place, is_stuck, is_whole};
+    ghost use Rattle.calls_text.specs.Reader.{IsBehind, IsWithin, IsNextDomain, IsNextEntry, AreOthers, bytes_left};
+    ghost use Rattle.calls_text.specs.KeptCall.{IsNextKept, call_kept};
+    ghost use Rattle.calls_text.specs.private.Reading.{LacksDomain, bad_place, is_stuck, is_whole_text};
 
     /// A reader behind the header of a text.
     ///
@@ -168,7 +168,8 @@ impl<'t> CallsReader<'t> {
         ensures next { (text : List ℕ) (done : List SectionView) → IsBehind text done self.old
             → IsNextDomain text done self.new result }
         // Where a section begins, less is left.
-        ensures less { IfOk result (λ found. IfSome found (λ _. left self.new < left self.old)) }
+        ensures less { IfOk result
+            (λ found. IfSome found (λ _. bytes_left self.new < bytes_left self.old)) }
     {
         if self.sections == MOST_SECTIONS {
             return self.end();
@@ -196,10 +197,11 @@ impl<'t> CallsReader<'t> {
         ensures next { (text : List ℕ) (before : List SectionView) (section : SectionView)
             → IsWithin text before section self.old
             → IsNextNumbered text before section self.new result }
-        ensures entry { IfOk result (λ found. IfSome found (λ n. IsEntry (entry_of n))) }
+        ensures entry { IfOk result (λ found. IfSome found (λ n. IsEntry (numbered_entry n))) }
         ensures fault { IfErr result (λ e. e ≡ CallsFault.Memory) }
-        ensures less { IfOk result (λ found. IfSome found (λ _. left self.new < left self.old)) }
-        ensures never_more { left self.new ≤ left self.old }
+        ensures less { IfOk result
+            (λ found. IfSome found (λ _. bytes_left self.new < bytes_left self.old)) }
+        ensures never_more { bytes_left self.new ≤ bytes_left self.old }
     {
         if self.calls == MOST_CALLS {
             return Ok(None);
@@ -233,8 +235,9 @@ impl<'t> CallsReader<'t> {
         ensures entry { IfOk result (λ found. IfSome found IsEntry) }
         ensures fault { IfErr result (λ e. e ≡ CallsFault.Memory) }
         // Where one was read, less is left.
-        ensures less { IfOk result (λ found. IfSome found (λ _. left self.new < left self.old)) }
-        ensures never_more { left self.new ≤ left self.old }
+        ensures less { IfOk result
+            (λ found. IfSome found (λ _. bytes_left self.new < bytes_left self.old)) }
+        ensures never_more { bytes_left self.new ≤ bytes_left self.old }
     {
         match self.next_numbered(alloc) {
             Ok(Some(numbered)) => Ok(Some(numbered.into_entry())),
@@ -253,11 +256,12 @@ impl<'t> CallsReader<'t> {
         ensures next { (text : List ℕ) (before : List SectionView) (section : SectionView)
             → IsWithin text before section self.old
             → IsNextKept text before section self.new result }
-        ensures call { IfOk result (λ found. IfSome found (λ kept. IsCall (call_of kept))) }
+        ensures call { IfOk result (λ found. IfSome found (λ kept. IsCall (call_kept kept))) }
         ensures fault { IfErr result (λ e. e ≡ CallsFault.Memory) }
         // Where one was read, less is left.
-        ensures less { IfOk result (λ found. IfSome found (λ _. left self.new < left self.old)) }
-        ensures never_more { left self.new ≤ left self.old }
+        ensures less { IfOk result
+            (λ found. IfSome found (λ _. bytes_left self.new < bytes_left self.old)) }
+        ensures never_more { bytes_left self.new ≤ bytes_left self.old }
     {
         match self.next_numbered(alloc) {
             Ok(Some(numbered)) => Ok(Some(numbered.kept)),
@@ -274,7 +278,7 @@ impl<'t> CallsReader<'t> {
         ensures next { (text : List ℕ) (before : List SectionView) (section : SectionView)
             → IsWithin text before section self.old
             → IfOk result (λ others. AreOthers text before section self.new others.items) }
-        ensures never_more { left self.new ≤ left self.old }
+        ensures never_more { bytes_left self.new ≤ bytes_left self.old }
         ensures fault { IfErr result (λ e. e ≡ CallsFault.Memory) }
     {
         let mut entries = Vec::new(alloc);
@@ -301,7 +305,7 @@ impl<'t> CallsReader<'t> {
     /// Whether the sections so far are all of the text, and what its header says of them.
     fn is_whole(&self) -> bool
         ensures { (text : List ℕ) (done : List SectionView) → IsBehind text done self.now
-            → result ≡ is_whole self.now.later self.now.rest done }
+            → result ≡ is_whole_text self.now.later self.now.rest done }
     {
         self.rest.is_empty() && self.sections > 0 && (!self.later || self.found_later)
     }

@@ -14,9 +14,9 @@ pub enum CallsFault {
 
 impl fmt::Display for CallsFault {
     ghost use Rattle.std.specs.Prelude.{Some};
-    ghost use Rattle.calls_text.specs.FaultText.{fault_text};
+    ghost use Rattle.calls_text.specs.FaultText.{calls_fault_text};
 
-    ghost output = { λ f. Some (fault_text f) };
+    ghost output = { λ f. Some (calls_fault_text f) };
 
     fn fmt<W: fmt::Write>(&self, f: &mut fmt::Formatter<W>) -> fmt::Result {
         match self {

@@ -50,8 +50,8 @@ impl Kept {
     ghost use Rattle.std.specs.Prelude.{Some, IfOk, IfErr};
     ghost use Rattle.calls_text.specs.declared.fault.PartFault.TheVariants as PartFault;
     ghost use Rattle.calls_text.specs.Spelling as spelling;
-    ghost use Rattle.calls_text.specs.KeptCall.{call_of};
-    ghost use Rattle.calls_text.specs.private.Reading.{Gives};
+    ghost use Rattle.calls_text.specs.KeptCall.{call_kept};
+    ghost use Rattle.calls_text.specs.private.Reading.{PartGives};
 
     /// The text of the name that a call gives; empty where it gives none.
     fn text_given(alloc: Global, call: &Call) -> Result<String, PartFault>
@@ -72,7 +72,7 @@ impl Kept {
     /// A call in a block of its own.
     #[inline(always)]
     pub(crate) fn long(alloc: Global, call: Call) -> Result<Kept, PartFault>
-        ensures { Gives call_of result (Some call) }
+        ensures { PartGives call_kept result (Some call) }
     {
         // What is let go of goes by one call, not written out with all that is inside.
         let Ok(text) = Kept::text_given(alloc, &call) else {
@@ -90,7 +90,7 @@ impl Kept {
 
     /// The call.
     pub fn into_call(self) -> Call
-        ensures { result ≡ call_of self }
+        ensures { result ≡ call_kept self }
     {
         match self {
             Kept::Wake { number } => Call::Wake { number },
@@ -106,7 +106,7 @@ impl Kept {
 
     /// Whether the call is of the second form.
     pub(crate) fn is_later(&self) -> bool
-        ensures { result ≡ spelling.is_later (call_of self.now) }
+        ensures { result ≡ spelling.is_later (call_kept self.now) }
     {
         match self {
             Kept::Wake { .. } | Kept::Leave { .. } | Kept::Advance { .. } => false,

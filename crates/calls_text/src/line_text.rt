@@ -1,6 +1,6 @@
 ghost use Rattle.std.specs.Prelude.{◌≡◌, ℕ, ◌<◌, ◌≤◌, List, ◌++◌, IfOk, MatchOption};
-ghost use Rattle.calls_text.specs.private.Reading.{Gives, field_at, name_at, times_at, AreTimes, flag_at, flagged_at, params_at, plan_at, newcomer_at, admit_at, arrive_at, seen_at, answer_at, regrade_at, numbered_at, change_at, limit_at, word_of, front_of, worded_at, called_at, call_at, known_at, domain_at};
-ghost use Rattle.calls_text.specs.KeptCall.{call_of};
+ghost use Rattle.calls_text.specs.private.Reading.{PartGives, field_at, name_at, times_at, AreTimes, flag_at, flagged_at, params_at, plan_at, newcomer_at, admit_at, arrive_at, seen_at, answer_at, regrade_at, numbered_at, change_at, limit_at, word_spelled, front_of, worded_at, called_at, call_at, known_at, domain_at};
+ghost use Rattle.calls_text.specs.KeptCall.{call_kept};
 
 use crate::cut::{behind, cut};
 use crate::fault::PartFault;
@@ -35,7 +35,7 @@ const MOST_LIMIT: u64 = 1_048_576;
 #[tactic(auto, unfolding(crate::specs::private::Reading::field_at))]
 fn field(text: &[u8], least: u64, most: u64) -> Result<(u64, &[u8]), PartFault>
     requires { most < 1000000000000000000 }
-    ensures gives { Gives (λ p. (p.0, p.1.now)) result (field_at least most text.now) }
+    ensures gives { PartGives (λ p. (p.0, p.1.now)) result (field_at least most text.now) }
     ensures within { IfOk result (λ p. (least ≤ p.0) × (p.0 ≤ most)) }
 {
     match number_first(text, least, most)? {
@@ -47,7 +47,7 @@ fn field(text: &[u8], least: u64, most: u64) -> Result<(u64, &[u8]), PartFault>
 /// The name that a text is.
 #[tactic(auto, unfolding(crate::specs::private::Reading::name_at))]
 fn name_of(alloc: Global, text: &[u8]) -> Result<Name, PartFault>
-    ensures { Gives (λ n. n) result (name_at text.now) }
+    ensures { PartGives (λ n. n) result (name_at text.now) }
 {
     if text.len() > 15 {
         return Err(PartFault::Bad);
@@ -65,7 +65,7 @@ fn name_of(alloc: Global, text: &[u8]) -> Result<Name, PartFault>
 #[inline(always)]
 #[tactic(auto, unfolding(crate::specs::private::Reading::times_at))]
 fn times_of(text: &[u8]) -> Result<(Times, &[u8]), PartFault>
-    ensures gives { Gives (λ p. (p.0, p.1.now)) result (times_at text.now) }
+    ensures gives { PartGives (λ p. (p.0, p.1.now)) result (times_at text.now) }
     ensures within { IfOk result (λ p. AreTimes p.0) }
 {
     let (runtime, rest) = field(text, 1, MOST_TIME)?;
@@ -82,7 +82,7 @@ fn times_of(text: &[u8]) -> Result<(Times, &[u8]), PartFault>
 /// Whether a task with this flag reclaims: `R` says so, and `-` that it does not.
 #[tactic(auto, unfolding(crate::specs::private::Reading::flag_at))]
 fn reclaim_of(flag: &[u8]) -> Result<bool, PartFault>
-    ensures { Gives (λ b. b) result (flag_at flag.now) }
+    ensures { PartGives (λ b. b) result (flag_at flag.now) }
 {
     if flag == b"R".as_slice() {
         return Ok(true);
@@ -95,7 +95,7 @@ fn reclaim_of(flag: &[u8]) -> Result<bool, PartFault>
 
 /// The same of the flag up to the next space, and what follows.
 fn reclaim_first(text: &[u8]) -> Result<(bool, &[u8]), PartFault>
-    ensures { Gives (λ p. (p.0, p.1.now)) result (flagged_at text.now) }
+    ensures { PartGives (λ p. (p.0, p.1.now)) result (flagged_at text.now) }
 {
     if let Some(rest) = behind(b"R ".as_slice(), text) {
         return Ok((true, rest));
@@ -110,7 +110,7 @@ fn reclaim_first(text: &[u8]) -> Result<(bool, &[u8]), PartFault>
 #[tactic(auto, unfolding(crate::specs::private::Reading::params_at))]
 fn params_of(times: Times, reclaim: bool) -> Result<Params, PartFault>
     requires { AreTimes times }
-    ensures { Gives (λ p. p) result (params_at times reclaim) }
+    ensures { PartGives (λ p. p) result (params_at times reclaim) }
 {
     let attr = SchedAttr {
         policy: 6,
@@ -128,7 +128,7 @@ fn params_of(times: Times, reclaim: bool) -> Result<Params, PartFault>
 /// The delay and the script of an admission.
 #[tactic(auto, unfolding(crate::specs::private::Reading::plan_at))]
 fn plan_of(alloc: Global, text: &[u8]) -> Result<(u64, Script), PartFault>
-    ensures { Gives (λ p. p) result (plan_at text.now) }
+    ensures { PartGives (λ p. p) result (plan_at text.now) }
 {
     let (delay, rest) = field(text, 0, MOST_DELAY)?;
     let script = script_of(alloc, rest)?;
@@ -146,7 +146,7 @@ pub(crate) struct Newcomer {
 #[inline(always)]
 #[tactic(auto, unfolding(crate::specs::private::Reading::newcomer_at))]
 fn newcomer_of(alloc: Global, text: &[u8]) -> Result<(Newcomer, &[u8]), PartFault>
-    ensures { Gives (λ p. (p.0, p.1.now)) result (newcomer_at text.now) }
+    ensures { PartGives (λ p. (p.0, p.1.now)) result (newcomer_at text.now) }
 {
     let (number, rest) = field(text, 1, MOST_NUMBER)?;
     let Some((name, rest)) = cut(rest, b' ') else {
@@ -168,7 +168,7 @@ fn newcomer_of(alloc: Global, text: &[u8]) -> Result<(Newcomer, &[u8]), PartFaul
 /// What follows the client in an `admit` line.
 #[tactic(auto, unfolding(crate::specs::private::Reading::admit_at))]
 fn admit_of(alloc: Global, text: &[u8]) -> Result<Kept, PartFault>
-    ensures { Gives call_of result (admit_at text.now) }
+    ensures { PartGives call_kept result (admit_at text.now) }
 {
     let (newcomer, rest) = newcomer_of(alloc, text)?;
     let Newcomer {
@@ -190,7 +190,7 @@ fn admit_of(alloc: Global, text: &[u8]) -> Result<Kept, PartFault>
 /// What follows the client in an `arrive` line.
 #[tactic(auto, unfolding(crate::specs::private::Reading::arrive_at))]
 fn arrive_of(alloc: Global, text: &[u8]) -> Result<Kept, PartFault>
-    ensures { Gives call_of result (arrive_at text.now) }
+    ensures { PartGives call_kept result (arrive_at text.now) }
 {
     let (newcomer, rest) = newcomer_of(alloc, text)?;
     let Newcomer {
@@ -211,7 +211,7 @@ fn arrive_of(alloc: Global, text: &[u8]) -> Result<Kept, PartFault>
 /// The number with which the bandwidth word refused, from what stands behind the flag of a
 /// `regrade` line, and behind the limit of a `limit` line.
 fn seen_of(text: &[u8]) -> Result<u64, PartFault>
-    ensures { Gives (λ n. n) result (seen_at text.now) }
+    ensures { PartGives (λ n. n) result (seen_at text.now) }
 {
     match behind(b"busy ".as_slice(), text) {
         Some(digits) => number_within(digits, 0, MOST_WORD),
@@ -223,7 +223,7 @@ fn seen_of(text: &[u8]) -> Result<u64, PartFault>
 /// it did.
 #[tactic(auto, unfolding(crate::specs::private::Reading::answer_at))]
 fn answer_of(text: &[u8]) -> Result<(bool, Option<u64>), PartFault>
-    ensures { Gives (λ p. p) result (answer_at text.now) }
+    ensures { PartGives (λ p. p) result (answer_at text.now) }
 {
     if text.len() == 1 {
         let reclaim = reclaim_of(text)?;
@@ -237,7 +237,7 @@ fn answer_of(text: &[u8]) -> Result<(bool, Option<u64>), PartFault>
 /// What follows the client in a `regrade` line.
 #[tactic(auto, unfolding(crate::specs::private::Reading::regrade_at))]
 fn regrade_of(alloc: Global, text: &[u8]) -> Result<Kept, PartFault>
-    ensures { Gives call_of result (regrade_at text.now) }
+    ensures { PartGives call_kept result (regrade_at text.now) }
 {
     let (number, rest) = field(text, 1, MOST_NUMBER)?;
     let (times, rest) = times_of(rest)?;
@@ -254,7 +254,7 @@ fn regrade_of(alloc: Global, text: &[u8]) -> Result<Kept, PartFault>
 /// What follows the client in a `wake` line.
 #[tactic(auto, unfolding(crate::specs::private::Reading::numbered_at))]
 fn wake_of(text: &[u8]) -> Result<Kept, PartFault>
-    ensures { Gives call_of result (numbered_at 65535 (λ n. Call.Wake n) text.now) }
+    ensures { PartGives call_kept result (numbered_at 65535 (λ n. Call.Wake n) text.now) }
 {
     let number = number_within(text, 1, MOST_NUMBER)? as u32;
     Ok(Kept::Wake { number })
@@ -263,7 +263,7 @@ fn wake_of(text: &[u8]) -> Result<Kept, PartFault>
 /// What follows the client in a `leave` line.
 #[tactic(auto, unfolding(crate::specs::private::Reading::numbered_at))]
 fn leave_of(text: &[u8]) -> Result<Kept, PartFault>
-    ensures { Gives call_of result (numbered_at 65535 (λ n. Call.Leave n) text.now) }
+    ensures { PartGives call_kept result (numbered_at 65535 (λ n. Call.Leave n) text.now) }
 {
     let number = number_within(text, 1, MOST_NUMBER)? as u32;
     Ok(Kept::Leave { number })
@@ -272,7 +272,7 @@ fn leave_of(text: &[u8]) -> Result<Kept, PartFault>
 /// What follows the client in a `depart` line.
 #[tactic(auto, unfolding(crate::specs::private::Reading::numbered_at))]
 fn depart_of(text: &[u8]) -> Result<Kept, PartFault>
-    ensures { Gives call_of result (numbered_at 65535 (λ n. Call.Depart n) text.now) }
+    ensures { PartGives call_kept result (numbered_at 65535 (λ n. Call.Depart n) text.now) }
 {
     let number = number_within(text, 1, MOST_NUMBER)? as u32;
     Ok(Kept::Depart { number })
@@ -281,7 +281,7 @@ fn depart_of(text: &[u8]) -> Result<Kept, PartFault>
 /// What follows the client in an `advance` line.
 #[tactic(auto, unfolding(crate::specs::private::Reading::numbered_at))]
 fn advance_of(text: &[u8]) -> Result<Kept, PartFault>
-    ensures { Gives call_of result (numbered_at 60000000 (λ n. Call.Advance n) text.now) }
+    ensures { PartGives call_kept result (numbered_at 60000000 (λ n. Call.Advance n) text.now) }
 {
     let ticks = number_within(text, 1, MOST_TICKS)?;
     Ok(Kept::Advance { ticks })
@@ -290,7 +290,7 @@ fn advance_of(text: &[u8]) -> Result<Kept, PartFault>
 /// A new limit, and with what the bandwidth word refused it, where it did.
 #[tactic(auto, unfolding(crate::specs::private::Reading::change_at))]
 fn change_of(text: &[u8]) -> Result<(u64, Option<u64>), PartFault>
-    ensures { Gives (λ p. p) result (change_at text.now) }
+    ensures { PartGives (λ p. p) result (change_at text.now) }
 {
     let Some((limit, rest)) = cut(text, b' ') else {
         let limit = number_within(text, LEAST_LIMIT, MOST_LIMIT)?;
@@ -304,7 +304,7 @@ fn change_of(text: &[u8]) -> Result<(u64, Option<u64>), PartFault>
 /// What follows the client in a `limit` line.
 #[tactic(auto, unfolding(crate::specs::private::Reading::limit_at))]
 fn limit_of(alloc: Global, text: &[u8]) -> Result<Kept, PartFault>
-    ensures { Gives call_of result (limit_at text.now) }
+    ensures { PartGives call_kept result (limit_at text.now) }
 {
     let (limit, word) = change_of(text)?;
     Kept::long(alloc, Call::Limit { limit, word })
@@ -360,7 +360,7 @@ fn word_first(line: &[u8]) -> Option<(Word, &[u8])>
 /// What follows the client in a line of this word.
 #[tactic(auto, unfolding(crate::specs::private::Reading::worded_at))]
 fn worded(alloc: Global, word: Word, text: &[u8]) -> Result<Kept, PartFault>
-    ensures { Gives call_of result (worded_at (word_of word) text.now) }
+    ensures { PartGives call_kept result (worded_at (word_spelled word) text.now) }
 {
     match word {
         Word::Admit => admit_of(alloc, text),
@@ -377,7 +377,8 @@ fn worded(alloc: Global, word: Word, text: &[u8]) -> Result<Kept, PartFault>
 /// The client and the call that stand behind this word and its space.
 #[inline(always)]
 fn called(alloc: Global, word: Word, text: &[u8]) -> Result<(u32, Kept), PartFault>
-    ensures gives { Gives (λ p. (p.0, call_of p.1)) result (called_at (word_of word) text.now) }
+    ensures gives { PartGives (λ p. (p.0, call_kept p.1)) result
+        (called_at (word_spelled word) text.now) }
     ensures within { IfOk result (λ p. (1 ≤ p.0) × (p.0 ≤ 64)) }
 {
     let (client, rest) = field(text, 1, MOST_CLIENT)?;
@@ -388,7 +389,7 @@ fn called(alloc: Global, word: Word, text: &[u8]) -> Result<(u32, Kept), PartFau
 /// The client and the call that a line spells.
 #[inline(always)]
 fn kept_of(alloc: Global, line: &[u8]) -> Result<(u32, Kept), PartFault>
-    ensures gives { Gives (λ p. (p.0, call_of p.1)) result (call_at line.now) }
+    ensures gives { PartGives (λ p. (p.0, call_kept p.1)) result (call_at line.now) }
     ensures within { IfOk result (λ p. (1 ≤ p.0) × (p.0 ≤ 64)) }
 {
     match word_first(line) {
@@ -402,7 +403,7 @@ fn kept_of(alloc: Global, line: &[u8]) -> Result<(u32, Kept), PartFault>
 #[inline(always)]
 #[tactic(auto, unfolding(crate::specs::private::Reading::known_at))]
 pub(crate) fn known_call(alloc: Global, line: &[u8], later: bool) -> Result<(u32, Kept), PartFault>
-    ensures gives { Gives (λ p. (p.0, call_of p.1)) result (known_at later line.now) }
+    ensures gives { PartGives (λ p. (p.0, call_kept p.1)) result (known_at later line.now) }
     ensures within { IfOk result (λ p. (1 ≤ p.0) × (p.0 ≤ 64)) }
 {
     let (client, kept) = kept_of(alloc, line)?;
@@ -415,7 +416,7 @@ pub(crate) fn known_call(alloc: Global, line: &[u8], later: bool) -> Result<(u32
 /// The CPUs and the limit of the domain that a section's line spells.
 #[tactic(auto, unfolding(crate::specs::private::Reading::domain_at))]
 pub(crate) fn domain_of(line: &[u8]) -> Result<(u64, u64), PartFault>
-    ensures gives { Gives (λ p. p) result (domain_at line.now) }
+    ensures gives { PartGives (λ p. p) result (domain_at line.now) }
     ensures within { IfOk result (λ p. p.0 ≤ 64) }
 {
     let Some((word, rest)) = cut(line, b' ') else {

@@ -1,5 +1,5 @@
 ghost use Rattle.std.specs.Prelude.{◌≡◌, ℕ, ◌<◌, ◌≤◌, List, IfOk, IfErr, MatchResult};
-ghost use Rattle.calls_text.specs.private.Reading.{Gives, NoDigit, IsFirstNumber, digits_front, number_within_at};
+ghost use Rattle.calls_text.specs.private.Reading.{PartGives, NoDigit, IsFirstNumber, digits_front, number_within_at};
 
 use crate::fault::PartFault;
 
@@ -49,7 +49,7 @@ pub(crate) fn number_first(text: &[u8], least: u64, most: u64) -> Result<(u64, &
 #[tactic(auto, unfolding(crate::specs::private::Reading::number_within_at))]
 pub(crate) fn number_within(text: &[u8], least: u64, most: u64) -> Result<u64, PartFault>
     requires { most < 1000000000000000000 }
-    ensures gives { Gives (λ n. n) result (number_within_at least most text.now) }
+    ensures gives { PartGives (λ n. n) result (number_within_at least most text.now) }
     ensures within { IfOk result (λ n. (least ≤ n) × (n ≤ most)) }
 {
     match number_first(text, least, most)? {

@@ -2,7 +2,7 @@ ghost use Rattle.std.specs.Prelude.{◌≡◌, ℕ, List, [], ◌∷◌, ◌++�
 ghost use Rattle.std.specs.Option.{option_map};
 ghost use Rattle.calls_text.specs.declared.fault.PartFault.TheVariants as PartFault;
 ghost use Rattle.task_script.specs.script.Segments.{rounds_of, IsLoops};
-ghost use Rattle.calls_text.specs.private.Reading.{Gives, NoDigit, IsFirstEvent, event_first_at, events_at, phase_at, phase_first_at, phases_at, rounds_at, script_at};
+ghost use Rattle.calls_text.specs.private.Reading.{PartGives, NoDigit, IsFirstEvent, event_first_at, events_at, phase_at, phase_first_at, phases_at, rounds_at, script_at};
 
 use crate::cut::cut;
 use crate::fault::PartFault;
@@ -43,7 +43,7 @@ fn event_of(text: &[u8]) -> Result<(Event, &[u8]), PartFault>
 
 /// An event, and what follows the comma after it.
 fn event_first(text: &[u8]) -> Result<(Event, Option<&[u8]>), PartFault>
-    ensures { Gives (λ p. (p.0, option_map (λ r. r.now) p.1)) result (event_first_at text.now) }
+    ensures { PartGives (λ p. (p.0, option_map (λ r. r.now) p.1)) result (event_first_at text.now) }
 {
     match event_of(text)? {
         (event, []) => Ok((event, None)),
@@ -67,7 +67,7 @@ fn add<T: Drop>(items: &mut Vec<T>, item: T, is_last: bool) -> Result<(), PartFa
 
 /// 1 to 64 events, with commas between them.
 fn events_of(alloc: Global, text: &[u8]) -> Result<Vec<Event>, PartFault>
-    ensures { Gives (λ v. v.items) result (events_at text.now) }
+    ensures { PartGives (λ v. v.items) result (events_at text.now) }
 {
     let mut events = Vec::new(alloc);
     let mut rest = text;
@@ -85,7 +85,7 @@ fn events_of(alloc: Global, text: &[u8]) -> Result<Vec<Event>, PartFault>
 /// A count and its events, without the brace at the end.
 #[tactic(auto, unfolding(crate::specs::private::Reading::phase_at))]
 fn phase_of(alloc: Global, text: &[u8]) -> Result<Phase, PartFault>
-    ensures { Gives (λ p. p) result (phase_at text.now) }
+    ensures { PartGives (λ p. p) result (phase_at text.now) }
 {
     let Some((count, events)) = cut(text, b'{') else {
         return Err(PartFault::Bad);
@@ -98,7 +98,7 @@ fn phase_of(alloc: Global, text: &[u8]) -> Result<Phase, PartFault>
 /// A phase, and what follows the brace after it.
 #[tactic(auto, unfolding(crate::specs::private::Reading::phase_first_at))]
 fn phase_first(alloc: Global, text: &[u8]) -> Result<(Phase, Option<&[u8]>), PartFault>
-    ensures { Gives (λ p. (p.0, option_map (λ r. r.now) p.1)) result (phase_first_at text.now) }
+    ensures { PartGives (λ p. (p.0, option_map (λ r. r.now) p.1)) result (phase_first_at text.now) }
 {
     let Some((phase, after)) = cut(text, b'}') else {
         return Err(PartFault::Bad);
@@ -113,7 +113,7 @@ fn phase_first(alloc: Global, text: &[u8]) -> Result<(Phase, Option<&[u8]>), Par
 
 /// 1 to 64 phases, each with a brace at its end.
 fn phases_of(alloc: Global, text: &[u8]) -> Result<Vec<Phase>, PartFault>
-    ensures { Gives (λ v. v.items) result (phases_at text.now) }
+    ensures { PartGives (λ v. v.items) result (phases_at text.now) }
 {
     let mut phases = Vec::new(alloc);
     let mut rest = text;
@@ -142,7 +142,7 @@ fn phases_of(alloc: Global, text: &[u8]) -> Result<Vec<Phase>, PartFault>
 /// The loop count of a script: -1, or 1 to 10^9.
 #[tactic(auto, unfolding(crate::specs::private::Reading::rounds_at))]
 fn loops_of(text: &[u8]) -> Result<i64, PartFault>
-    ensures gives { Gives rounds_of result (rounds_at text.now) }
+    ensures gives { PartGives rounds_of result (rounds_at text.now) }
     ensures within { IfOk result IsLoops }
 {
     if text == b"-1".as_slice() {
@@ -154,7 +154,7 @@ fn loops_of(text: &[u8]) -> Result<i64, PartFault>
 /// The script that a text spells.
 #[tactic(auto, unfolding(crate::specs::private::Reading::script_at))]
 pub(crate) fn script_of(alloc: Global, text: &[u8]) -> Result<Script, PartFault>
-    ensures { Gives (λ s. s) result (script_at text.now) }
+    ensures { PartGives (λ s. s) result (script_at text.now) }
 {
     let Some((loops, phases)) = cut(text, b':') else {
         return Err(PartFault::Bad);

@@ -7,7 +7,7 @@ ghost use Rattle.calls_text.specs.Spelling.{event_text, events_text, phase_text,
 ghost use Rattle.calls_text.specs.Limits.{AreRead};
 ghost use Rattle.calls_text.specs.ReadSoFar.{entries_text};
 ghost use Rattle.calls_text.specs.private.Writing.{params_text, head_text, busy_text};
-ghost use Rattle.calls_text.specs.RoundTrip.{unanswered, IsReadAs};
+ghost use Rattle.calls_text.specs.RoundTrip.{without_replies, IsReadAs};
 
 use crate::header::has_later;
 use crate::section::{Entry, Section};
@@ -250,8 +250,8 @@ pub fn write_calls(alloc: Global, sections: &[Section]) -> Result<Vec<u8>, NoMem
     ensures found { IfOk result (λ v. v.items ≡ spelling sections.now) }
     // Where `read_calls` reads such sections, it reads the text as these, without their replies,
     // and as no others.
-    ensures back { IfOk result (λ v. AreRead (map unanswered sections.now)
-        → IsReadAs v.items (map unanswered sections.now)) }
+    ensures back { IfOk result (λ v. AreRead (map without_replies sections.now)
+        → IsReadAs v.items (map without_replies sections.now)) }
 {
     let mut out = Draft::new(alloc);
     put_header(&mut out, has_later(sections));

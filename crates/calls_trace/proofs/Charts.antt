@@ -9,7 +9,7 @@ use Rattle.std.proofs.lemmas.Bool.Decides.{Decides-eqb}
 use Rattle.std.proofs.lemmas.Map.Made.{IsDistinct-from_AllPairs}
 use Rattle.std.proofs.lemmas.Map.Views.{Contains-from_any}
 use Rattle.std.proofs.lemmas.Map.Steps.{length-le_from_distinct_below}
-use Rattle.domain_run.specs.Domain.{opened}
+use Rattle.domain_run.specs.Domain.{empty_domain}
 use Rattle.calls_text.specs.SectionView.{SectionView}
 use Rattle.run_figures.specs.declared.run.Admitted.{Admitted}
 use Rattle.run_figures.specs.Runs.{RunView, AreTasks}
@@ -22,10 +22,10 @@ use Rattle.chart.specs.Rows.{ChartRowView}
 use Rattle.chart.specs.Chart.{chart_text}
 use Rattle.calls_trace.specs.declared.placed_run.PlacedRun.{PlacedRun}
 use Rattle.calls_trace.specs.declared.run_text.RunText.TheVariants.{Chart}
-use Rattle.calls_trace.specs.Replay.{calls_of}
+use Rattle.calls_trace.specs.Replay.{calls_in_section}
 use Rattle.calls_trace.specs.Told.{domain_of}
-use Rattle.calls_trace.specs.Charted.{end_of, cpus_of, rows_at, rows_from, chart_of_sections}
-use Rattle.calls_trace.specs.private.Replaying.{PlacedView, view_of, views_from, end_in, cpus_in, rows_in, chart_in, text_of_runs}
+use Rattle.calls_trace.specs.Charted.{last_time, cpus_of_sections, rows_at, rows_from, chart_of_sections}
+use Rattle.calls_trace.specs.private.Replaying.{PlacedView, placed_view_of, views_from, end_in, cpus_of_placed, rows_in, chart_of_placed, text_of_runs}
 use Rattle.calls_trace.proofs.Written.{calls_cpus}
 
 -- ---- of sections
@@ -37,7 +37,7 @@ ends_are end base (s ∷ ss) = ends_are (max end (domain_of s).time) (base + s.c
 cpus_are : (n base : ℕ) (ss : List SectionView) → fold (λ (n : ℕ) (v : PlacedView). n + v.domain.cpus) n (views_from true base ss) ≡ fold (λ (n : ℕ) (s : SectionView). n + s.cpus) n ss
 cpus_are n base [] = refl
 cpus_are n base (s ∷ ss) =
-    let one : (domain_of s).cpus ≡ s.cpus = calls_cpus (opened s.cpus s.limit) (calls_of s) in
+    let one : (domain_of s).cpus ≡ s.cpus = calls_cpus (empty_domain s.cpus s.limit) (calls_in_section s) in
     ap (λ (k : ℕ). fold (λ (n : ℕ) (v : PlacedView). n + v.domain.cpus) (n + k) (views_from true (base + s.cpus) ss)) one
     ∙ cpus_are (n + s.cpus) (base + s.cpus) ss
 
@@ -45,40 +45,40 @@ rows_are : (w : Window) (base : ℕ) (ss : List SectionView) → flat_map (rows_
 rows_are w base [] = refl
 rows_are w base (s ∷ ss) = ap (λ (rs : List ChartRowView). rows_at w base s ++ rs) (rows_are w (base + s.cpus) ss)
 
-pub chart_same : (span : Span) (ss : List SectionView) → chart_in (window_of span (end_in (views_from true 0 ss))) (views_from true 0 ss) ≡ chart_of_sections span ss
+pub chart_same : (span : Span) (ss : List SectionView) → chart_of_placed (window_of span (end_in (views_from true 0 ss))) (views_from true 0 ss) ≡ chart_of_sections span ss
 chart_same span ss =
     let vs = views_from true 0 ss in
-    ap (λ (e : ℕ). chart_text (window_of span e) (cpus_in vs) (flat_map (rows_in (window_of span e)) vs)) (ends_are 0 0 ss)
-    ∙ ap (λ (n : ℕ). chart_text (window_of span (end_of ss)) n (flat_map (rows_in (window_of span (end_of ss))) vs)) (cpus_are 0 0 ss)
-    ∙ ap (chart_text (window_of span (end_of ss)) (cpus_of ss)) (rows_are (window_of span (end_of ss)) 0 ss)
+    ap (λ (e : ℕ). chart_text (window_of span e) (cpus_of_placed vs) (flat_map (rows_in (window_of span e)) vs)) (ends_are 0 0 ss)
+    ∙ ap (λ (n : ℕ). chart_text (window_of span (last_time ss)) n (flat_map (rows_in (window_of span (last_time ss))) vs)) (cpus_are 0 0 ss)
+    ∙ ap (chart_text (window_of span (last_time ss)) (cpus_of_sections ss)) (rows_are (window_of span (last_time ss)) 0 ss)
 
 -- ---- of runs as they are drawn
 
 -- all in one window
 same_rows : {D : Type 0} (window_in : D → Window) (placed_in : D → PlacedRun) (w : Window) (drawn : List D) → All (λ d. window_in d ≡ w) drawn
-    → flat_map (λ d. rows_in (window_in d) (view_of (placed_in d))) drawn ≡ flat_map (λ d. rows_in w (view_of (placed_in d))) drawn
+    → flat_map (λ d. rows_in (window_in d) (placed_view_of (placed_in d))) drawn ≡ flat_map (λ d. rows_in w (placed_view_of (placed_in d))) drawn
 same_rows window_in placed_in w [] same = refl
 same_rows window_in placed_in w (d ∷ drawn) same =
-    ap (λ (x : Window). rows_in x (view_of (placed_in d)) ++ flat_map (λ d. rows_in (window_in d) (view_of (placed_in d))) drawn) (All-head (λ d. window_in d ≡ w) d drawn same)
-    ∙ ap (λ (rs : List ChartRowView). rows_in w (view_of (placed_in d)) ++ rs) (same_rows window_in placed_in w drawn (All-tail (λ d. window_in d ≡ w) d drawn same))
+    ap (λ (x : Window). rows_in x (placed_view_of (placed_in d)) ++ flat_map (λ d. rows_in (window_in d) (placed_view_of (placed_in d))) drawn) (All-head (λ d. window_in d ≡ w) d drawn same)
+    ∙ ap (λ (rs : List ChartRowView). rows_in w (placed_view_of (placed_in d)) ++ rs) (same_rows window_in placed_in w drawn (All-tail (λ d. window_in d ≡ w) d drawn same))
 
 pub chart_is : {D : Type 0} (window_in : D → Window) (placed_in : D → PlacedRun) (span : Span) (w : Window) (end cpus : ℕ) (drawn : List D) (rows : List ChartRowView) (placed : List PlacedRun)
     → w ≡ window_of span end → end ≡ fold (λ (e : ℕ) (p : PlacedRun). max e p.run.state.time) 0 placed → cpus ≡ sum_by (λ (p : PlacedRun). p.run.state.cpus) placed
-    → map placed_in drawn ≡ placed → All (λ d. window_in d ≡ w) drawn → rows ≡ flat_map (λ d. rows_in (window_in d) (view_of (placed_in d))) drawn
+    → map placed_in drawn ≡ placed → All (λ d. window_in d ≡ w) drawn → rows ≡ flat_map (λ d. rows_in (window_in d) (placed_view_of (placed_in d))) drawn
     → chart_text w cpus rows ≡ text_of_runs (Chart span) placed
 unfolding text_of_runs
 chart_is window_in placed_in span w end cpus drawn rows placed shown last many same window are =
-    let vs = map view_of placed in
-    let ends : end ≡ end_in vs = last ∙ sym (fold-map (λ (e : ℕ) (v : PlacedView). max e v.domain.time) view_of 0 placed) in
-    let counts : cpus ≡ cpus_in vs = many ∙ sym (fold-map (λ (n : ℕ) (v : PlacedView). n + v.domain.cpus) view_of 0 placed) in
+    let vs = map placed_view_of placed in
+    let ends : end ≡ end_in vs = last ∙ sym (fold-map (λ (e : ℕ) (v : PlacedView). max e v.domain.time) placed_view_of 0 placed) in
+    let counts : cpus ≡ cpus_of_placed vs = many ∙ sym (fold-map (λ (n : ℕ) (v : PlacedView). n + v.domain.cpus) placed_view_of 0 placed) in
     let all : rows ≡ flat_map (rows_in w) vs =
     are ∙ same_rows window_in placed_in w drawn window
-    ∙ sym (flat_map-map (λ p. rows_in w (view_of p)) placed_in drawn)
-    ∙ ap (flat_map (λ p. rows_in w (view_of p))) same
-    ∙ sym (flat_map-map (rows_in w) view_of placed) in
+    ∙ sym (flat_map-map (λ p. rows_in w (placed_view_of p)) placed_in drawn)
+    ∙ ap (flat_map (λ p. rows_in w (placed_view_of p))) same
+    ∙ sym (flat_map-map (rows_in w) placed_view_of placed) in
     ap (chart_text w cpus) all
     ∙ ap (λ (n : ℕ). chart_text w n (flat_map (rows_in w) vs)) counts
-    ∙ ap (λ (x : Window). chart_text x (cpus_in vs) (flat_map (rows_in x) vs)) (shown ∙ ap (window_of span) ends)
+    ∙ ap (λ (x : Window). chart_text x (cpus_of_placed vs) (flat_map (rows_in x) vs)) (shown ∙ ap (window_of span) ends)
 
 -- ---- rows, one run or one row more
 

@@ -11,10 +11,10 @@ use Rattle.domain_run.specs.declared.call.Reply.TheVariants.{Admitted, Full, Twi
 use Rattle.domain_run.specs.Domain.{Domain}
 use Rattle.domain_run.specs.Tick.{sum_of, ticked, ticks}
 use Rattle.domain_run.specs.Switch.{Switch}
-use Rattle.domain_run.specs.Passing.{behind}
+use Rattle.domain_run.specs.Passing.{with_past}
 use Rattle.domain_run.proofs.CallerLemmas.{after_call_behind, with_number_contains}
 use Rattle.domain_run.specs.Run.{after_calls}
-use Rattle.domain_run.specs.Calls.{admit_reply, reply_to, is_refusal, granted, after_call}
+use Rattle.domain_run.specs.Calls.{admit_reply, reply_to, is_refusal, after_granted, after_call}
 use Rattle.domain_run.specs.Sound.{IsAdmitted}
 use Rattle.calls_trace.specs.Replay.{with_name, named_by, names_after, names_of}
 
@@ -34,17 +34,17 @@ either_used false d e n old new = new
 -- whoever was admitted, was admitted behind a call
 pub used_after : (d : Domain) (c : Call) (n : ℕ) → IsAdmitted d.used n → IsAdmitted (after_call d c).used n
 used_after d (Admit number name params delay script) n there =
-    let more : IsAdmitted (granted d (Admit number name params delay script)).used n = with_number_contains number n d.used ∙ or_true (eqb number n) _ there in
-    either_used (is_refusal (reply_to d (Admit number name params delay script))) d (granted d (Admit number name params delay script)) n there more
-used_after d (Regrade number params word) n there = either_used (is_refusal (reply_to d (Regrade number params word))) d (granted d (Regrade number params word)) n there there
-used_after d (Wake number) n there = either_used (is_refusal (reply_to d (Wake number))) d (granted d (Wake number)) n there there
-used_after d (Leave number) n there = either_used (is_refusal (reply_to d (Leave number))) d (granted d (Leave number)) n there there
+    let more : IsAdmitted (after_granted d (Admit number name params delay script)).used n = with_number_contains number n d.used ∙ or_true (eqb number n) _ there in
+    either_used (is_refusal (reply_to d (Admit number name params delay script))) d (after_granted d (Admit number name params delay script)) n there more
+used_after d (Regrade number params word) n there = either_used (is_refusal (reply_to d (Regrade number params word))) d (after_granted d (Regrade number params word)) n there there
+used_after d (Wake number) n there = either_used (is_refusal (reply_to d (Wake number))) d (after_granted d (Wake number)) n there there
+used_after d (Leave number) n there = either_used (is_refusal (reply_to d (Leave number))) d (after_granted d (Leave number)) n there there
 used_after d (Advance k) n there = subst (λ (used : List ℕ). IsAdmitted used n) (sym (ticks_used k d)) there
-used_after d (Limit limit word) n there = either_used (is_refusal (reply_to d (Limit limit word))) d (granted d (Limit limit word)) n there there
-used_after d (Depart number) n there = either_used (is_refusal (reply_to d (Depart number))) d (granted d (Depart number)) n there there
+used_after d (Limit limit word) n there = either_used (is_refusal (reply_to d (Limit limit word))) d (after_granted d (Limit limit word)) n there there
+used_after d (Depart number) n there = either_used (is_refusal (reply_to d (Depart number))) d (after_granted d (Depart number)) n there there
 used_after d (Arrive number name params script) n there =
-    let more : IsAdmitted (granted d (Arrive number name params script)).used n = with_number_contains number n d.used ∙ or_true (eqb number n) _ there in
-    either_used (is_refusal (reply_to d (Arrive number name params script))) d (granted d (Arrive number name params script)) n there more
+    let more : IsAdmitted (after_granted d (Arrive number name params script)).used n = with_number_contains number n d.used ∙ or_true (eqb number n) _ there in
+    either_used (is_refusal (reply_to d (Arrive number name params script))) d (after_granted d (Arrive number name params script)) n there more
 
 either_name : (b : Bool) (names more : ℕ → List ℕ) (n : ℕ) → more n ≡ names n → (cond b names more) n ≡ names n
 either_name true names more n e = refl
@@ -83,7 +83,7 @@ names_kept d [] names n there = refl
 names_kept d (c ∷ cs) names n there = names_kept (after_call d c) cs (names_after d c names) n (used_after d c n there) ∙ kept_after d c names n there
 
 -- nor do names depend on the switches that were
-reply_behind : (past : List Switch) (d : Domain) (c : Call) → reply_to (behind past d) c ≡ reply_to d c
+reply_behind : (past : List Switch) (d : Domain) (c : Call) → reply_to (with_past past d) c ≡ reply_to d c
 reply_behind past d (Admit number name params delay script) = refl
 reply_behind past d (Regrade number params word) = refl
 reply_behind past d (Wake number) = refl
@@ -93,10 +93,10 @@ reply_behind past d (Limit limit word) = refl
 reply_behind past d (Depart number) = refl
 reply_behind past d (Arrive number name params script) = refl
 
-pub names_behind : (past : List Switch) (d : Domain) (cs : List Call) (names : ℕ → List ℕ) → names_of (behind past d) cs names ≡ names_of d cs names
+pub names_behind : (past : List Switch) (d : Domain) (cs : List Call) (names : ℕ → List ℕ) → names_of (with_past past d) cs names ≡ names_of d cs names
 names_behind past d [] names = refl
 names_behind past d (c ∷ cs) names =
-    ap (λ (r : Reply). names_of (after_call (behind past d) c) cs (cond (is_refusal r) names (named_by c names))) (reply_behind past d c)
+    ap (λ (r : Reply). names_of (after_call (with_past past d) c) cs (cond (is_refusal r) names (named_by c names))) (reply_behind past d c)
     ∙ ap (λ (e : Domain). names_of e cs (names_after d c names)) (after_call_behind past d c)
     ∙ names_behind past (after_call d c) cs (names_after d c names)
 

@@ -9,13 +9,13 @@ use Rattle.task_script.specs.script.ScriptView.{ScriptView}
 use Rattle.domain_run.specs.declared.call.Call.TheVariants.{Admit}
 use Rattle.domain_run.specs.declared.call.Reply.TheVariants.{Admitted}
 use Rattle.domain_run.specs.Domain.{Domain}
-use Rattle.domain_run.specs.Calls.{reply_to, is_refusal, after_call, granted}
+use Rattle.domain_run.specs.Calls.{reply_to, is_refusal, after_call, after_granted}
 use Rattle.domain_run.specs.Tick.{ticks}
 use Rattle.domain_run.specs.Sound.{IsAdmitted}
 use Rattle.domain_run.proofs.CallerLemmas.{with_number_contains}
-use Rattle.switch_text.specs.Names.{Names, named}
+use Rattle.switch_text.specs.Names.{Names, name_of_task}
 use Rattle.calls_trace.specs.Replay.{with_name}
-use Rattle.calls_trace.specs.private.Replaying.{AreNamed}
+use Rattle.calls_trace.specs.private.Replaying.{AdmittedHaveNames}
 use Rattle.calls_trace.specs.private.Recorded.{HaveNames}
 
 -- ticks admit nobody
@@ -43,14 +43,14 @@ one_more_named used number name names is old n h =
       | false ↦ λ e. old n (sym (ap (λ b. b || list_any (λ m. eqb m n) used) (eqb-swap number n ∙ e)) ∙ h)
     ] refl
 
-pub named_step : (d : Domain) (was is : Names) (number : ℕ) (name : List ℕ) (params : ParamsView) (delay : ℕ) (script : ScriptView) → reply_to d (Admit number name params delay script) ≡ Admitted → AreNamed d was → IsName name
-    → ((n : ℕ) → named is n ≡ with_name (named was) number name n) → AreNamed (after_call d (Admit number name params delay script)) is
+pub named_step : (d : Domain) (was is : Names) (number : ℕ) (name : List ℕ) (params : ParamsView) (delay : ℕ) (script : ScriptView) → reply_to d (Admit number name params delay script) ≡ Admitted → AdmittedHaveNames d was → IsName name
+    → ((n : ℕ) → name_of_task is n ≡ with_name (name_of_task was) number name n) → AdmittedHaveNames (after_call d (Admit number name params delay script)) is
 named_step d was is number name params delay script reply old good each n h =
-    let one : after_call d (Admit number name params delay script) ≡ granted d (Admit number name params delay script) = rw reply refl in
+    let one : after_call d (Admit number name params delay script) ≡ after_granted d (Admit number name params delay script) = rw reply refl in
     let h2 : (eqb number n || list_any (λ m. eqb m n) d.used) ≡ true = sym (with_number_contains number n d.used) ∙ subst (λ (x : Domain). IsAdmitted x.used n) one h in
-    let both = one_more_named d.used number name (named was) good (λ m there. let had = old m there in (had.some, had.most)) n h2 in
+    let both = one_more_named d.used number name (name_of_task was) good (λ m there. let had = old m there in (had.some, had.most)) n h2 in
     record { some = rw (each n) both.0; most = rw (each n) both.1 }
 
 pub admit_time : (d : Domain) (number : ℕ) (name : List ℕ) (params : ParamsView) (delay : ℕ) (script : ScriptView) → (after_call d (Admit number name params delay script)).time ≡ d.time
 admit_time d number name params delay script =
-    elim (is_refusal (reply_to d (Admit number name params delay script))) as (λ b. (cond b d (granted d (Admit number name params delay script))).time ≡ d.time) [ true ↦ refl | false ↦ refl ]
+    elim (is_refusal (reply_to d (Admit number name params delay script))) as (λ b. (cond b d (after_granted d (Admit number name params delay script))).time ≡ d.time) [ true ↦ refl | false ↦ refl ]

@@ -6,20 +6,20 @@ use Rattle.domain_run.specs.Switch.{Switch}
 use Rattle.domain_run.specs.declared.call.Call.{Call}
 use Rattle.domain_run.specs.declared.call.Call.TheVariants.{Advance}
 use Rattle.domain_run.specs.Domain.{Domain}
-use Rattle.domain_run.specs.Passing.{behind, without_switches}
+use Rattle.domain_run.specs.Passing.{with_past, without_switches}
 use Rattle.domain_run.specs.Run.{after_calls}
 use Rattle.domain_run.specs.Tick.{ticks}
 use Rattle.domain_run.specs.Sound.{IsAdmitted, IsDomain, IsSwitch}
 use Rattle.domain_run.proofs.CallerLemmas.{after_calls_behind}
-use Rattle.switch_text.specs.Names.{Names, named, HasName, HasLine}
+use Rattle.switch_text.specs.Names.{Names, name_of_task, HasName, HasLine}
 use Rattle.switch_text.specs.Names.{SameNames}
 use Rattle.calls_trace.specs.Replay.{names_of}
-use Rattle.calls_trace.specs.private.Replaying.{AreNamed}
+use Rattle.calls_trace.specs.private.Replaying.{AdmittedHaveNames}
 use Rattle.calls_trace.proofs.Keeping.{names_behind, names_kept, rest_advanced, names_advanced}
 
 -- ---- the switches at hand, and those that are left
 
-restored : (d : Domain) → behind d.switches (without_switches d) ≡ d
+restored : (d : Domain) → with_past d.switches (without_switches d) ≡ d
 restored d = ap (λ (ss : List Switch). record d { switches = ss }) (append-nil d.switches)
 
 -- the calls that are left make the same of a domain that forgot its switches
@@ -55,12 +55,12 @@ end_begun d e c left now cs all none more made =
 
 -- ---- as it is written
 
-some_named : (d : Domain) (names : Names) → AreNamed d names → (o : Option ℕ) → IfSome o (IsAdmitted d.used) → IfSome o (HasName names)
-some_named d names named None h = tt
-some_named d names named (Some n) h = named n h
+some_named : (d : Domain) (names : Names) → AdmittedHaveNames d names → (o : Option ℕ) → IfSome o (IsAdmitted d.used) → IfSome o (HasName names)
+some_named d names name_of_task None h = tt
+some_named d names name_of_task (Some n) h = name_of_task n h
 
 -- each switch of a domain has a line
-pub named_lines : (d : Domain) (names : Names) (base : ℕ) → IsDomain d → AreNamed d names → base + d.cpus ≤ 512 → All (HasLine names base) d.switches
+pub named_lines : (d : Domain) (names : Names) (base : ℕ) → IsDomain d → AdmittedHaveNames d names → base + d.cpus ≤ 512 → All (HasLine names base) d.switches
 named_lines d names base is called inside =
     All-weaker (IsSwitch d.cpus d.time d.used) (HasLine names base) (λ s h. record { time = omega (arith, h.past, is.steady.early); cpu = omega (arith, h.inside, inside); prev = some_named d names called s.prev h.prev; next = some_named d names called s.next h.next }) d.switches is.traced.switches
 

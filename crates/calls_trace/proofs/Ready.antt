@@ -7,10 +7,10 @@ use Rattle.domain_run.specs.Calls.{after_call}
 use Rattle.domain_run.specs.Tick.{ticks}
 use Rattle.domain_run.proofs.CallerLemmas.{ticks_of, call_time, ticks_time}
 use Rattle.calls_text.specs.Limits.{IsCall}
-use Rattle.calls_trace.specs.private.Calls.{IsReady, ticks_given}
+use Rattle.calls_trace.specs.private.Calls.{IsCallReady, ticks_given}
 
 -- a call of a section
-pub call_ready : (c : Call) → IsCall c → IsReady c
+pub call_ready : (c : Call) → IsCall c → IsCallReady c
 call_ready (Admit number name params delay script) h = record { numbered = h.numbered; soon = h.soon; limited = (omega arith, omega arith); short = omega arith }
 call_ready (Regrade number params word) h = record { numbered = (omega arith, omega arith); soon = omega arith; limited = (omega arith, omega arith); short = omega arith }
 call_ready (Wake number) h = record { numbered = (omega arith, omega arith); soon = omega arith; limited = (omega arith, omega arith); short = omega arith }

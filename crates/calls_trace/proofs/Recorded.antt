@@ -13,9 +13,9 @@ use Rattle.domain_run.specs.declared.call.Call.{Call}
 use Rattle.domain_run.specs.declared.call.Call.TheVariants.{Admit, Regrade, Wake, Leave, Advance, Limit, Depart, Arrive}
 use Rattle.domain_run.specs.declared.call.Reply.{Reply}
 use Rattle.domain_run.specs.declared.call.Reply.TheVariants.{Admitted, Full, Twice, Busy}
-use Rattle.domain_run.specs.Domain.{Domain, opened}
+use Rattle.domain_run.specs.Domain.{Domain, empty_domain}
 use Rattle.domain_run.specs.Tick.{sum_of}
-use Rattle.domain_run.specs.Calls.{admit_reply, reply_to, is_refusal, granted, after_call, task_of, word_reply, regrade_reply, wake_reply, leave_reply, limit_reply, depart_reply}
+use Rattle.domain_run.specs.Calls.{admit_reply, reply_to, is_refusal, after_granted, after_call, task_of, word_reply, regrade_reply, wake_reply, leave_reply, limit_reply, depart_reply}
 use Rattle.domain_run.specs.Run.{after_calls, replies_to, run_of}
 use Rattle.domain_run.specs.Sound.{IsAdmitted}
 use Rattle.domain_run.specs.Log.{LogView}
@@ -25,12 +25,12 @@ use Rattle.calls_text.specs.SectionView.{SectionView}
 use Rattle.calls_text.specs.Limits.{IsCall, IsEntry, IsSection}
 use Rattle.calls_text.specs.Histories.{calls_of, IsLegal}
 use Rattle.calls_text.specs.Histories.{AreTold}
-use Rattle.switch_text.specs.Names.{Names, named}
+use Rattle.switch_text.specs.Names.{Names, name_of_task}
 use Rattle.calls_trace.specs.declared.placed_run.PlacedRun.{PlacedRun}
 use Rattle.calls_trace.specs.Replay.{with_name, named_by, names_after, names_of, no_names}
-use Rattle.calls_trace.specs.Told.{names_in, params_in, told_of, no_params, with_params, params_by, params_after, params_of}
-use Rattle.calls_trace.specs.private.Replaying.{Gives, Given, GivesParams, given_in, IsRunOf, IsToldOf, PlacedView, view_of, views_from}
-use Rattle.calls_trace.specs.private.Recorded.{named_where, given_by, given_by_all, HaveNames, params_where, params_given_by, params_given_by_all}
+use Rattle.calls_trace.specs.Told.{names_in, params_in, told_of, no_params, with_params, params_by, params_after, params_by_calls}
+use Rattle.calls_trace.specs.private.Replaying.{MapGives, Given, GivesParams, given_in, IsRunOf, IsToldOf, PlacedView, placed_view_of, views_from}
+use Rattle.calls_trace.specs.private.Recorded.{named_where, names_given_by, given_by_all, HaveNames, params_where, params_given_by, params_given_by_all}
 use Rattle.calls_trace.proofs.Naming.{ticks_used, one_more_named}
 use Rattle.calls_trace.proofs.Written.{runs_more}
 
@@ -74,7 +74,7 @@ given_is d [] names legal = refl
 given_is d (e ∷ entries) names legal =
     let first : e.reply ≡ Some (reply_to d e.call) = cc in
     let others : map (λ x. x.reply) entries ≡ map Some (replies_to (after_call d e.call) (calls_of entries)) = cc in
-    let here : given_by e names ≡ names_after d e.call names = ap (λ (r : Option Reply). named_where r e.call names) first ∙ named_as d e.call names in
+    let here : names_given_by e names ≡ names_after d e.call names = ap (λ (r : Option Reply). named_where r e.call names) first ∙ named_as d e.call names in
     ap (given_by_all entries) here ∙ given_is (after_call d e.call) entries (names_after d e.call names) others
 
 -- ---- and so are the parameters
@@ -117,7 +117,7 @@ params_as d (Depart number) given = same_either (is_refusal (depart_reply (task_
 params_as d (Arrive number name params script) given =
     admit_gives (Arrive number name params script) given (leb 256 (length d.tasks)) (list_any (λ n. eqb n number) d.used) (ltb (cap d.cpus d.limit) (sum_of d.tasks + params.bw)) (sum_of d.tasks) (admit_reply d number params) refl refl refl refl refl
 
-params_are : (d : Domain) (entries : List Entry) (given : ℕ → ParamsView) → map (λ e. e.reply) entries ≡ map Some (replies_to d (calls_of entries)) → params_given_by_all entries given ≡ params_of d (calls_of entries) given
+params_are : (d : Domain) (entries : List Entry) (given : ℕ → ParamsView) → map (λ e. e.reply) entries ≡ map Some (replies_to d (calls_of entries)) → params_given_by_all entries given ≡ params_by_calls d (calls_of entries) given
 params_are d [] given legal = refl
 params_are d (e ∷ entries) given legal =
     let first : e.reply ≡ Some (reply_to d e.call) = cc in
@@ -129,7 +129,7 @@ params_are d (e ∷ entries) given legal =
 pub told_is : (s : SectionView) (given : Given) (log : LogView) (entries : List Entry) → IsLegal s.cpus s.limit s.entries → entries ≡ s.entries → GivesParams given (cond log.wanted (params_given_by_all entries no_params) no_params)
     → (IsTrue log.wanted → log.happened ≡ told_of s) → IsToldOf log.wanted s given log
 told_is s given log entries legal same gives told =
-    let are = ap (λ (es : List Entry). params_given_by_all es no_params) same ∙ params_are (opened s.cpus s.limit) s.entries no_params legal in
+    let are = ap (λ (es : List Entry). params_given_by_all es no_params) same ∙ params_are (empty_domain s.cpus s.limit) s.entries no_params legal in
     record { params = known log.wanted are gives; alike = refl; told = hears log.wanted log.happened (told_of s) told }
   where
     known : (w : Bool) → params_given_by_all entries no_params ≡ params_in s → GivesParams given (cond w (params_given_by_all entries no_params) no_params) → GivesParams given (cond w (params_in s) no_params)
@@ -141,15 +141,15 @@ told_is s given log entries legal same gives told =
     hears false hs ts same = refl
 
 -- the names and the parameters of a history
-pub history_names : {E : Type 0} (s : SectionView) (entries : List Entry) (r : Result Names E) → IsLegal s.cpus s.limit s.entries → entries ≡ s.entries → IfOk r (λ names. Gives names (given_by_all entries no_names)) → IfOk r (λ names. named names ≡ names_in s)
+pub history_names : {E : Type 0} (s : SectionView) (entries : List Entry) (r : Result Names E) → IsLegal s.cpus s.limit s.entries → entries ≡ s.entries → IfOk r (λ names. MapGives names (given_by_all entries no_names)) → IfOk r (λ names. name_of_task names ≡ names_in s)
 history_names s entries r legal same given =
-    let are : given_by_all entries no_names ≡ names_in s = ap (λ (es : List Entry). given_by_all es no_names) same ∙ given_is (opened s.cpus s.limit) s.entries no_names legal in
-    IfOk-weaker r (λ (names : Names). Gives names (given_by_all entries no_names)) (λ (names : Names). named names ≡ names_in s)
-    (λ names gives. let each : (n : ℕ) → named names n ≡ names_in s n = λ n. gives n ∙ ap (λ (f : ℕ → List ℕ). f n) are in λ i n. each n i) given
+    let are : given_by_all entries no_names ≡ names_in s = ap (λ (es : List Entry). given_by_all es no_names) same ∙ given_is (empty_domain s.cpus s.limit) s.entries no_names legal in
+    IfOk-weaker r (λ (names : Names). MapGives names (given_by_all entries no_names)) (λ (names : Names). name_of_task names ≡ names_in s)
+    (λ names gives. let each : (n : ℕ) → name_of_task names n ≡ names_in s n = λ n. gives n ∙ ap (λ (f : ℕ → List ℕ). f n) are in λ i n. each n i) given
 
 pub history_params : {E : Type 0} (s : SectionView) (entries : List Entry) (r : Result Given E) → IsLegal s.cpus s.limit s.entries → entries ≡ s.entries → IfOk r (λ given. GivesParams given (params_given_by_all entries no_params)) → IfOk r (λ given. given_in given ≡ params_in s)
 history_params s entries r legal same given =
-    let are : params_given_by_all entries no_params ≡ params_in s = ap (λ (es : List Entry). params_given_by_all es no_params) same ∙ params_are (opened s.cpus s.limit) s.entries no_params legal in
+    let are : params_given_by_all entries no_params ≡ params_in s = ap (λ (es : List Entry). params_given_by_all es no_params) same ∙ params_are (empty_domain s.cpus s.limit) s.entries no_params legal in
     IfOk-weaker r (λ (given : Given). GivesParams given (params_given_by_all entries no_params)) (λ (given : Given). given_in given ≡ params_in s)
     (λ found gives. let each : (n : ℕ) → given_in found n ≡ params_in s n = λ n. gives n ∙ ap (λ (f : ℕ → ParamsView). f n) are in λ i n. each n i) given
 
@@ -161,16 +161,16 @@ named_either false d then names more old new = new
 
 named_more : (d : Domain) (c : Call) (names : ℕ → List ℕ) → IsCall c → HaveNames d.used names → HaveNames (after_call d c).used (names_after d c names)
 named_more d (Admit number name params delay script) names is old =
-    named_either (is_refusal (admit_reply d number params)) d (granted d (Admit number name params delay script)) names (with_name names number name) old
+    named_either (is_refusal (admit_reply d number params)) d (after_granted d (Admit number name params delay script)) names (with_name names number name) old
     (λ n h. one_more_named d.used number name names is.named old n (sym (with_number_contains number n d.used) ∙ h))
-named_more d (Regrade number params word) names is old = named_either (is_refusal (regrade_reply d params word (task_of d number))) d (granted d (Regrade number params word)) names names old old
-named_more d (Wake number) names is old = named_either (is_refusal (wake_reply (task_of d number))) d (granted d (Wake number)) names names old old
-named_more d (Leave number) names is old = named_either (is_refusal (leave_reply (task_of d number))) d (granted d (Leave number)) names names old old
+named_more d (Regrade number params word) names is old = named_either (is_refusal (regrade_reply d params word (task_of d number))) d (after_granted d (Regrade number params word)) names names old old
+named_more d (Wake number) names is old = named_either (is_refusal (wake_reply (task_of d number))) d (after_granted d (Wake number)) names names old old
+named_more d (Leave number) names is old = named_either (is_refusal (leave_reply (task_of d number))) d (after_granted d (Leave number)) names names old old
 named_more d (Advance k) names is old = λ n h. old n (subst (λ (us : List ℕ). IsAdmitted us n) (ticks_used k d) h)
-named_more d (Limit limit word) names is old = named_either (is_refusal (limit_reply d limit word)) d (granted d (Limit limit word)) names names old old
-named_more d (Depart number) names is old = named_either (is_refusal (depart_reply (task_of d number))) d (granted d (Depart number)) names names old old
+named_more d (Limit limit word) names is old = named_either (is_refusal (limit_reply d limit word)) d (after_granted d (Limit limit word)) names names old old
+named_more d (Depart number) names is old = named_either (is_refusal (depart_reply (task_of d number))) d (after_granted d (Depart number)) names names old old
 named_more d (Arrive number name params script) names is old =
-    named_either (is_refusal (admit_reply d number params)) d (granted d (Arrive number name params script)) names (with_name names number name) old
+    named_either (is_refusal (admit_reply d number params)) d (after_granted d (Arrive number name params script)) names (with_name names number name) old
     (λ n h. one_more_named d.used number name names is.named old n (sym (with_number_contains number n d.used) ∙ h))
 
 pub all_named : (d : Domain) (entries : List Entry) (names : ℕ → List ℕ) → All IsEntry entries → HaveNames d.used names → HaveNames (after_calls d (calls_of entries)).used (names_of d (calls_of entries) names)
@@ -184,12 +184,12 @@ nobody : false ≡ true → ⊥
 nobody e = absurd cc
 
 pub run_is : (s : SectionView) (d : Domain) (names : Names) (entries : List Entry) → IsSection s → IsLegal s.cpus s.limit s.entries → d ≡ run_of s.cpus s.limit (calls_of s.entries) → entries ≡ s.entries
-    → Gives names (given_by_all entries no_names) → IsRunOf s d names
+    → MapGives names (given_by_all entries no_names) → IsRunOf s d names
 run_is s d names entries is legal state same gives =
-    let start = opened s.cpus s.limit in
+    let start = empty_domain s.cpus s.limit in
     let ends : ℕ → List ℕ = names_of start (calls_of s.entries) no_names in
     let are : given_by_all entries no_names ≡ ends = ap (λ (es : List Entry). given_by_all es no_names) same ∙ given_is start s.entries no_names legal in
-    let called : Gives names ends = λ n. gives n ∙ ap (λ (f : ℕ → List ℕ). f n) are in
+    let called : MapGives names ends = λ n. gives n ∙ ap (λ (f : ℕ → List ℕ). f n) are in
     let have = all_named start s.entries no_names is.entries (λ n h. absurd (nobody h)) in
     record {
       domain = state;
@@ -227,14 +227,14 @@ states_left from next left after histories states more d are first place one j s
 -- one run more
 pub placed_more : (wanted : Bool) (histories : List SectionView) (was new : List PlacedRun) (r : PlacedRun) (h : SectionView) (base : ℕ) (all : List PlacedView) → new ≡ was ++ r ∷ [] → h ≡ get_or histories (length was) h → length was < length histories
     → r.base ≡ base → IsRunOf h r.run.state r.run.names → IsToldOf wanted h r.run.given r.run.log
-    → map view_of was ++ views_from wanted base (drop (length was) histories) ≡ all → map view_of new ++ views_from wanted (base + h.cpus) (drop (length new) histories) ≡ all
+    → map placed_view_of was ++ views_from wanted base (drop (length was) histories) ≡ all → map placed_view_of new ++ views_from wanted (base + h.cpus) (drop (length new) histories) ≡ all
 placed_more wanted histories was new r h base all is here inside at is_run is_told so_far =
     let n = length was in
     let long : length new ≡ n + 1 = ap length is ∙ length_push was r in
     let left = drop (n + 1) histories in
     let first : drop n histories ≡ h ∷ left = drop_more histories n h inside ∙ ap (λ (x : SectionView). x ∷ left) (sym here) in
-    ap (λ (k : ℕ). map view_of new ++ views_from wanted (base + h.cpus) (drop k histories)) long
-    ∙ ap (λ (rs : List PlacedRun). map view_of rs ++ views_from wanted (base + h.cpus) left) is
+    ap (λ (k : ℕ). map placed_view_of new ++ views_from wanted (base + h.cpus) (drop k histories)) long
+    ∙ ap (λ (rs : List PlacedRun). map placed_view_of rs ++ views_from wanted (base + h.cpus) left) is
     ∙ runs_more wanted was r h base left (drop n histories) all at is_run is_told first so_far
 
 -- ---- the logs in their places

@@ -9,7 +9,7 @@ use Rattle.calls_text.specs.Spelling.{spelling}
 use Rattle.calls_text.specs.Limits.{IsSection, AreRead}
 use Rattle.calls_text.specs.BadLine.{IsReadFault}
 use Rattle.counted_io.specs.declared.counted.Counted.{Counted}
-use Rattle.counted_io.specs.Sides.{Side, side}
+use Rattle.counted_io.specs.Sides.{Side, side, IsUntouched}
 use Rattle.calls_trace.specs.declared.fault.TraceFault.{TraceFault}
 use Rattle.calls_trace.specs.declared.fault.TraceFault.TheVariants as traces
 use Rattle.run_options.specs.declared.replay_print.ReplayPrint.TheVariants as prints
@@ -18,11 +18,11 @@ use Rattle.calls_trace.specs.declared.run_text.RunText.{RunText}
 use Rattle.calls_trace.specs.declared.run_text.RunText.TheVariants.{Trace}
 use Rattle.calls_trace.specs.Replay.{trace_of_sections}
 use Rattle.calls_trace.specs.Upward.{of_trace, of_calls}
-use Rattle.calls_trace.specs.Written.{IsUntouched, IsUnwritten, IsWritten}
+use Rattle.calls_trace.specs.Written.{IsUnwritten, IsWritten}
 use Rattle.calls_trace.specs.private.ReadRuns.{AreReadRuns}
 use Rattle.calls_trace.specs.private.Replayed.{IsReplayed, IsUnreplayed}
 use Rattle.calls_trace.specs.private.Replaying.{text_of_runs}
-use Rattle.calls_trace.specs.private.RunTexts.{tells, text_of_all}
+use Rattle.calls_trace.specs.private.RunTexts.{is_told_text, text_of_all}
 use Rattle.calls_trace.proofs.Texts.{of_all, text_is}
 
 pub one_section : (s : SectionView) → AreRead (s ∷ []) → IsSection s
@@ -37,7 +37,7 @@ keeps_same (Some bs) = refl
 
 -- a writer that was not called
 pub not_called : {W : Type 0} (known : W → Option (List ℕ)) (w : Counted W) → IsUntouched (side known w w)
-not_called known w = record { kept = keeps_same (known w.port.inner); writes = refl }
+not_called known w = record { kept = keeps_same (known w.port.inner); no_fault = refl }
 
 -- a text that is none that is read, where nothing was written
 pub unread : (text : List ℕ) (wanted : List SectionView → List ℕ) (w : Side) (fault : CallsFault) → IsReadFault text fault → IsUntouched w → IsUnreplayed text wanted w (of_calls fault)
@@ -51,10 +51,10 @@ unwritten text wanted w sections traces.Memory read spelled kept = kept
 
 -- ---- runs that were read off a text
 
-pub runs_replayed : (kind : RunText) (text : List ℕ) (runs placed : List PlacedRun) (w : Side) → (r : AreReadRuns text (tells kind) runs) → placed ≡ runs → IsWritten w (text_of_runs kind placed) → IsReplayed text (text_of_all kind) w
+pub runs_replayed : (kind : RunText) (text : List ℕ) (runs placed : List PlacedRun) (w : Side) → (r : AreReadRuns text (is_told_text kind) runs) → placed ≡ runs → IsWritten w (text_of_runs kind placed) → IsReplayed text (text_of_all kind) w
 runs_replayed kind text runs placed w r same written =
     record { spells = record { sections = r.sections; read = r.read; spelled = r.spelled }; written = subst (IsWritten w) (of_all kind r.sections runs placed same r.views) written }
 
-pub runs_unreplayed : (kind : RunText) (text : List ℕ) (runs placed : List PlacedRun) (w : Side) (fault : TraceFault) → (r : AreReadRuns text (tells kind) runs) → placed ≡ runs → IsUnwritten w (text_of_runs kind placed) fault → IsUnreplayed text (text_of_all kind) w (of_trace fault)
+pub runs_unreplayed : (kind : RunText) (text : List ℕ) (runs placed : List PlacedRun) (w : Side) (fault : TraceFault) → (r : AreReadRuns text (is_told_text kind) runs) → placed ≡ runs → IsUnwritten w (text_of_runs kind placed) fault → IsUnreplayed text (text_of_all kind) w (of_trace fault)
 runs_unreplayed kind text runs placed w fault r same cut =
     unwritten text (text_of_all kind) w r.sections fault r.read r.spelled (subst (λ (t : List ℕ). IsUnwritten w t fault) (of_all kind r.sections runs placed same r.views) cut)

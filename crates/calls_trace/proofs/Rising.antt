@@ -8,20 +8,21 @@ use Rattle.domain_run.specs.declared.task.Task.{Task}
 use Rattle.domain_run.specs.Switch.{Switch}
 use Rattle.domain_run.specs.declared.call.Call.{Call}
 use Rattle.domain_run.specs.declared.call.Call.TheVariants.{Admit, Regrade, Wake, Leave, Advance, Limit, Depart, Arrive}
-use Rattle.domain_run.specs.Domain.{Domain, opened}
-use Rattle.domain_run.specs.Switches.{same_occupant, state_of, switches_from, is_before}
+use Rattle.domain_run.specs.Domain.{Domain, empty_domain}
+use Rattle.edf_pick.specs.Moves.{same_occupant}
+use Rattle.domain_run.specs.Switches.{prev_state_of, switches_from, is_switch_before}
 use Rattle.domain_run.specs.Tick.{prepared, ticked, ticks}
-use Rattle.domain_run.specs.Calls.{reply_to, is_refusal, granted, after_call}
+use Rattle.domain_run.specs.Calls.{reply_to, is_refusal, after_granted, after_call}
 use Rattle.domain_run.specs.Run.{after_calls}
 use Rattle.domain_run.proofs.CallerLemmas.{AllPairs-append, before_time, HasKnown, has_call, has_opened}
 use Rattle.calls_text.specs.SectionView.{SectionView}
 use Rattle.calls_text.specs.Limits.{IsSection}
-use Rattle.calls_trace.specs.Replay.{calls_of}
+use Rattle.calls_trace.specs.Replay.{calls_in_section}
 use Rattle.calls_trace.specs.Told.{domain_of}
 use Rattle.calls_trace.proofs.ToldLines.{section_time}
 
 abbrev Rises : Switch → Switch → Type 0
-Rises a b = IsTrue (is_before a b)
+Rises a b = IsTrue (is_switch_before a b)
 
 -- ---- those of a tick
 
@@ -33,7 +34,7 @@ or_true : (b : Bool) → (b || true) ≡ true
 or_true true = refl
 or_true false = refl
 
-before_same : (a b : Switch) → a.time ≡ b.time → a.cpu < b.cpu → is_before a b ≡ true
+before_same : (a b : Switch) → a.time ≡ b.time → a.cpu < b.cpu → is_switch_before a b ≡ true
 before_same a b e h = rw (eq-eqb a.time b.time e, lt-ltb a.cpu b.cpu h) (or_true (ltb a.time b.time))
 
 tick_from : (time : ℕ) (tasks : List Task) (cpu : ℕ) (before after : List (Option ℕ)) → All (IsFrom time cpu) (switches_from time tasks cpu before after)
@@ -41,7 +42,7 @@ tick_from time tasks cpu [] after = All-nil (IsFrom time cpu)
 tick_from time tasks cpu (p ∷ before) [] = All-nil (IsFrom time cpu)
 tick_from time tasks cpu (p ∷ before) (n ∷ after) =
     let more = switches_from time tasks (cpu + 1) before after in
-    let s : Switch = record { time = time; prev = p; next = n; cpu = cpu; state = state_of tasks p } in
+    let s : Switch = record { time = time; prev = p; next = n; cpu = cpu; state = prev_state_of tasks p } in
     let rest : All (IsFrom time cpu) more = All-weaker (IsFrom time (cpu + 1)) (IsFrom time cpu) (λ x h. (h.0, omega (arith, h.1))) more (tick_from time tasks (cpu + 1) before after) in
     let one : IsFrom time cpu s = (refl, omega arith) in
     elim (same_occupant p n) as (λ b. All (IsFrom time cpu) (cond b more (s ∷ more))) [
@@ -54,7 +55,7 @@ tick_rises time tasks cpu [] after = λ i j d less within. absurd (omega arith)
 tick_rises time tasks cpu (p ∷ before) [] = λ i j d less within. absurd (omega arith)
 tick_rises time tasks cpu (p ∷ before) (n ∷ after) =
     let more = switches_from time tasks (cpu + 1) before after in
-    let s : Switch = record { time = time; prev = p; next = n; cpu = cpu; state = state_of tasks p } in
+    let s : Switch = record { time = time; prev = p; next = n; cpu = cpu; state = prev_state_of tasks p } in
     let rest : AllPairs Rises more = tick_rises time tasks (cpu + 1) before after in
     let first : All (Rises s) more = All-weaker (IsFrom time (cpu + 1)) (Rises s) (λ x h. before_same s x (sym h.0) (omega (arith, h.1))) more (tick_from time tasks (cpu + 1) before after) in
     elim (same_occupant p n) as (λ b. AllPairs Rises (cond b more (s ∷ more))) [
@@ -68,7 +69,7 @@ tick_few time tasks cpu (p ∷ before) [] = omega arith
 tick_few time tasks cpu (p ∷ before) (n ∷ after) =
     let more = switches_from time tasks (cpu + 1) before after in
     let rest : length more ≤ length before = tick_few time tasks (cpu + 1) before after in
-    let s : Switch = record { time = time; prev = p; next = n; cpu = cpu; state = state_of tasks p } in
+    let s : Switch = record { time = time; prev = p; next = n; cpu = cpu; state = prev_state_of tasks p } in
     elim (same_occupant p n) as (λ b. length (cond b more (s ∷ more)) ≤ length (p ∷ before)) [
       | true ↦ omega (arith, rest)
       | false ↦ omega (arith, rest)
@@ -79,7 +80,7 @@ tick_few time tasks cpu (p ∷ before) (n ∷ after) =
 -- before its time, in order, and at most one for each CPU and time
 pub record IsTrace (d : Domain) : Type 0 where
   pub past : All (λ s. s.time < d.time) d.switches
-  pub rising : AllPairs (λ a b. IsTrue (is_before a b)) d.switches
+  pub rising : AllPairs (λ a b. IsTrue (is_switch_before a b)) d.switches
   pub few : length d.switches ≤ d.time * 64
 
 with_tick : (d : Domain) (tasks ran : List Task) (places : List (Option ℕ)) → length d.curr ≤ 64 → IsTrace d
@@ -127,22 +128,22 @@ still false d e time switches cpus has is = record { known = has; most = omega (
 
 call_keeps : (d : Domain) (c : Call) → IsRunning d → IsRunning (after_call d c)
 call_keeps d (Admit number name params delay script) is =
-    let c = Admit number name params delay script in still (is_refusal (reply_to d c)) d (granted d c) refl refl refl (has_call d c is.known) is
+    let c = Admit number name params delay script in still (is_refusal (reply_to d c)) d (after_granted d c) refl refl refl (has_call d c is.known) is
 call_keeps d (Regrade number params word) is =
-    let c = Regrade number params word in still (is_refusal (reply_to d c)) d (granted d c) refl refl refl (has_call d c is.known) is
-call_keeps d (Wake number) is = let c = Wake number in still (is_refusal (reply_to d c)) d (granted d c) refl refl refl (has_call d c is.known) is
-call_keeps d (Leave number) is = let c = Leave number in still (is_refusal (reply_to d c)) d (granted d c) refl refl refl (has_call d c is.known) is
+    let c = Regrade number params word in still (is_refusal (reply_to d c)) d (after_granted d c) refl refl refl (has_call d c is.known) is
+call_keeps d (Wake number) is = let c = Wake number in still (is_refusal (reply_to d c)) d (after_granted d c) refl refl refl (has_call d c is.known) is
+call_keeps d (Leave number) is = let c = Leave number in still (is_refusal (reply_to d c)) d (after_granted d c) refl refl refl (has_call d c is.known) is
 call_keeps d (Advance n) is = ticks_keep n d is.known is.most is.trace
-call_keeps d (Limit limit word) is = let c = Limit limit word in still (is_refusal (reply_to d c)) d (granted d c) refl refl refl (has_call d c is.known) is
-call_keeps d (Depart number) is = let c = Depart number in still (is_refusal (reply_to d c)) d (granted d c) refl refl refl (has_call d c is.known) is
+call_keeps d (Limit limit word) is = let c = Limit limit word in still (is_refusal (reply_to d c)) d (after_granted d c) refl refl refl (has_call d c is.known) is
+call_keeps d (Depart number) is = let c = Depart number in still (is_refusal (reply_to d c)) d (after_granted d c) refl refl refl (has_call d c is.known) is
 call_keeps d (Arrive number name params script) is =
-    let c = Arrive number name params script in still (is_refusal (reply_to d c)) d (granted d c) refl refl refl (has_call d c is.known) is
+    let c = Arrive number name params script in still (is_refusal (reply_to d c)) d (after_granted d c) refl refl refl (has_call d c is.known) is
 
 calls_keep : (d : Domain) (cs : List Call) → IsRunning d → IsRunning (after_calls d cs)
 calls_keep d [] is = is
 calls_keep d (c ∷ cs) is = calls_keep (after_call d c) cs (call_keeps d c is)
 
-opened_runs : (cpus limit : ℕ) → 0 < cpus → cpus ≤ 64 → IsRunning (opened cpus limit)
+opened_runs : (cpus limit : ℕ) → 0 < cpus → cpus ≤ 64 → IsRunning (empty_domain cpus limit)
 opened_runs cpus limit some most = record {
   known = has_opened cpus limit some;
   most = most;
@@ -155,7 +156,7 @@ opened_runs cpus limit some most = record {
 
 -- the run of a section
 pub section_trace : (s : SectionView) → IsSection s → IsTrace (domain_of s)
-section_trace s is = (calls_keep (opened s.cpus s.limit) (calls_of s) (opened_runs s.cpus s.limit is.some_cpus is.most_cpus)).trace
+section_trace s is = (calls_keep (empty_domain s.cpus s.limit) (calls_in_section s) (opened_runs s.cpus s.limit is.some_cpus is.most_cpus)).trace
 
 pub section_few : (s : SectionView) → IsSection s → length (domain_of s).switches ≤ 2 ^ 54
 section_few s is = omega (arith, (section_trace s is).few, section_time s is)

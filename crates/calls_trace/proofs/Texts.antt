@@ -11,7 +11,7 @@ use Rattle.switch_text.specs.declared.run.Run.{Run as Lent}
 use Rattle.switch_text.specs.declared.told.Told.{Told}
 use Rattle.switch_text.specs.Runs as lent
 use Rattle.switch_text.specs.Telling.{told_views}
-use Rattle.switch_text.specs.Trace.{RunView, trace_of}
+use Rattle.switch_text.specs.Trace.{SwitchesView, trace_of}
 use Rattle.switch_text.specs.Events.{ToldView, events_of}
 use Rattle.run_figures.specs.declared.run.Run.{Run}
 use Rattle.run_figures.specs.declared.run.Admitted.{Admitted}
@@ -30,12 +30,12 @@ use Rattle.run_options.specs.declared.replay_print.ReplayPrint.TheVariants as pr
 use Rattle.calls_trace.specs.declared.run_text.RunText.{RunText}
 use Rattle.calls_trace.specs.declared.run_text.RunText.TheVariants.{Trace, Events, Jobs, Summary, Chart}
 use Rattle.calls_trace.specs.Replay.{run_view, runs_from, trace_of_sections}
-use Rattle.calls_trace.specs.Told.{admitted, told_from, jobs_view, summary_view, events_of_sections, jobs_of_sections, summary_of_sections}
+use Rattle.calls_trace.specs.Told.{admitted_with_params, told_from, jobs_view, summary_view, events_of_sections, jobs_of_sections, summary_of_sections}
 use Rattle.calls_trace.specs.Charted.{chart_of_sections}
-use Rattle.calls_trace.specs.Answer.{replayed}
+use Rattle.calls_trace.specs.Answer.{replayed_text}
 use Rattle.run_options.specs.Options.{print_tells}
-use Rattle.calls_trace.specs.private.Replaying.{view_of, view_at, views_from, run_in, told_in, jobs_in, summary_in, text_in, text_of_runs}
-use Rattle.calls_trace.specs.private.RunTexts.{run_text, tells, text_of_all}
+use Rattle.calls_trace.specs.private.Replaying.{placed_view_of, view_at, views_from, placed_run_view, told_in, jobs_in, summary_in, text_in, text_of_runs}
+use Rattle.calls_trace.specs.private.RunTexts.{run_text, is_told_text, text_of_all}
 use Rattle.calls_trace.proofs.Charts.{chart_same}
 
 -- ---- lists, one element more
@@ -65,35 +65,35 @@ items_more {X} {Y} g made y xs i item inside is same so_far =
 
 -- ---- the texts of runs
 
-pub trace_is : (written lent_to : List Lent) (placed : List PlacedRun) → lent_to ≡ written → lent.views written ≡ map (λ p. run_in (view_of p)) placed → trace_of (lent.views lent_to) ≡ text_of_runs Trace placed
+pub trace_is : (written lent_to : List Lent) (placed : List PlacedRun) → lent_to ≡ written → lent.views written ≡ map (λ p. placed_run_view (placed_view_of p)) placed → trace_of (lent.views lent_to) ≡ text_of_runs Trace placed
 unfolding text_of_runs
-trace_is written lent_to placed same views = ap trace_of (ap lent.views same ∙ views ∙ both view_of run_in placed)
+trace_is written lent_to placed same views = ap trace_of (ap lent.views same ∙ views ∙ both placed_view_of placed_run_view placed)
 
-pub events_are : (written lent_to : List Lent) (told told_to : List Told) (placed : List PlacedRun) → lent_to ≡ written → told_to ≡ told → lent.views written ≡ map (λ p. run_in (view_of p)) placed
-    → told_views told ≡ map (λ p. told_in (view_of p)) placed → events_of (lent.views lent_to) (told_views told_to) ≡ text_of_runs Events placed
+pub events_are : (written lent_to : List Lent) (told told_to : List Told) (placed : List PlacedRun) → lent_to ≡ written → told_to ≡ told → lent.views written ≡ map (λ p. placed_run_view (placed_view_of p)) placed
+    → told_views told ≡ map (λ p. told_in (placed_view_of p)) placed → events_of (lent.views lent_to) (told_views told_to) ≡ text_of_runs Events placed
 unfolding text_of_runs
 events_are written lent_to told told_to placed same same_told views told_are =
-    ap (λ (rs : List RunView). events_of rs (told_views told_to)) (ap lent.views same ∙ views ∙ both view_of run_in placed)
-    ∙ ap (events_of (map run_in (map view_of placed))) (ap told_views same_told ∙ told_are ∙ both view_of told_in placed)
+    ap (λ (rs : List SwitchesView). events_of rs (told_views told_to)) (ap lent.views same ∙ views ∙ both placed_view_of placed_run_view placed)
+    ∙ ap (events_of (map placed_run_view (map placed_view_of placed))) (ap told_views same_told ∙ told_are ∙ both placed_view_of told_in placed)
 
-pub jobs_are : {C : Type 0} (placed_in : C → PlacedRun) (counted : List C) (placed : List PlacedRun) (views : List JobsView) → map placed_in counted ≡ placed → views ≡ map (λ c. jobs_in (view_of (placed_in c))) counted → jobs_text views ≡ text_of_runs Jobs placed
+pub jobs_are : {C : Type 0} (placed_in : C → PlacedRun) (counted : List C) (placed : List PlacedRun) (views : List JobsView) → map placed_in counted ≡ placed → views ≡ map (λ c. jobs_in (placed_view_of (placed_in c))) counted → jobs_text views ≡ text_of_runs Jobs placed
 unfolding text_of_runs
 jobs_are placed_in counted placed views same are =
-    ap jobs_text (are ∙ both placed_in (λ p. jobs_in (view_of p)) counted ∙ ap (map (λ p. jobs_in (view_of p))) same ∙ both view_of jobs_in placed)
+    ap jobs_text (are ∙ both placed_in (λ p. jobs_in (placed_view_of p)) counted ∙ ap (map (λ p. jobs_in (placed_view_of p))) same ∙ both placed_view_of jobs_in placed)
 
-pub summary_is : (placed : List PlacedRun) (views : List SummaryView) → views ≡ map (λ p. summary_in (view_of p)) placed → summary_text views ≡ text_of_runs Summary placed
+pub summary_is : (placed : List PlacedRun) (views : List SummaryView) → views ≡ map (λ p. summary_in (placed_view_of p)) placed → summary_text views ≡ text_of_runs Summary placed
 unfolding text_of_runs
-summary_is placed views are = ap summary_text (are ∙ both view_of summary_in placed)
+summary_is placed views are = ap summary_text (are ∙ both placed_view_of summary_in placed)
 
 -- ---- those of sections
 
-pub of_all : (text : RunText) (sections : List SectionView) (runs placed : List PlacedRun) → placed ≡ runs → map view_of runs ≡ views_from (tells text) 0 sections → text_of_runs text placed ≡ text_of_all text sections
+pub of_all : (text : RunText) (sections : List SectionView) (runs placed : List PlacedRun) → placed ≡ runs → map placed_view_of runs ≡ views_from (is_told_text text) 0 sections → text_of_runs text placed ≡ text_of_all text sections
 unfolding text_of_runs text_of_all
-of_all text sections runs placed same views = ap (text_in text) (ap (map view_of) same ∙ views)
+of_all text sections runs placed same views = ap (text_in text) (ap (map placed_view_of) same ∙ views)
 
-runs_are : (wanted : Bool) (base : ℕ) (ss : List SectionView) → map run_in (views_from wanted base ss) ≡ runs_from base ss
+runs_are : (wanted : Bool) (base : ℕ) (ss : List SectionView) → map placed_run_view (views_from wanted base ss) ≡ runs_from base ss
 runs_are wanted base [] = refl
-runs_are wanted base (s ∷ ss) = ap (λ (rs : List RunView). run_view base s ∷ rs) (runs_are wanted (base + s.cpus) ss)
+runs_are wanted base (s ∷ ss) = ap (λ (rs : List SwitchesView). run_view base s ∷ rs) (runs_are wanted (base + s.cpus) ss)
 
 told_are : (base : ℕ) (ss : List SectionView) → map told_in (views_from true base ss) ≡ told_from base ss
 told_are base [] = refl
@@ -107,31 +107,31 @@ all_figures : (base : ℕ) (ss : List SectionView) → map summary_in (views_fro
 all_figures base [] = refl
 all_figures base (s ∷ ss) = ap (λ (fs : List SummaryView). summary_view s ∷ fs) (all_figures (base + s.cpus) ss)
 
-text_are : (text : RunText) (print : ReplayPrint) → run_text print ≡ Some text → (ss : List SectionView) → text_in text (views_from (tells text) 0 ss) ≡ replayed print ss
+text_are : (text : RunText) (print : ReplayPrint) → run_text print ≡ Some text → (ss : List SectionView) → text_in text (views_from (is_told_text text) 0 ss) ≡ replayed_text print ss
 text_are text prints.Trace e ss =
     let is : Trace ≡ text = ap (λ (o : Option RunText). unwrap_or o Trace) e in
-    subst (λ (t : RunText). text_in t (views_from (tells t) 0 ss) ≡ trace_of_sections ss) is (ap trace_of (runs_are false 0 ss))
+    subst (λ (t : RunText). text_in t (views_from (is_told_text t) 0 ss) ≡ trace_of_sections ss) is (ap trace_of (runs_are false 0 ss))
 text_are text prints.Replies e ss = absurd cc
 text_are text prints.Events e ss =
     let is : Events ≡ text = ap (λ (o : Option RunText). unwrap_or o Events) e in
-    subst (λ (t : RunText). text_in t (views_from (tells t) 0 ss) ≡ events_of_sections ss) is
-    (ap (λ (rs : List RunView). events_of rs (map told_in (views_from true 0 ss))) (runs_are true 0 ss) ∙ ap (events_of (runs_from 0 ss)) (told_are 0 ss))
+    subst (λ (t : RunText). text_in t (views_from (is_told_text t) 0 ss) ≡ events_of_sections ss) is
+    (ap (λ (rs : List SwitchesView). events_of rs (map told_in (views_from true 0 ss))) (runs_are true 0 ss) ∙ ap (events_of (runs_from 0 ss)) (told_are 0 ss))
 text_are text prints.Jobs e ss =
     let is : Jobs ≡ text = ap (λ (o : Option RunText). unwrap_or o Jobs) e in
-    subst (λ (t : RunText). text_in t (views_from (tells t) 0 ss) ≡ jobs_of_sections ss) is (ap jobs_text (all_jobs 0 ss))
+    subst (λ (t : RunText). text_in t (views_from (is_told_text t) 0 ss) ≡ jobs_of_sections ss) is (ap jobs_text (all_jobs 0 ss))
 text_are text prints.Summary e ss =
     let is : Summary ≡ text = ap (λ (o : Option RunText). unwrap_or o Summary) e in
-    subst (λ (t : RunText). text_in t (views_from (tells t) 0 ss) ≡ summary_of_sections ss) is (ap summary_text (all_figures 0 ss))
+    subst (λ (t : RunText). text_in t (views_from (is_told_text t) 0 ss) ≡ summary_of_sections ss) is (ap summary_text (all_figures 0 ss))
 text_are text (prints.Chart span) e ss =
     let is : Chart span ≡ text = ap (λ (o : Option RunText). unwrap_or o Trace) e in
-    subst (λ (t : RunText). text_in t (views_from (tells t) 0 ss) ≡ chart_of_sections span ss) is (chart_same span ss)
+    subst (λ (t : RunText). text_in t (views_from (is_told_text t) 0 ss) ≡ chart_of_sections span ss) is (chart_same span ss)
 
 -- what is asked for
-pub text_is : (text : RunText) (print : ReplayPrint) → run_text print ≡ Some text → (ss : List SectionView) → text_of_all text ss ≡ replayed print ss
+pub text_is : (text : RunText) (print : ReplayPrint) → run_text print ≡ Some text → (ss : List SectionView) → text_of_all text ss ≡ replayed_text print ss
 unfolding text_of_all
 text_is text print e ss = text_are text print e ss
 
-pub replies_are : (print : ReplayPrint) → run_text print ≡ None → (ss : List SectionView) → replies_of ss ≡ replayed print ss
+pub replies_are : (print : ReplayPrint) → run_text print ≡ None → (ss : List SectionView) → replies_of ss ≡ replayed_text print ss
 replies_are prints.Trace e ss = absurd cc
 replies_are prints.Replies e ss = refl
 replies_are prints.Events e ss = absurd cc
@@ -139,33 +139,33 @@ replies_are prints.Jobs e ss = absurd cc
 replies_are prints.Summary e ss = absurd cc
 replies_are (prints.Chart span) e ss = absurd cc
 
-pub tells_is : (text : RunText) (print : ReplayPrint) → run_text print ≡ Some text → print_tells print ≡ tells text
-tells_is text prints.Trace e = ap tells (ap (λ (o : Option RunText). unwrap_or o Trace) e)
+pub tells_is : (text : RunText) (print : ReplayPrint) → run_text print ≡ Some text → print_tells print ≡ is_told_text text
+tells_is text prints.Trace e = ap is_told_text (ap (λ (o : Option RunText). unwrap_or o Trace) e)
 tells_is text prints.Replies e = absurd cc
-tells_is text prints.Events e = ap tells (ap (λ (o : Option RunText). unwrap_or o Events) e)
-tells_is text prints.Jobs e = ap tells (ap (λ (o : Option RunText). unwrap_or o Jobs) e)
-tells_is text prints.Summary e = ap tells (ap (λ (o : Option RunText). unwrap_or o Summary) e)
-tells_is text (prints.Chart span) e = ap tells (ap (λ (o : Option RunText). unwrap_or o Trace) e)
+tells_is text prints.Events e = ap is_told_text (ap (λ (o : Option RunText). unwrap_or o Events) e)
+tells_is text prints.Jobs e = ap is_told_text (ap (λ (o : Option RunText). unwrap_or o Jobs) e)
+tells_is text prints.Summary e = ap is_told_text (ap (λ (o : Option RunText). unwrap_or o Summary) e)
+tells_is text (prints.Chart span) e = ap is_told_text (ap (λ (o : Option RunText). unwrap_or o Trace) e)
 
 -- ---- figures
 
-pub tasks_apart : (given : ℕ → ParamsView) (ns : List ℕ) → All (λ n. n < 65536) ns → AllPairs (λ a b. a ≢ b) ns → AreTasks (map (admitted given) ns)
+pub tasks_apart : (given : ℕ → ParamsView) (ns : List ℕ) → All (λ n. n < 65536) ns → AllPairs (λ a b. a ≢ b) ns → AreTasks (map (admitted_with_params given) ns)
 tasks_apart given ns small apart = record {
-  small = All-map (λ t. t.number < 65536) (admitted given) ns small;
+  small = All-map (λ t. t.number < 65536) (admitted_with_params given) ns small;
   apart = λ i j d less within same.
-      let long : length (map (admitted given) ns) ≡ length ns = length-map ns (admitted given) in
-      let second : get_or (map (admitted given) ns) j d ≡ admitted given (get_or ns j 0) = get_or-map (admitted given) ns j 0 d (omega (arith, within, long)) in
-      let first : get_or (map (admitted given) ns) i d ≡ admitted given (get_or ns i 0) = get_or-map (admitted given) ns i 0 d (omega (arith, less, within, long)) in
+      let long : length (map (admitted_with_params given) ns) ≡ length ns = length-map ns (admitted_with_params given) in
+      let second : get_or (map (admitted_with_params given) ns) j d ≡ admitted_with_params given (get_or ns j 0) = get_or-map (admitted_with_params given) ns j 0 d (omega (arith, within, long)) in
+      let first : get_or (map (admitted_with_params given) ns) i d ≡ admitted_with_params given (get_or ns i 0) = get_or-map (admitted_with_params given) ns i 0 d (omega (arith, less, within, long)) in
       apart i j 0 less (omega (arith, within, long)) (sym (ap (λ (t : Admitted). t.number) first) ∙ same ∙ ap (λ (t : Admitted). t.number) second);
 }
 
 -- the jobs of the tasks that were admitted
-pub jobs_is : (given : ℕ → ParamsView) (run : Run) (used : List ℕ) (heard : List Happened) (jobs : List TaskJobsView) → jobs ≡ map (λ t. task_jobs run.happened.now t.number) run.tasks.now → run.tasks.now ≡ map (admitted given) used → run.happened.now ≡ heard
+pub jobs_is : (given : ℕ → ParamsView) (run : Run) (used : List ℕ) (heard : List Happened) (jobs : List TaskJobsView) → jobs ≡ map (λ t. task_jobs run.happened.now t.number) run.tasks.now → run.tasks.now ≡ map (admitted_with_params given) used → run.happened.now ≡ heard
     → jobs ≡ map (task_jobs heard) used
 jobs_is given run used heard jobs are tasks told =
     are ∙ ap (λ (hs : List Happened). map (λ t. task_jobs hs t.number) run.tasks.now) told
     ∙ ap (map (λ t. task_jobs heard t.number)) tasks
-    ∙ sym (both (admitted given) (λ t. task_jobs heard t.number) used)
+    ∙ sym (both (admitted_with_params given) (λ t. task_jobs heard t.number) used)
 
 pub as_many_cpus : (run : counted.RunView) (cpus : List CpuFigures) → cpus ≡ cpu_figures run → length cpus ≡ run.cpus
 as_many_cpus run cpus are = ap length are ∙ length-map-range_with_len (cpu_of run) 0 run.cpus

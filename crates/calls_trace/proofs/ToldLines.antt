@@ -8,10 +8,10 @@ use Rattle.domain_run.specs.declared.happened.What.TheVariants.{JobEnds, NextRel
 use Rattle.domain_run.specs.declared.happened.Happened.{Happened}
 use Rattle.domain_run.specs.declared.call.Call.{Call}
 use Rattle.domain_run.specs.declared.call.Call.TheVariants.{Admit, Regrade, Wake, Leave, Advance, Limit, Depart, Arrive}
-use Rattle.domain_run.specs.Domain.{Domain, opened}
+use Rattle.domain_run.specs.Domain.{Domain, empty_domain}
 use Rattle.domain_run.specs.Calls.{after_call}
 use Rattle.domain_run.specs.Run.{after_calls}
-use Rattle.domain_run.specs.Happened.{rank, is_first}
+use Rattle.domain_run.specs.Happened.{kind_rank, is_first}
 use Rattle.domain_run.proofs.CallerLemmas.{ticks_of, call_time, IsSooner, IsSoonerUnlessCut, IsToldIn, run_tells, run_rises, run_cpus}
 use Rattle.calls_text.specs.declared.section.Entry.{Entry}
 use Rattle.calls_text.specs.SectionView.{SectionView}
@@ -19,9 +19,9 @@ use Rattle.calls_text.specs.Limits.{IsCall, IsEntry, IsSection}
 use Rattle.switch_text.specs.Names.{Names}
 use Rattle.switch_text.specs.ToldLine.{has_line}
 use Rattle.switch_text.specs.Telling.{HasToldLine, is_sooner, is_sooner_unless_cut}
-use Rattle.calls_trace.specs.Replay.{calls_of}
+use Rattle.calls_trace.specs.Replay.{calls_in_section}
 use Rattle.calls_trace.specs.Told.{domain_of, told_of}
-use Rattle.calls_trace.specs.private.Replaying.{AreNamed}
+use Rattle.calls_trace.specs.private.Replaying.{AdmittedHaveNames}
 
 -- ---- until when
 
@@ -46,12 +46,12 @@ time_after d (e ∷ entries) are =
 -- a section ends before 2^42 us
 pub section_time : (s : SectionView) → IsSection s → (domain_of s).time < 2 ^ 42
 section_time s is =
-    let last = time_after (opened s.cpus s.limit) s.entries is.entries in
+    let last = time_after (empty_domain s.cpus s.limit) s.entries is.entries in
     omega (arith, last, is.most_entries)
 
 -- ---- its order
 
-line_no_cut : (w : What) → has_line w ≡ true → rank w ≢ 3
+line_no_cut : (w : What) → has_line w ≡ true → kind_rank w ≢ 3
 line_no_cut JobEnds is e = absurd (omega (arith, e))
 line_no_cut (NextReleased deadline) is e = absurd (omega (arith, e))
 line_no_cut (Spent deadline) is e = absurd (omega (arith, e))
@@ -75,14 +75,14 @@ unless_cut a b is = by_lines (has_line a.what) (has_line b.what) refl refl
 pub told_rises : (s : SectionView) → IsSection s → AllPairs (λ a b. IsTrue (is_sooner_unless_cut a b)) (told_of s)
 told_rises s is i j d less within =
     let hs = told_of s in
-    unless_cut (get_or hs i d) (get_or hs j d) (run_rises s.cpus s.limit (calls_of s) is.some_cpus i j d less within)
+    unless_cut (get_or hs i d) (get_or hs j d) (run_rises s.cpus s.limit (calls_in_section s) is.some_cpus i j d less within)
 
 -- ---- its lines
 
-pub told_lines : (s : SectionView) (base : ℕ) (names : Names) → IsSection s → AreNamed (domain_of s) names → base + s.cpus ≤ 512 → All (HasToldLine names base) (told_of s)
+pub told_lines : (s : SectionView) (base : ℕ) (names : Names) → IsSection s → AdmittedHaveNames (domain_of s) names → base + s.cpus ≤ 512 → All (HasToldLine names base) (told_of s)
 told_lines s base names is named inside =
     let d : Domain = domain_of s in
     let early : d.time < 2 ^ 42 = section_time s is in
-    let cpus : d.cpus ≡ s.cpus = run_cpus s.cpus s.limit (calls_of s) in
+    let cpus : d.cpus ≡ s.cpus = run_cpus s.cpus s.limit (calls_in_section s) in
     All-weaker (IsToldIn d) (HasToldLine names base) (λ h in_it. record { time = omega (arith, in_it.past, early); cpu = omega (arith, in_it.inside, cpus, inside); name = named h.number in_it.admitted })
-    (told_of s) (run_tells s.cpus s.limit (calls_of s) is.some_cpus)
+    (told_of s) (run_tells s.cpus s.limit (calls_in_section s) is.some_cpus)

@@ -80,23 +80,23 @@ pub record IsOutOfMemory (s : Streams) : Type 0 where
   pub writes : HasNoFault s.writer
 
 -- a fault is what was met, where this text was to be written
-abbrev pub IsFaultBy : (List SectionView → List ℕ) → Streams → ReplayFault → Type 0
-IsFaultBy text s (Calls n) = IsRefused s n
-IsFaultBy text s Read = IsUnread s
-IsFaultBy text s (Write written) = IsCutOff text s written
-IsFaultBy text s Memory = IsOutOfMemory s
+abbrev pub IsReplayFaultBy : (List SectionView → List ℕ) → Streams → ReplayFault → Type 0
+IsReplayFaultBy text s (Calls n) = IsRefused s n
+IsReplayFaultBy text s Read = IsUnread s
+IsReplayFaultBy text s (Write written) = IsCutOff text s written
+IsReplayFaultBy text s Memory = IsOutOfMemory s
 
-abbrev pub IsFaultOf : Streams → ReplayFault → Type 0
-IsFaultOf = IsFaultBy trace_of_sections
+abbrev pub IsReplayFault : Streams → ReplayFault → Type 0
+IsReplayFault = IsReplayFaultBy trace_of_sections
 
 -- ---- what is asked for
 
 -- what is written of sections: the trace of their run, their calls with the replies, the trace with
 -- what happens, the jobs or the figures of what happens, or a part of their run as a chart
-abbrev pub replayed : ReplayPrint → List SectionView → List ℕ
-replayed Trace = trace_of_sections
-replayed Replies = replies_of
-replayed Events = events_of_sections
-replayed Jobs = jobs_of_sections
-replayed Summary = summary_of_sections
-replayed (Chart span) = chart_of_sections span
+abbrev pub replayed_text : ReplayPrint → List SectionView → List ℕ
+replayed_text Trace = trace_of_sections
+replayed_text Replies = replies_of
+replayed_text Events = events_of_sections
+replayed_text Jobs = jobs_of_sections
+replayed_text Summary = summary_of_sections
+replayed_text (Chart span) = chart_of_sections span

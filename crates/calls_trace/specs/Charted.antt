@@ -11,20 +11,20 @@ use Rattle.chart.specs.Chart.{chart_text}
 use Rattle.calls_trace.specs.Told.{domain_of, names_in, figures_view}
 
 -- the runs end where the last of them does
-abbrev pub end_of : List SectionView → ℕ
-end_of sections = fold (λ end s. max end (domain_of s).time) 0 sections
+abbrev pub last_time : List SectionView → ℕ
+last_time sections = fold (λ end s. max end (domain_of s).time) 0 sections
 
 -- the CPUs of the machine are those of all domains
-abbrev pub cpus_of : List SectionView → ℕ
-cpus_of sections = sum_by (λ s. s.cpus) sections
+abbrev pub cpus_of_sections : List SectionView → ℕ
+cpus_of_sections sections = sum_by (λ s. s.cpus) sections
 
 -- a row of the chart: the name of its task, and the CPU of the machine that is CPU 0 of its domain
-abbrev pub charted : (ℕ → List ℕ) → ℕ → RowView → ChartRowView
-charted names base row = record { name = names row.number; base = base; row = row }
+abbrev pub chart_row_of : (ℕ → List ℕ) → ℕ → RowView → ChartRowView
+chart_row_of names base row = record { name = names row.number; base = base; row = row }
 
 -- the rows of a section, by task
 abbrev pub rows_at : Window → ℕ → SectionView → List ChartRowView
-rows_at window base s = map (charted (names_in s) base) (rows_of window (figures_view s))
+rows_at window base s = map (chart_row_of (names_in s) base) (rows_of window (figures_view s))
 
 -- the first domain has the first CPUs of the machine, the second the next ones
 abbrev pub rows_from : Window → ℕ → List SectionView → List ChartRowView
@@ -35,7 +35,7 @@ rows_from window base (s ∷ ss) =
 -- CHART of the window that shows what is asked for
 abbrev pub chart_in : Window → List SectionView → List ℕ
 chart_in window sections =
-    chart_text window (cpus_of sections) (rows_from window 0 sections)
+    chart_text window (cpus_of_sections sections) (rows_from window 0 sections)
 
 abbrev pub chart_of_sections : Span → List SectionView → List ℕ
-chart_of_sections span sections = chart_in (window_of span (end_of sections)) sections
+chart_of_sections span sections = chart_in (window_of span (last_time sections)) sections

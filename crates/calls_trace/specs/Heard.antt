@@ -7,8 +7,8 @@ use Rattle.run_figures.specs.Accounting.{AccountingView}
 use Rattle.calls_trace.specs.Told.{domain_of, told_of}
 
 -- an accounting of all that happens in the run of a section, and of all its switches
-abbrev pub heard_of : SectionView → AccountingView
-heard_of s = record {
+abbrev pub section_heard : SectionView → AccountingView
+section_heard s = record {
   cpus = (domain_of s).cpus;
   time = (domain_of s).time;
   tasks = (domain_of s).used;
@@ -17,10 +17,10 @@ heard_of s = record {
 }
 
 -- the accountings have heard the runs of these histories, from their beginning to their end
-abbrev pub AreHeard : List SectionView → List AccountingView → Type 0
-AreHeard histories heard =
+abbrev pub AreAccountings : List SectionView → List AccountingView → Type 0
+AreAccountings histories heard =
     (d : ℕ) (s : SectionView) (x : AccountingView) → d < length histories
-    → slice_index_or heard d x ≡ heard_of (slice_index_or histories d s)
+    → slice_index_or heard d x ≡ section_heard (slice_index_or histories d s)
 
 -- but for their switches, which may be gone, the states are what these histories lead to
 abbrev pub AreRunsButSwitches : List SectionView → List Domain → Type 0

@@ -2,15 +2,15 @@
 use Rattle.std.specs.Prelude.{ℕ, ◌+◌, ◌==◌, if◌then◌else◌, List, [], ◌∷◌, map}
 use Rattle.domain_run.specs.declared.call.Call.{Call}
 use Rattle.domain_run.specs.declared.call.Call.TheVariants.{Admit, Regrade, Wake, Leave, Advance, Limit, Depart, Arrive}
-use Rattle.domain_run.specs.Domain.{Domain, opened}
+use Rattle.domain_run.specs.Domain.{Domain, empty_domain}
 use Rattle.domain_run.specs.Calls.{reply_to, is_refusal, after_call}
 use Rattle.domain_run.specs.Run.{run_of}
 use Rattle.calls_text.specs.SectionView.{SectionView}
-use Rattle.switch_text.specs.Trace.{RunView, trace_of}
+use Rattle.switch_text.specs.Trace.{SwitchesView, trace_of}
 
 -- the calls of a section, whoever made them
-abbrev pub calls_of : SectionView → List Call
-calls_of s = map (λ e. e.call) s.entries
+abbrev pub calls_in_section : SectionView → List Call
+calls_in_section s = map (λ e. e.call) s.entries
 
 -- the name of a number is that of its admission, or of its arrival; a refused call names nobody
 abbrev pub with_name : (ℕ → List ℕ) → ℕ → List ℕ → (ℕ → List ℕ)
@@ -38,15 +38,15 @@ abbrev pub no_names : ℕ → List ℕ
 no_names n = []
 
 -- the run of a section, whose domain's CPU 0 is this CPU of the machine
-abbrev pub run_view : ℕ → SectionView → RunView
+abbrev pub run_view : ℕ → SectionView → SwitchesView
 run_view base s = record {
   base = base;
-  names = names_of (opened s.cpus s.limit) (calls_of s) no_names;
-  switches = (run_of s.cpus s.limit (calls_of s)).switches;
+  names = names_of (empty_domain s.cpus s.limit) (calls_in_section s) no_names;
+  switches = (run_of s.cpus s.limit (calls_in_section s)).switches;
 }
 
 -- the first domain has the first CPUs of the machine, the second the next ones, and so on
-abbrev pub runs_from : ℕ → List SectionView → List RunView
+abbrev pub runs_from : ℕ → List SectionView → List SwitchesView
 runs_from base [] = []
 runs_from base (s ∷ ss) = run_view base s ∷ runs_from (base + s.cpus) ss
 

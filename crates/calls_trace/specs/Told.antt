@@ -5,7 +5,7 @@ use Rattle.attr_check.specs.Ratio.{cap}
 use Rattle.domain_run.specs.declared.call.Call.{Call}
 use Rattle.domain_run.specs.declared.call.Call.TheVariants.{Admit, Regrade, Arrive}
 use Rattle.domain_run.specs.declared.happened.Happened.{Happened}
-use Rattle.domain_run.specs.Domain.{Domain, opened}
+use Rattle.domain_run.specs.Domain.{Domain, empty_domain}
 use Rattle.domain_run.specs.Tick.{sum_of}
 use Rattle.domain_run.specs.Calls.{reply_to, is_refusal, after_call}
 use Rattle.domain_run.specs.Happened.{told_by_calls}
@@ -18,19 +18,19 @@ use Rattle.run_figures.specs.Jobs.{task_jobs}
 use Rattle.run_figures.specs.Figures.{task_figures, cpu_figures}
 use Rattle.figure_text.specs.Jobs.{JobsView, jobs_text}
 use Rattle.figure_text.specs.Summary.{SummaryView, summary_text}
-use Rattle.calls_trace.specs.Replay.{calls_of, names_of, no_names, runs_from}
+use Rattle.calls_trace.specs.Replay.{calls_in_section, names_of, no_names, runs_from}
 
 -- the domain that a section's calls lead to
 abbrev pub domain_of : SectionView → Domain
-domain_of s = run_of s.cpus s.limit (calls_of s)
+domain_of s = run_of s.cpus s.limit (calls_in_section s)
 
 -- the names that they give
 abbrev pub names_in : SectionView → (ℕ → List ℕ)
-names_in s = names_of (opened s.cpus s.limit) (calls_of s) no_names
+names_in s = names_of (empty_domain s.cpus s.limit) (calls_in_section s) no_names
 
 -- what happens in it
 abbrev pub told_of : SectionView → List Happened
-told_of s = told_by_calls (opened s.cpus s.limit) (calls_of s)
+told_of s = told_by_calls (empty_domain s.cpus s.limit) (calls_in_section s)
 
 -- ---- EVENTS: the first domain has the first CPUs of the machine, the second the next ones
 abbrev pub told_from : ℕ → List SectionView → List ToldView
@@ -68,22 +68,23 @@ params_by _ given = given
 abbrev pub params_after : Domain → Call → (ℕ → ParamsView) → (ℕ → ParamsView)
 params_after d c given = if is_refusal (reply_to d c) then given else params_by c given
 
-abbrev pub params_of : Domain → List Call → (ℕ → ParamsView) → (ℕ → ParamsView)
-params_of d [] given = given
-params_of d (c ∷ cs) given = params_of (after_call d c) cs (params_after d c given)
+abbrev pub params_by_calls : Domain → List Call → (ℕ → ParamsView) → (ℕ → ParamsView)
+params_by_calls d [] given = given
+params_by_calls d (c ∷ cs) given = params_by_calls (after_call d c) cs (params_after d c given)
 
 abbrev pub params_in : SectionView → (ℕ → ParamsView)
-params_in s = params_of (opened s.cpus s.limit) (calls_of s) no_params
+params_in s = params_by_calls (empty_domain s.cpus s.limit) (calls_in_section s) no_params
 
-abbrev pub admitted : (ℕ → ParamsView) → ℕ → Admitted
-admitted given n = record { number = n; runtime = (given n).runtime; period = (given n).period }
+abbrev pub admitted_with_params : (ℕ → ParamsView) → ℕ → Admitted
+admitted_with_params given n =
+    record { number = n; runtime = (given n).runtime; period = (given n).period }
 
 -- the run, as figures are made of it
 abbrev pub figures_view : SectionView → RunView
 figures_view s = record {
   cpus = (domain_of s).cpus;
   time = (domain_of s).time;
-  tasks = map (admitted (params_in s)) (domain_of s).used;
+  tasks = map (admitted_with_params (params_in s)) (domain_of s).used;
   happened = told_of s;
   switches = (domain_of s).switches;
 }

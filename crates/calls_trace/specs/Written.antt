@@ -1,7 +1,7 @@
 -- What a writer took of a text.
 use Rattle.std.specs.Prelude.{ℕ, List}
-use Rattle.std.specs.Io.KnownBytes.{Appends, Keeps}
-use Rattle.counted_io.specs.Sides.{Side, HasNoFault, HasOneFault}
+use Rattle.std.specs.Io.KnownBytes.{Appends}
+use Rattle.counted_io.specs.Sides.{Side, HasNoFault, HasOneFault, IsUntouched}
 use Rattle.counted_io.specs.Faults.{TakesFront}
 use Rattle.calls_trace.specs.declared.fault.TraceFault.{TraceFault}
 use Rattle.calls_trace.specs.declared.fault.TraceFault.TheVariants.{Write, Memory}
@@ -15,11 +15,6 @@ pub record IsWritten (writer : Side) (text : List ℕ) : Type 0 where
 pub record IsCut (writer : Side) (text : List ℕ) (written : ℕ) : Type 0 where
   pub taken : TakesFront writer.before.bytes writer.after.bytes text written
   pub writes : HasOneFault writer
-
--- nothing was written, and no write failed
-pub record IsUntouched (writer : Side) : Type 0 where
-  pub kept : Keeps writer.before.bytes writer.after.bytes
-  pub writes : HasNoFault writer
 
 -- why a text was not written: the writer failed, or memory was refused before the first byte
 abbrev pub IsUnwritten : Side → List ℕ → TraceFault → Type 0

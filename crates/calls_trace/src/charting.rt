@@ -2,7 +2,7 @@
 
 ghost use Rattle.std.specs.Prelude.{◌≡◌, ◌+◌, ◌<◌, ◌≤◌, ◌^◌, ◌++◌, All, IfOk, IfErr, OnOk, length, map, flat_map, fold, max, sum_by};
 ghost use Rattle.counted_io.specs.Sides.{faults_of, side};
-ghost use Rattle.switch_text.specs.Names.{named};
+ghost use Rattle.switch_text.specs.Names.{name_of_task};
 ghost use Rattle.chart_pieces.specs.declared.window.Window.{Window as WindowView};
 ghost use Rattle.chart_pieces.specs.Window.{IsWindow};
 ghost use Rattle.chart_pieces.specs.Laws.{AreSeen};
@@ -10,9 +10,9 @@ ghost use Rattle.chart_pieces.specs.Rows as pieces;
 ghost use Rattle.chart.specs.Rows as charts;
 ghost use Rattle.chart.specs.Chart as whole;
 ghost use Rattle.calls_trace.specs.Written.{IsWritten, IsUnwritten};
-ghost use Rattle.calls_trace.specs.Charted.{charted};
+ghost use Rattle.calls_trace.specs.Charted.{chart_row_of};
 ghost use Rattle.calls_trace.specs.declared.run_text.RunText.TheVariants as texts;
-ghost use Rattle.calls_trace.specs.private.Replaying.{view_of, figures_in, rows_in, text_of_runs};
+ghost use Rattle.calls_trace.specs.private.Replaying.{placed_view_of, figures_in, rows_in, text_of_runs};
 
 use crate::fault::TraceFault;
 use crate::figures::{as_counted, tasks_of, write_whole};
@@ -60,7 +60,7 @@ struct DrawnRun<'a> {
     placed: &'a PlacedRun,
     window: Window,
     rows: Vec<Row>,
-    ghost drawn: { rows.items ≡ pieces.rows_of window (figures_in (view_of placed.now)) },
+    ghost drawn: { rows.items ≡ pieces.rows_of window (figures_in (placed_view_of placed.now)) },
     ghost seen: { All (AreSeen window) rows.items },
     ghost few: { length rows.items ≤ 65536 },
 }
@@ -96,7 +96,7 @@ fn all_drawn(
 
 /// The name of a number; empty where it has none.
 fn name_of(names: &IndexMap<u32, String>, number: u32) -> &[u8]
-    ensures { result.now ≡ named names.now number }
+    ensures { result.now ≡ name_of_task names.now number }
 {
     match names.get(&number) {
         Some(name) => name.as_bytes(),
@@ -106,8 +106,9 @@ fn name_of(names: &IndexMap<u32, String>, number: u32) -> &[u8]
 
 /// A row as it is charted.
 fn as_charted<'a>(drawn: &'a DrawnRun<'_>, row: &'a Row) -> ChartRow<'a>
-    ensures { charts.view_of result
-        ≡ charted (named drawn.now.placed.now.run.names) drawn.now.placed.now.base row.now }
+    ensures { charts.chart_row_view_of result
+        ≡ chart_row_of (name_of_task drawn.now.placed.now.run.names) drawn.now.placed.now.base
+        row.now }
 {
     ChartRow {
         name: name_of(&drawn.placed.run.names, row.number),
@@ -118,8 +119,10 @@ fn as_charted<'a>(drawn: &'a DrawnRun<'_>, row: &'a Row) -> ChartRow<'a>
 
 /// Puts the rows of a run behind those of the runs before it.
 fn push_rows<'a>(all: &mut Vec<ChartRow<'a>>, drawn: &'a DrawnRun<'_>) -> Result<(), NoMemory>
-    ensures rows { OnOk result (map charts.view_of all.new.items ≡ map charts.view_of all.old.items
-        ++ rows_in drawn.now.window (view_of drawn.now.placed.now)) }
+    ensures rows { OnOk result
+        (map charts.chart_row_view_of all.new.items
+        ≡ map charts.chart_row_view_of all.old.items
+        ++ rows_in drawn.now.window (placed_view_of drawn.now.placed.now)) }
     ensures drawn { All (charts.IsDrawn drawn.now.window) all.old.items
         → OnOk result (All (charts.IsDrawn drawn.now.window) all.new.items) }
     ensures few { OnOk result (length all.new.items ≤ length all.old.items + 65536) }
@@ -134,8 +137,8 @@ fn push_rows<'a>(all: &mut Vec<ChartRow<'a>>, drawn: &'a DrawnRun<'_>) -> Result
 /// The rows of all runs, by domain, by task.
 fn all_rows<'a>(alloc: Global, drawn: &'a [DrawnRun<'_>]) -> Result<Vec<ChartRow<'a>>, NoMemory>
     requires few { length drawn.now ≤ 8 }
-    ensures rows { IfOk result (λ v. map charts.view_of v.items
-        ≡ flat_map (λ d. rows_in d.window (view_of d.placed.now)) drawn.now) }
+    ensures rows { IfOk result (λ v. map charts.chart_row_view_of v.items
+        ≡ flat_map (λ d. rows_in d.window (placed_view_of d.placed.now)) drawn.now) }
     ensures drawn { (w : WindowView) → All (λ d. d.window ≡ w) drawn.now
         → IfOk result (λ v. All (charts.IsDrawn w) v.items) }
     ensures few { IfOk result (λ v. length v.items ≤ 2 ^ 20) }
@@ -161,7 +164,7 @@ fn drawn_text(
     requires sound { IsWindow window }
     requires window { All (λ d. d.window ≡ window) drawn.now }
     ensures { IfOk result (λ v. v.items ≡ whole.chart_text window cpus
-        (flat_map (λ d. rows_in d.window (view_of d.placed.now)) drawn.now)) }
+        (flat_map (λ d. rows_in d.window (placed_view_of d.placed.now)) drawn.now)) }
 {
     let rows = all_rows(alloc, drawn)?;
     let mut text = Draft::new(alloc);

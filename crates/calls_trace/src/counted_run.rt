@@ -22,8 +22,8 @@ pub(crate) struct CountedRun<'a> {
 
 impl<'a> CountedRun<'a> {
     ghost use Rattle.figure_text.specs.Summary as summaries;
-    ghost use Rattle.switch_text.specs.Names.{named};
-    ghost use Rattle.calls_trace.specs.private.Counting.{counted_as, figured};
+    ghost use Rattle.switch_text.specs.Names.{name_of_task};
+    ghost use Rattle.calls_trace.specs.private.Counting.{counted_as, summary_of_domain};
 
     /// Of a run that led to this state. Nobody looks at the state's switches.
     pub(crate) fn of(
@@ -34,7 +34,8 @@ impl<'a> CountedRun<'a> {
         requires short { AreShort summary.tasks.items summary.cpus.items }
         requires cpus { length summary.cpus.items ≡ state.now.cpus }
         ensures { counted_as result
-            ≡ figured (named names.now) state.now summary.tasks.items summary.cpus.items }
+            ≡ summary_of_domain (name_of_task names.now) state.now summary.tasks.items
+            summary.cpus.items }
     {
         CountedRun {
             names,
@@ -47,8 +48,8 @@ impl<'a> CountedRun<'a> {
 
     /// As it is written.
     pub(crate) fn as_summary(&self) -> DomainSummary<'_>
-        ensures view { summaries.view_of result ≡ counted_as self.now }
-        ensures short { summaries.IsShort result }
+        ensures view { summaries.summary_view_of result ≡ counted_as self.now }
+        ensures short { summaries.IsShortSummary result }
         ensures machine { summaries.IsOfMachine result }
     {
         DomainSummary {

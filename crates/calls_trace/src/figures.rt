@@ -5,10 +5,10 @@ ghost use Rattle.counted_io.specs.Sides.{faults_of, side};
 ghost use Rattle.run_figures.specs.Runs as counted;
 ghost use Rattle.figure_text.specs.Jobs as jobs;
 ghost use Rattle.figure_text.specs.Summary as summaries;
-ghost use Rattle.calls_trace.specs.Told.{admitted};
+ghost use Rattle.calls_trace.specs.Told.{admitted_with_params};
 ghost use Rattle.calls_trace.specs.Written.{IsWritten, IsUnwritten};
 ghost use Rattle.calls_trace.specs.declared.run_text.RunText.TheVariants as texts;
-ghost use Rattle.calls_trace.specs.private.Replaying.{view_of, given_in, figures_in, jobs_in, summary_in, text_of_runs};
+ghost use Rattle.calls_trace.specs.private.Replaying.{placed_view_of, given_in, figures_in, jobs_in, summary_in, text_of_runs};
 ghost use Rattle.calls_trace.specs.private.Counting.{counted_as};
 
 use crate::counted_run::CountedRun;
@@ -27,7 +27,7 @@ use switch_text::{Counted, write_text};
 
 /// A task that was admitted, with the parameters that are known of it.
 fn admitted_as(given: &IndexMap<u32, Params>, number: u32) -> Admitted
-    ensures { result ≡ admitted (given_in given.now) number }
+    ensures { result ≡ admitted_with_params (given_in given.now) number }
 {
     match given.get(&number) {
         Some(params) => Admitted {
@@ -50,7 +50,7 @@ pub(crate) fn tasks_of(
     given: &IndexMap<u32, Params>,
 ) -> Result<Vec<Admitted>, NoMemory>
     ensures tasks { IfOk result (λ v. v.items
-        ≡ map (admitted (given_in given.now)) state.now.used) }
+        ≡ map (admitted_with_params (given_in given.now)) state.now.used) }
     ensures apart { IfOk result (λ v. counted.AreTasks v.items) }
 {
     let numbers = state.numbers(alloc)?;
@@ -64,10 +64,10 @@ pub(crate) fn tasks_of(
 /// A run, as figures are made of it.
 pub(crate) fn as_counted<'a>(placed: &'a PlacedRun, tasks: &'a [Admitted]) -> Run<'a>
     requires tasks { tasks.now
-        ≡ map (admitted (given_in placed.now.run.given)) placed.now.run.state.used }
+        ≡ map (admitted_with_params (given_in placed.now.run.given)) placed.now.run.state.used }
     requires apart { counted.AreTasks tasks.now }
-    ensures view { counted.view_of result ≡ figures_in (view_of placed.now) }
-    ensures run { counted.IsRun (counted.view_of result) }
+    ensures view { counted.run_view_of result ≡ figures_in (placed_view_of placed.now) }
+    ensures run { counted.IsBoundedRun (counted.run_view_of result) }
 {
     Run {
         cpus: placed.run.state.cpus(),
@@ -85,7 +85,7 @@ pub(crate) fn as_counted<'a>(placed: &'a PlacedRun, tasks: &'a [Admitted]) -> Ru
 struct CountedJobs<'a> {
     placed: &'a PlacedRun,
     jobs: Vec<TaskJobs>,
-    ghost are: { jobs.items ≡ (jobs_in (view_of placed.now)).tasks },
+    ghost are: { jobs.items ≡ (jobs_in (placed_view_of placed.now)).tasks },
 }
 
 fn count_jobs(alloc: Global, placed: &PlacedRun) -> Result<CountedJobs<'_>, NoMemory>
@@ -108,7 +108,7 @@ fn all_jobs(alloc: Global, placed: &[PlacedRun]) -> Result<Vec<CountedJobs<'_>>,
 }
 
 fn as_jobs<'a>(counted: &'a CountedJobs<'_>) -> DomainJobs<'a>
-    ensures { jobs.view_of result ≡ jobs_in (view_of counted.now.placed.now) }
+    ensures { jobs.jobs_view_of result ≡ jobs_in (placed_view_of counted.now.placed.now) }
 {
     DomainJobs {
         names: &counted.placed.run.names,
@@ -121,8 +121,8 @@ fn all_as_jobs<'a>(
     alloc: Global,
     counted: &'a [CountedJobs<'_>],
 ) -> Result<Vec<DomainJobs<'a>>, NoMemory>
-    ensures { IfOk result (λ v. map jobs.view_of v.items
-        ≡ map (λ c. jobs_in (view_of c.placed.now)) counted.now) }
+    ensures { IfOk result (λ v. map jobs.jobs_view_of v.items
+        ≡ map (λ c. jobs_in (placed_view_of c.placed.now)) counted.now) }
 {
     let mut written = Vec::with_capacity(alloc, counted.len())?;
     for one in counted {
@@ -134,7 +134,7 @@ fn all_as_jobs<'a>(
 /// The text of jobs.
 fn counted_text(alloc: Global, counted: &[CountedJobs<'_>]) -> Result<Vec<u8>, NoMemory>
     ensures { IfOk result (λ v. v.items
-        ≡ jobs.jobs_text (map (λ c. jobs_in (view_of c.placed.now)) counted.now)) }
+        ≡ jobs.jobs_text (map (λ c. jobs_in (placed_view_of c.placed.now)) counted.now)) }
 {
     let domains = all_as_jobs(alloc, counted)?;
     let mut text = Draft::new(alloc);
@@ -153,7 +153,7 @@ fn jobs_text(alloc: Global, placed: &[PlacedRun]) -> Result<Vec<u8>, NoMemory>
 // ---- the summary
 
 fn count_run(alloc: Global, placed: &PlacedRun) -> Result<CountedRun<'_>, NoMemory>
-    ensures { IfOk result (λ c. counted_as c ≡ summary_in (view_of placed.now)) }
+    ensures { IfOk result (λ c. counted_as c ≡ summary_in (placed_view_of placed.now)) }
 {
     let run = &placed.run;
     let tasks = tasks_of(alloc, &run.state, &run.given)?;
@@ -164,7 +164,7 @@ fn count_run(alloc: Global, placed: &PlacedRun) -> Result<CountedRun<'_>, NoMemo
 /// The figures of each run.
 fn all_counted(alloc: Global, placed: &[PlacedRun]) -> Result<Vec<CountedRun<'_>>, NoMemory>
     ensures { IfOk result (λ v. map counted_as v.items
-        ≡ map (λ p. summary_in (view_of p)) placed.now) }
+        ≡ map (λ p. summary_in (placed_view_of p)) placed.now) }
 {
     let mut all = Vec::with_capacity(alloc, placed.len())?;
     for run in placed {
@@ -178,8 +178,9 @@ fn all_as_summaries<'a>(
     alloc: Global,
     counted: &'a [CountedRun<'_>],
 ) -> Result<Vec<DomainSummary<'a>>, NoMemory>
-    ensures views { IfOk result (λ v. map summaries.view_of v.items ≡ map counted_as counted.now) }
-    ensures short { IfOk result (λ v. All summaries.IsShort v.items) }
+    ensures views { IfOk result
+        (λ v. map summaries.summary_view_of v.items ≡ map counted_as counted.now) }
+    ensures short { IfOk result (λ v. All summaries.IsShortSummary v.items) }
     ensures machine { IfOk result (λ v. All summaries.IsOfMachine v.items) }
     ensures count { IfOk result (λ v. length v.items ≡ length counted.now) }
 {

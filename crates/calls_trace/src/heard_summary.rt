@@ -5,10 +5,10 @@ ghost use Rattle.domain_run.specs.Passing.{without_switches};
 ghost use Rattle.counted_io.specs.Sides.{faults_of, side};
 ghost use Rattle.calls_text.specs.Histories.{IsLegal};
 ghost use Rattle.calls_text.specs.Histories.{AreLegal};
-ghost use Rattle.switch_text.specs.Names.{named};
+ghost use Rattle.switch_text.specs.Names.{name_of_task};
 ghost use Rattle.run_figures.specs.Runs as counted;
-ghost use Rattle.calls_trace.specs.Told.{admitted, domain_of, names_in, params_in, summary_view, summary_of_sections};
-ghost use Rattle.calls_trace.specs.Heard.{AreHeard, AreRunsButSwitches, heard_of};
+ghost use Rattle.calls_trace.specs.Told.{admitted_with_params, domain_of, names_in, params_in, summary_view, summary_of_sections};
+ghost use Rattle.calls_trace.specs.Heard.{AreAccountings, AreRunsButSwitches, section_heard};
 ghost use Rattle.calls_trace.specs.Written.{IsWritten, IsUnwritten};
 ghost use Rattle.calls_trace.specs.private.Counting.{counted_as};
 
@@ -27,7 +27,7 @@ use switch_text::Counted;
 /// The names of each history.
 fn all_names(alloc: Global, histories: &[Section]) -> Result<Vec<IndexMap<u32, String>>, NoMemory>
     requires { AreLegal histories.now }
-    ensures { IfOk result (λ v. map named v.items ≡ map names_in histories.now) }
+    ensures { IfOk result (λ v. map name_of_task v.items ≡ map names_in histories.now) }
 {
     let mut all = Vec::with_capacity(alloc, histories.len())?;
     for history in histories {
@@ -40,7 +40,7 @@ fn all_names(alloc: Global, histories: &[Section]) -> Result<Vec<IndexMap<u32, S
 fn tasks_heard(alloc: Global, history: &Section, state: &State) -> Result<Vec<Admitted>, NoMemory>
     requires { IsLegal history.now.cpus history.now.limit history.now.entries }
     ensures tasks { IfOk result (λ v. v.items
-        ≡ map (admitted (params_in history.now)) state.now.used) }
+        ≡ map (admitted_with_params (params_in history.now)) state.now.used) }
     ensures apart { IfOk result (λ v. counted.AreTasks v.items) }
 {
     let given = params_of(alloc, history)?;
@@ -56,9 +56,9 @@ fn count_heard<'a>(
     heard: &Accounting,
 ) -> Result<CountedRun<'a>, NoMemory>
     requires legal { IsLegal history.now.cpus history.now.limit history.now.entries }
-    requires names { named names.now ≡ names_in history.now }
+    requires names { name_of_task names.now ≡ names_in history.now }
     requires state { without_switches state.now ≡ without_switches (domain_of history.now) }
-    requires heard { heard.now ≡ heard_of history.now }
+    requires heard { heard.now ≡ section_heard history.now }
     ensures { IfOk result (λ c. counted_as c ≡ summary_view history.now) }
 {
     let tasks = tasks_heard(alloc, history, state)?;
@@ -75,11 +75,11 @@ fn all_heard<'a>(
     heard: &[Accounting],
 ) -> Result<Vec<CountedRun<'a>>, NoMemory>
     requires legal { AreLegal histories.now }
-    requires names { map named names.now ≡ map names_in histories.now }
+    requires names { map name_of_task names.now ≡ map names_in histories.now }
     requires count { length states.now ≡ length histories.now }
     requires as_many { length heard.now ≡ length histories.now }
     requires runs { AreRunsButSwitches histories.now states.now }
-    requires heard { AreHeard histories.now heard.now }
+    requires heard { AreAccountings histories.now heard.now }
     ensures { IfOk result (λ v. map counted_as v.items ≡ map summary_view histories.now) }
 {
     let mut all = Vec::with_capacity(alloc, histories.len())?;
@@ -102,7 +102,7 @@ fn heard_text(
     requires count { length states.now ≡ length histories.now }
     requires as_many { length heard.now ≡ length histories.now }
     requires runs { AreRunsButSwitches histories.now states.now }
-    requires heard { AreHeard histories.now heard.now }
+    requires heard { AreAccountings histories.now heard.now }
     ensures { IfOk result (λ v. v.items ≡ summary_of_sections histories.now) }
 {
     let names = all_names(alloc, histories)?;
@@ -132,7 +132,7 @@ pub fn write_heard_summary<W: Write>(
     requires as_many { length heard.now ≡ length histories.now }
     requires legal { AreLegal histories.now }
     requires runs { AreRunsButSwitches histories.now states.now }
-    requires heard { AreHeard histories.now heard.now }
+    requires heard { AreAccountings histories.now heard.now }
     requires faults { faults_of writer.old < 2 ^ 63 }
     ensures ok { OnOk result (IsWritten (side W.contents writer.old writer.new)
         (summary_of_sections histories.now)) }

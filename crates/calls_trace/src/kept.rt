@@ -45,11 +45,11 @@ pub(crate) struct KeptCalls {
 impl Model for KeptCalls {
     ghost use Rattle.std.specs.Prelude.{◌≡◌, List, length, sum_by};
     ghost use Rattle.domain_run.specs.declared.call.Call.{Call};
-    ghost use Rattle.calls_trace.specs.private.LittleRoom.{calls_in, is_long};
+    ghost use Rattle.calls_trace.specs.private.LittleRoom.{calls_of_orders, is_long};
 
     ghost Value = { List Call };
 
-    ghost view = { λ k. calls_in k.order.items k.long.items };
+    ghost view = { λ k. calls_of_orders k.order.items k.long.items };
 
     ghost invariant = { λ k. sum_by is_long k.order.items ≡ length k.long.items };
 }
@@ -69,9 +69,9 @@ fn make_room(order: &mut Vec<Place>, long: &mut Vec<Spelled>) -> Result<(), NoMe
 impl KeptCalls {
     ghost use Rattle.std.specs.Prelude.{◌≡◌, [], ◌∷◌, ◌++◌, ◌≤◌, OnOk, sum_by};
     ghost use Rattle.calls_text.specs.Limits.{IsCall};
-    ghost use Rattle.calls_text.specs.KeptCall.{call_of};
+    ghost use Rattle.calls_text.specs.KeptCall.{call_kept};
     ghost use Rattle.calls_trace.specs.private.Kept.{room_of};
-    ghost use Rattle.calls_trace.specs.private.LittleRoom.{calls_in, is_long};
+    ghost use Rattle.calls_trace.specs.private.LittleRoom.{calls_of_orders, is_long};
 
     /// No call yet.
     pub(crate) fn new(alloc: Global) -> KeptCalls
@@ -86,7 +86,7 @@ impl KeptCalls {
     /// One short call more.
     fn push_short(&mut self, place: Place) -> Result<(), NoMemory>
         requires { is_long place ≡ 0 }
-        ensures { OnOk result (self.new ≡ self.old ++ calls_in (place ∷ []) []) }
+        ensures { OnOk result (self.new ≡ self.old ++ calls_of_orders (place ∷ []) []) }
     {
         match self.order.push(place) {
             Ok(()) => {}
@@ -111,8 +111,8 @@ impl KeptCalls {
 
     /// One call more, behind the others. The block that it stands in is given back.
     pub(crate) fn push(&mut self, kept: Kept) -> Result<(), NoMemory>
-        requires { IsCall (call_of kept) }
-        ensures { OnOk result (self.new ≡ self.old ++ call_of kept ∷ []) }
+        requires { IsCall (call_kept kept) }
+        ensures { OnOk result (self.new ≡ self.old ++ call_kept kept ∷ []) }
     {
         match kept {
             Kept::Wake { number } => self.push_short(Place::Wake { number }),
@@ -157,11 +157,11 @@ impl Model for CallsLeft {
     ghost use Rattle.std.specs.Prelude.{◌≡◌, List, length, sum_by};
     ghost use Rattle.std.specs.Vec.Iter.{into_iter_items};
     ghost use Rattle.domain_run.specs.declared.call.Call.{Call};
-    ghost use Rattle.calls_trace.specs.private.LittleRoom.{calls_in, is_long};
+    ghost use Rattle.calls_trace.specs.private.LittleRoom.{calls_of_orders, is_long};
 
     ghost Value = { List Call };
 
-    ghost view = { λ c. calls_in (into_iter_items c.order) (into_iter_items c.long) };
+    ghost view = { λ c. calls_of_orders (into_iter_items c.order) (into_iter_items c.long) };
 
     ghost invariant = { λ c. sum_by is_long (into_iter_items c.order)
         ≡ length (into_iter_items c.long) };

@@ -3,7 +3,7 @@
 ghost use Rattle.std.specs.Prelude.{ℕ, false, List, IfOk};
 ghost use Rattle.calls_text.specs.SectionView.{SectionView};
 ghost use Rattle.calls_text.specs.Limits.{IsSection};
-ghost use Rattle.calls_text.specs.Reader.{IsWithin, begun};
+ghost use Rattle.calls_text.specs.Reader.{IsWithin, empty_section};
 ghost use Rattle.calls_trace.specs.private.Kept.{IsKeptSection, IsReadSection, KeepsSection};
 ghost use Rattle.calls_trace.specs.private.Replaying.{IsRunOf, IsToldOf};
 
@@ -56,7 +56,7 @@ pub(crate) fn section_read(
     reader: &mut CallsReader<'_>,
 ) -> Result<KeptSection, NoMemory>
     ensures read { (text : List ℕ) (before : List SectionView)
-        → IsWithin text before (begun cpus limit) reader.old
+        → IsWithin text before (empty_section cpus limit) reader.old
         → IfOk result (IsReadSection text before reader.new) }
 {
     let mut section = KeptSection {

@@ -4,21 +4,21 @@ ghost use Rattle.std.specs.Prelude.{◌≡◌, ◌<◌, ◌≤◌, ◌+◌, ◌^
 ghost use Rattle.std.specs.String.{string_bytes};
 ghost use Rattle.task_script.specs.NameView.{IsName};
 ghost use Rattle.domain_run.specs.declared.call.Call.TheVariants as Call;
-ghost use Rattle.domain_run.specs.Domain.{IsLimit, opened};
+ghost use Rattle.domain_run.specs.Domain.{IsLimit, empty_domain};
 ghost use Rattle.domain_run.specs.Calls.{after_call};
 ghost use Rattle.domain_run.specs.Happened.{told_by_call, told_by_ticks};
 ghost use Rattle.domain_run.specs.Log.{Tells};
 ghost use Rattle.domain_run.specs.Run.{run_of};
 ghost use Rattle.domain_run.specs.Tick.{ticks as ticked_by};
-ghost use Rattle.calls_text.specs.Limits.{IsNumber, IsCall, IsSection};
+ghost use Rattle.calls_text.specs.Limits.{IsTaskNumber, IsCall, IsSection};
 ghost use Rattle.calls_text.specs.Histories.{IsLegal};
 ghost use Rattle.calls_text.specs.NameGiven.{name_given};
-ghost use Rattle.calls_text.specs.KeptCall.{call_of};
-ghost use Rattle.switch_text.specs.Names.{named};
-ghost use Rattle.calls_trace.specs.Replay.{no_names, with_name, names_after, calls_of};
+ghost use Rattle.calls_text.specs.KeptCall.{call_kept};
+ghost use Rattle.switch_text.specs.Names.{name_of_task};
+ghost use Rattle.calls_trace.specs.Replay.{no_names, with_name, names_after, calls_in_section};
 ghost use Rattle.calls_trace.specs.Told.{names_in, params_in, no_params, with_params, params_after, told_of};
-ghost use Rattle.calls_trace.specs.private.Replaying.{AreNamed, Gives, GivesParams, given_in, IsRunOf, IsToldOf};
-ghost use Rattle.calls_trace.specs.private.Recorded.{given_by, given_by_all, params_given_by, params_given_by_all};
+ghost use Rattle.calls_trace.specs.private.Replaying.{AdmittedHaveNames, MapGives, GivesParams, given_in, IsRunOf, IsToldOf};
+ghost use Rattle.calls_trace.specs.private.Recorded.{names_given_by, given_by_all, params_given_by, params_given_by_all};
 
 use crate::laid_out::lay_out_if_admitted;
 use attr_check::Params;
@@ -51,8 +51,8 @@ pub(crate) fn text_of(alloc: Global, name: &Name) -> Result<String, NoMemory>
 }
 
 fn put_name(names: &mut IndexMap<u32, String>, number: u32, text: String) -> Result<(), NoMemory>
-    ensures ok { OnOk result (Gives names.new
-        (with_name (named names.old) number (string_bytes text))) }
+    ensures ok { OnOk result (MapGives names.new
+        (with_name (name_of_task names.old) number (string_bytes text))) }
 {
     match names.insert(number, text) {
         Ok(_) => Ok(()),
@@ -96,8 +96,8 @@ impl RunWithNames {
     ) -> Result<RunWithNames, NoMemory>
         requires cpus { (0 < cpus) × (cpus ≤ 64) }
         requires limit { IsLimit limit }
-        ensures state { IfOk result (λ r. r.state ≡ opened cpus limit) }
-        ensures names { IfOk result (λ r. Gives r.names no_names) }
+        ensures state { IfOk result (λ r. r.state ≡ empty_domain cpus limit) }
+        ensures names { IfOk result (λ r. MapGives r.names no_names) }
         ensures given { IfOk result (λ r. GivesParams r.given no_params) }
         ensures wanted { IfOk result (λ r. r.log.wanted ≡ wanted) }
         ensures untold { IfOk result (λ r. IsTrue wanted → r.log.happened ≡ []) }
@@ -131,8 +131,8 @@ impl RunWithNames {
     /// Keeps the name of a task that is admitted, and its parameters where the log is wanted.
     fn know(&mut self, number: u32, text: String, params: Params) -> Result<(), NoMemory>
         ensures state { self.new.state ≡ self.old.state }
-        ensures names { OnOk result (Gives self.new.names
-            (with_name (named self.old.names) number (string_bytes text))) }
+        ensures names { OnOk result (MapGives self.new.names
+            (with_name (name_of_task self.old.names) number (string_bytes text))) }
         ensures given { OnOk result (GivesParams self.new.given (if self.old.log.wanted
             then with_params (given_in self.old.given) number params
             else given_in self.old.given)) }
@@ -152,20 +152,20 @@ impl RunWithNames {
         mut script: Script,
         text: String,
     ) -> Result<(), NoMemory>
-        requires number { IsNumber number }
+        requires number { IsTaskNumber number }
         requires delay { delay ≤ 1000000000 }
         requires text { string_bytes text ≡ name }
-        requires named { AreNamed self.old.state self.old.names }
+        requires named { AdmittedHaveNames self.old.state self.old.names }
         ensures state { let call = Call.Admit number name params delay script in
             OnOk result (self.new.state ≡ after_call self.old.state call) }
         ensures names { let call = Call.Admit number name params delay script in
-            OnOk result (Gives self.new.names
-            (names_after self.old.state call (named self.old.names))) }
+            OnOk result (MapGives self.new.names
+            (names_after self.old.state call (name_of_task self.old.names))) }
         ensures given { let call = Call.Admit number name params delay script in
             OnOk result (GivesParams self.new.given (if self.old.log.wanted
             then params_after self.old.state call (given_in self.old.given)
             else given_in self.old.given)) }
-        ensures named { OnOk result (AreNamed self.new.state self.new.names) }
+        ensures named { OnOk result (AdmittedHaveNames self.new.state self.new.names) }
         ensures time { OnOk result (self.new.state.time ≡ self.old.state.time) }
         ensures log { self.new.log ≡ self.old.log }
     {
@@ -228,16 +228,16 @@ impl RunWithNames {
         requires call { IsCall call }
         requires text { string_bytes text ≡ name_given call }
         requires early { self.old.state.time + 60000000 ≤ 2 ^ 42 }
-        requires named { AreNamed self.old.state self.old.names }
+        requires named { AdmittedHaveNames self.old.state self.old.names }
         ensures state { OnOk result (self.new.state ≡ after_call self.old.state call) }
-        ensures names { OnOk result (Gives self.new.names
-            (names_after self.old.state call (named self.old.names))) }
+        ensures names { OnOk result (MapGives self.new.names
+            (names_after self.old.state call (name_of_task self.old.names))) }
         ensures given { OnOk result (GivesParams self.new.given (if self.old.log.wanted
             then params_after self.old.state call (given_in self.old.given)
             else given_in self.old.given)) }
         ensures told { OnOk result
             (Tells self.old.log (told_by_call self.old.state call) self.new.log) }
-        ensures named { OnOk result (AreNamed self.new.state self.new.names) }
+        ensures named { OnOk result (AdmittedHaveNames self.new.state self.new.names) }
         ensures time { OnOk result (self.new.state.time ≤ self.old.state.time + 60000000) }
     {
         match call {
@@ -276,18 +276,18 @@ impl RunWithNames {
 
     /// As `make`, of a call in little room. What is short is made in place.
     pub(crate) fn make_kept(&mut self, kept: Kept) -> Result<(), NoMemory>
-        requires call { IsCall (call_of kept) }
+        requires call { IsCall (call_kept kept) }
         requires early { self.old.state.time + 60000000 ≤ 2 ^ 42 }
-        requires named { AreNamed self.old.state self.old.names }
-        ensures state { OnOk result (self.new.state ≡ after_call self.old.state (call_of kept)) }
-        ensures names { OnOk result (Gives self.new.names
-            (names_after self.old.state (call_of kept) (named self.old.names))) }
+        requires named { AdmittedHaveNames self.old.state self.old.names }
+        ensures state { OnOk result (self.new.state ≡ after_call self.old.state (call_kept kept)) }
+        ensures names { OnOk result (MapGives self.new.names
+            (names_after self.old.state (call_kept kept) (name_of_task self.old.names))) }
         ensures given { OnOk result (GivesParams self.new.given (if self.old.log.wanted
-            then params_after self.old.state (call_of kept) (given_in self.old.given)
+            then params_after self.old.state (call_kept kept) (given_in self.old.given)
             else given_in self.old.given)) }
         ensures told { OnOk result
-            (Tells self.old.log (told_by_call self.old.state (call_of kept)) self.new.log) }
-        ensures named { OnOk result (AreNamed self.new.state self.new.names) }
+            (Tells self.old.log (told_by_call self.old.state (call_kept kept)) self.new.log) }
+        ensures named { OnOk result (AdmittedHaveNames self.new.state self.new.names) }
         ensures time { OnOk result (self.new.state.time ≤ self.old.state.time + 60000000) }
     {
         match kept {
@@ -330,7 +330,8 @@ fn put_given(
     names: &mut IndexMap<u32, String>,
     entry: &Entry,
 ) -> Result<(), NoMemory>
-    ensures ok { OnOk result (Gives names.new (given_by entry.now (named names.old))) }
+    ensures ok { OnOk result
+        (MapGives names.new (names_given_by entry.now (name_of_task names.old))) }
 {
     match (&entry.call, &entry.reply) {
         (
@@ -343,7 +344,7 @@ fn put_given(
 
 /// The names that entries give, by number.
 fn names_given(alloc: Global, entries: &[Entry]) -> Result<IndexMap<u32, String>, NoMemory>
-    ensures names { IfOk result (λ names. Gives names (given_by_all entries.now no_names)) }
+    ensures names { IfOk result (λ names. MapGives names (given_by_all entries.now no_names)) }
 {
     let mut names = IndexMap::new(alloc);
     for entry in entries {
@@ -401,7 +402,7 @@ fn params_if(
 /// The names of the tasks of a history, by number, as its replies tell them.
 pub(crate) fn names_of(alloc: Global, history: &Section) -> Result<IndexMap<u32, String>, NoMemory>
     requires { IsLegal history.now.cpus history.now.limit history.now.entries }
-    ensures { IfOk result (λ names. named names ≡ names_in history.now) }
+    ensures { IfOk result (λ names. name_of_task names ≡ names_in history.now) }
 {
     names_given(alloc, &history.entries)
 }
@@ -424,7 +425,8 @@ pub(crate) fn recorded(
 ) -> Result<RunWithNames, NoMemory>
     requires section { IsSection history.now }
     requires legal { IsLegal history.now.cpus history.now.limit history.now.entries }
-    requires state { state ≡ run_of history.now.cpus history.now.limit (calls_of history.now) }
+    requires state { state
+        ≡ run_of history.now.cpus history.now.limit (calls_in_section history.now) }
     requires told { IsTrue log.wanted → log.happened ≡ told_of history.now }
     ensures run { IfOk result (λ r. IsRunOf history.now r.state r.names) }
     ensures told { IfOk result (λ r. IsToldOf log.wanted history.now r.given r.log) }

@@ -4,7 +4,7 @@ ghost use Rattle.std.specs.Prelude.{◌≡◌, ◌<◌, ◌≤◌, ℕ, All, IfO
 ghost use Rattle.domain_run.specs.Log.{LogView};
 ghost use Rattle.calls_text.specs.Limits.{IsSection};
 ghost use Rattle.calls_text.specs.Histories.{AreLegal, AreRuns, AreTold};
-ghost use Rattle.calls_trace.specs.private.Replaying.{IsPlaced, view_of, views_from};
+ghost use Rattle.calls_trace.specs.private.Replaying.{IsPlaced, placed_view_of, views_from};
 
 use crate::named_run::{RunWithNames, recorded};
 use calls_text::Section;
@@ -47,7 +47,8 @@ pub(crate) fn place_runs(
     requires legal { AreLegal histories.now }
     requires runs { AreRuns histories.now states.items }
     requires told { AreTold wanted histories.now logs.items }
-    ensures runs { IfOk result (λ v. map view_of v.items ≡ views_from wanted 0 histories.now) }
+    ensures runs { IfOk result
+        (λ v. map placed_view_of v.items ≡ views_from wanted 0 histories.now) }
     ensures few { IfOk result (λ v. length v.items ≤ 8) }
     ensures placed { IfOk result (λ v. All IsPlaced v.items) }
 {

@@ -4,8 +4,8 @@
 ghost use Rattle.std.specs.Prelude.{◌≡◌, ◌+◌, ◌*◌, ◌≤◌, ◌^◌, All, IfOk, length, sum_by};
 ghost use Rattle.indexmap.specs.IndexMap.{spare};
 ghost use Rattle.calls_trace.specs.Replay.{no_names};
-ghost use Rattle.calls_trace.specs.private.Replaying.{AreNamed, Gives};
-ghost use Rattle.calls_trace.specs.private.Calls.{IsReady};
+ghost use Rattle.calls_trace.specs.private.Replaying.{AdmittedHaveNames, MapGives};
+ghost use Rattle.calls_trace.specs.private.Calls.{IsCallReady};
 ghost use Rattle.calls_trace.specs.private.Kept.{room_of};
 
 use crate::kept::CallsLeft;
@@ -34,8 +34,8 @@ pub(crate) struct Playing {
     left: u64,
     /// The calls behind it.
     calls: CallsLeft,
-    ghost called: { AreNamed run.domain run.names },
-    ghost kept: { All IsReady calls },
+    ghost called: { AdmittedHaveNames run.domain run.names },
+    ghost kept: { All IsCallReady calls },
     ghost room: { sum_by room_of calls ≤ spare run.names },
     ghost early: { run.domain.time + left + length calls * 60000000 ≤ 2 ^ 42 },
 }
@@ -43,14 +43,14 @@ pub(crate) struct Playing {
 impl NamedDomain {
     ghost use Rattle.std.specs.Prelude.{◌<◌, IfOk};
     ghost use Rattle.std.specs.String.{string_bytes};
-    ghost use Rattle.domain_run.specs.Domain.{IsLimit, opened};
+    ghost use Rattle.domain_run.specs.Domain.{IsLimit, empty_domain};
     ghost use Rattle.domain_run.specs.declared.call.Call.TheVariants as Call;
     ghost use Rattle.domain_run.specs.Calls.{after_call};
     ghost use Rattle.domain_run.specs.Tick.{ticks};
-    ghost use Rattle.calls_text.specs.Limits.{IsNumber};
-    ghost use Rattle.switch_text.specs.Names.{named};
+    ghost use Rattle.calls_text.specs.Limits.{IsTaskNumber};
+    ghost use Rattle.switch_text.specs.Names.{name_of_task};
     ghost use Rattle.calls_trace.specs.Replay.{with_name, names_after};
-    ghost use Rattle.calls_trace.specs.private.Replaying.{Gives};
+    ghost use Rattle.calls_trace.specs.private.Replaying.{MapGives};
     ghost use Rattle.calls_text.specs.NameGiven.{name_given};
     ghost use Rattle.calls_trace.specs.private.Kept.{room_of};
 
@@ -58,8 +58,8 @@ impl NamedDomain {
     fn open(alloc: Global, cpus: u32, limit: u64, room: usize) -> Result<NamedDomain, NoMemory>
         requires cpus { (0 < cpus) × (cpus ≤ 64) }
         requires limit { IsLimit limit }
-        ensures domain { IfOk result (λ d. d.domain ≡ opened cpus limit) }
-        ensures names { IfOk result (λ d. Gives d.names no_names) }
+        ensures domain { IfOk result (λ d. d.domain ≡ empty_domain cpus limit) }
+        ensures names { IfOk result (λ d. MapGives d.names no_names) }
         ensures room { IfOk result (λ d. room ≤ spare d.names) }
     {
         // The names are let go of by one call: their parts would be written out on each way.
@@ -84,8 +84,8 @@ impl NamedDomain {
     fn put(&mut self, number: u32, text: String)
         requires room { 0 < spare self.old.names }
         ensures domain { self.new.domain ≡ self.old.domain }
-        ensures names { Gives self.new.names
-            (with_name (named self.old.names) number (string_bytes text)) }
+        ensures names { MapGives self.new.names
+            (with_name (name_of_task self.old.names) number (string_bytes text)) }
         ensures room { spare self.old.names ≤ spare self.new.names + 1 }
     {
         match self.names.insert(number, text) {
@@ -103,16 +103,16 @@ impl NamedDomain {
         mut script: Script,
         text: String,
     )
-        requires number { IsNumber number }
+        requires number { IsTaskNumber number }
         requires delay { delay ≤ 1000000000 }
         requires text { string_bytes text ≡ name }
         requires room { 0 < spare self.old.names }
-        requires called { AreNamed self.old.domain self.old.names }
+        requires called { AdmittedHaveNames self.old.domain self.old.names }
         ensures domain { self.new.domain
             ≡ after_call self.old.domain (Call.Admit number name params delay script) }
-        ensures names { Gives self.new.names (names_after self.old.domain
-            (Call.Admit number name params delay script) (named self.old.names)) }
-        ensures called { AreNamed self.new.domain self.new.names }
+        ensures names { MapGives self.new.names (names_after self.old.domain
+            (Call.Admit number name params delay script) (name_of_task self.old.names)) }
+        ensures called { AdmittedHaveNames self.new.domain self.new.names }
         ensures room { spare self.old.names ≤ spare self.new.names + 1 }
     {
         // For the prover alone: a look at a name brings what every name keeps.
@@ -127,14 +127,14 @@ impl NamedDomain {
     /// Makes a call, of an advance no tick; answers how many ticks it has still to make.
     #[inline(always)]
     fn make(&mut self, call: Call, text: String) -> u64
-        requires call { IsReady call }
+        requires call { IsCallReady call }
         requires text { string_bytes text ≡ name_given call }
         requires room { room_of call ≤ spare self.old.names }
-        requires called { AreNamed self.old.domain self.old.names }
+        requires called { AdmittedHaveNames self.old.domain self.old.names }
         ensures domain { ticks result self.new.domain ≡ after_call self.old.domain call }
-        ensures names { Gives self.new.names
-            (names_after self.old.domain call (named self.old.names)) }
-        ensures called { AreNamed self.new.domain self.new.names }
+        ensures names { MapGives self.new.names
+            (names_after self.old.domain call (name_of_task self.old.names)) }
+        ensures called { AdmittedHaveNames self.new.domain self.new.names }
         ensures room { spare self.old.names ≤ spare self.new.names + room_of call }
         ensures most { result ≤ 60000000 }
     {
@@ -183,12 +183,12 @@ impl Playing {
     ghost use Rattle.domain_run.specs.Passing.{without_switches};
     ghost use Rattle.domain_run.specs.Run.{after_calls};
     ghost use Rattle.calls_text.specs.SectionView.{SectionView};
-    ghost use Rattle.switch_text.specs.Names.{named};
-    ghost use Rattle.switch_text.specs.Runs.{IsRun};
+    ghost use Rattle.switch_text.specs.Names.{name_of_task};
+    ghost use Rattle.switch_text.specs.Runs.{IsPrintable};
     ghost use Rattle.switch_text.specs.Names.{SameNames};
     ghost use Rattle.calls_trace.specs.Told.{domain_of, names_in};
     ghost use Rattle.calls_trace.specs.private.Kept.{IsKeptSection, KeepsSection};
-    ghost use Rattle.calls_trace.specs.private.Playing.{left_in, end_of, rest_of, all_names, work_of};
+    ghost use Rattle.calls_trace.specs.private.Playing.{calls_left, played_domain, rest_of, all_names, work_of};
 
     /// A section of which no call is made yet.
     pub(crate) fn open(alloc: Global, kept: KeptSection) -> Result<Playing, NoMemory>
@@ -216,8 +216,8 @@ impl Playing {
 
     /// Forgets the switches at hand.
     fn free_buffer(&mut self)
-        ensures end { end_of self.new
-            ≡ after_calls (without_switches self.old.run.domain) (left_in self.old) }
+        ensures end { played_domain self.new
+            ≡ after_calls (without_switches self.old.run.domain) (calls_left self.old) }
         ensures names { (n : ℕ) → all_names self.new n ≡ all_names self.old n }
     {
         self.run.domain.forget_switches();
@@ -226,7 +226,7 @@ impl Playing {
     /// Goes on with the advance under way. `false` where the buffer is full.
     fn advance(&mut self) -> bool
         requires { 0 < self.old.left }
-        ensures end { end_of self.new ≡ end_of self.old }
+        ensures end { played_domain self.new ≡ played_domain self.old }
         ensures names { (n : ℕ) → all_names self.new n ≡ all_names self.old n }
         ensures ahead { result ≡ true → work_of self.new < work_of self.old }
         ensures stopped { result ≡ false → self.new.run.domain.switches ≡ []
@@ -240,7 +240,7 @@ impl Playing {
     /// Begins with the next call. `false` where none is left.
     fn begin(&mut self) -> bool
         requires { self.old.left ≡ 0 }
-        ensures end { end_of self.new ≡ end_of self.old }
+        ensures end { played_domain self.new ≡ played_domain self.old }
         ensures names { (n : ℕ) → all_names self.new n ≡ all_names self.old n }
         ensures ahead { result ≡ true → work_of self.new < work_of self.old }
         ensures stopped { result ≡ false → work_of self.new ≡ 0 }
@@ -257,7 +257,7 @@ impl Playing {
     /// Goes on with the advance under way, or else with the next call. `false` where the buffer is
     /// full or nothing is left.
     fn play(&mut self) -> bool
-        ensures end { end_of self.new ≡ end_of self.old }
+        ensures end { played_domain self.new ≡ played_domain self.old }
         ensures names { (n : ℕ) → all_names self.new n ≡ all_names self.old n }
         ensures ahead { result ≡ true → work_of self.new < work_of self.old }
         ensures stopped { result ≡ false → self.new.run.domain.switches ≡ []
@@ -283,10 +283,10 @@ impl Playing {
 
     /// The switches at hand, as they are written.
     pub(crate) fn as_written(&self) -> Run<'_>
-        ensures run { IsRun result }
+        ensures run { IsPrintable result }
         ensures base { result.base ≡ 0 }
         ensures switches { result.switches.now ≡ self.now.run.domain.switches }
-        ensures names { All (SameNames (named result.names.now) (all_names self.now))
+        ensures names { All (SameNames (name_of_task result.names.now) (all_names self.now))
             result.switches.now }
     {
         Run {
@@ -319,7 +319,7 @@ impl Slices for Playing {
 
 /// Room for so many names.
 fn room_for_names(alloc: Global, n: usize) -> Result<IndexMap<u32, String>, NoMemory>
-    ensures empty { IfOk result (λ names. Gives names no_names) }
+    ensures empty { IfOk result (λ names. MapGives names no_names) }
     ensures room { IfOk result (λ names. n ≤ spare names) }
 {
     match IndexMap::with_capacity(alloc, n) {

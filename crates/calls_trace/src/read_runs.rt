@@ -3,8 +3,8 @@
 ghost use Rattle.std.specs.Prelude.{◌<◌, ◌≤◌, ℕ, List, Ok, IfOk, IfSome};
 ghost use Rattle.calls_text.specs.SectionView.{SectionView};
 ghost use Rattle.calls_text.specs.Limits.{IsCall};
-ghost use Rattle.calls_text.specs.KeptCall.{IsNextKept, call_of};
-ghost use Rattle.calls_text.specs.Reader.{IsWithin, begun, left};
+ghost use Rattle.calls_text.specs.KeptCall.{IsNextKept, call_kept};
+ghost use Rattle.calls_text.specs.Reader.{IsWithin, empty_section, bytes_left};
 ghost use Rattle.calls_trace.specs.private.ReadRuns.{IsBegun, IsReadRun};
 
 use crate::named_run::RunWithNames;
@@ -18,9 +18,10 @@ pub(crate) fn next_of(alloc: Global, reader: &mut CallsReader<'_>) -> Result<Opt
     ensures next { (text : List ℕ) (before : List SectionView) (section : SectionView)
         → IsWithin text before section reader.old
         → IfOk result (λ found. IsNextKept text before section reader.new (Ok found)) }
-    ensures call { IfOk result (λ found. IfSome found (λ kept. IsCall (call_of kept))) }
-    ensures less { IfOk result (λ found. IfSome found (λ _. left reader.new < left reader.old)) }
-    ensures never_more { left reader.new ≤ left reader.old }
+    ensures call { IfOk result (λ found. IfSome found (λ kept. IsCall (call_kept kept))) }
+    ensures less { IfOk result
+        (λ found. IfSome found (λ _. bytes_left reader.new < bytes_left reader.old)) }
+    ensures never_more { bytes_left reader.new ≤ bytes_left reader.old }
 {
     match reader.next_kept(alloc) {
         Ok(found) => Ok(found),
@@ -38,9 +39,9 @@ pub(crate) fn run_read(
 ) -> Result<RunWithNames, NoMemory>
     requires begun { IsBegun cpus limit reader.old }
     ensures run { (text : List ℕ) (before : List SectionView)
-        → IsWithin text before (begun cpus limit) reader.old
+        → IsWithin text before (empty_section cpus limit) reader.old
         → IfOk result (IsReadRun text before cpus wanted reader.new) }
-    ensures never_more { left reader.new ≤ left reader.old }
+    ensures never_more { bytes_left reader.new ≤ bytes_left reader.old }
 {
     // The run is let go of by one call: its parts would be written out on each way.
     let mut run = RunWithNames::open(alloc, cpus, limit, wanted)?;

@@ -5,7 +5,7 @@ ghost use Rattle.std.specs.Prelude.{ℕ, [], ◌∷◌, List, false, IfErr, IfOk
 ghost use Rattle.calls_text.specs.SectionView.{SectionView};
 ghost use Rattle.calls_text.specs.Limits.{IsSection};
 ghost use Rattle.calls_text.specs.BadLine.{IsReadFault};
-ghost use Rattle.calls_text.specs.Reader.{IsWithin, begun};
+ghost use Rattle.calls_text.specs.Reader.{IsWithin, empty_section};
 ghost use Rattle.calls_trace.specs.private.Kept.{IsKeptSection, KeepsSection};
 ghost use Rattle.calls_trace.specs.private.ReadRuns.{IsBegun, ArePlacedSoFar, AreReadRuns};
 ghost use Rattle.calls_trace.specs.private.ReadText.{IsReadText, IsBegunFirst};
@@ -37,7 +37,7 @@ fn first_two(
     requires begun { IsBegun cpus limit reader.old }
     ensures { (text : List ℕ) (section : SectionView) → IsSection section
         → IsKeptSection section first
-        → IsWithin text (section ∷ []) (begun cpus limit) reader.old
+        → IsWithin text (section ∷ []) (empty_section cpus limit) reader.old
         → IfOk result (ArePlacedSoFar text false reader.new) }
 {
     let mut runs = RunsSoFar::open(alloc)?;
@@ -57,9 +57,9 @@ fn begun_text(
     reader: &mut CallsReader<'_>,
 ) -> Result<ReadText, CallsFault>
     requires begun { IsBegunFirst cpus limit reader.old }
-    ensures read { (text : List ℕ) → IsWithin text [] (begun cpus limit) reader.old
+    ensures read { (text : List ℕ) → IsWithin text [] (empty_section cpus limit) reader.old
         → IfOk result (IsReadText text) }
-    ensures fault { (text : List ℕ) → IsWithin text [] (begun cpus limit) reader.old
+    ensures fault { (text : List ℕ) → IsWithin text [] (empty_section cpus limit) reader.old
         → IfErr result (IsReadFault text) }
 {
     let Ok(kept) = section_read(alloc, cpus, limit, reader) else {

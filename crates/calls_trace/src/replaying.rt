@@ -2,7 +2,7 @@
 
 ghost use Rattle.std.specs.Prelude.{◌<◌, ◌^◌, OnOk, IfErr};
 ghost use Rattle.counted_io.specs.Sides.{faults_of, side};
-ghost use Rattle.calls_trace.specs.Answer.{streams, IsAnswered, IsAnsweredBy, IsFaultBy, IsFaultOf, replayed};
+ghost use Rattle.calls_trace.specs.Answer.{streams, IsAnswered, IsAnsweredBy, IsReplayFaultBy, IsReplayFault, replayed_text};
 ghost use Rattle.calls_trace.specs.private.Replayed.{IsReplayed, IsUnreplayed};
 
 use crate::fault::ReplayFault;
@@ -22,9 +22,9 @@ fn write_replayed<W: Write>(
 ) -> Result<(), ReplayFault>
     requires faults { faults_of writer.old < 2 ^ 63 }
     ensures ok { OnOk result
-        (IsReplayed text.now (replayed print) (side W.contents writer.old writer.new)) }
+        (IsReplayed text.now (replayed_text print) (side W.contents writer.old writer.new)) }
     ensures err { IfErr result
-        (IsUnreplayed text.now (replayed print) (side W.contents writer.old writer.new)) }
+        (IsUnreplayed text.now (replayed_text print) (side W.contents writer.old writer.new)) }
 {
     match RunText::of(print) {
         Some(kind) => write_run_text(alloc, kind, text, writer),
@@ -56,10 +56,10 @@ pub fn replay_as<R: Read, W: Write>(
     requires reader { faults_of reader.old < 2 ^ 63 }
     requires writer { faults_of writer.old < 2 ^ 63 }
     ensures ok { OnOk result
-        (IsAnsweredBy (replayed print) (streams (side R.remaining reader.old reader.new)
+        (IsAnsweredBy (replayed_text print) (streams (side R.remaining reader.old reader.new)
         (side W.contents writer.old writer.new))) }
     ensures err { IfErr result
-        (IsFaultBy (replayed print) (streams (side R.remaining reader.old reader.new)
+        (IsReplayFaultBy (replayed_text print) (streams (side R.remaining reader.old reader.new)
         (side W.contents writer.old writer.new))) }
 {
     let text = match reader.read_all(alloc) {
@@ -91,7 +91,7 @@ pub fn replay<R: Read, W: Write>(
         (IsAnswered (streams (side R.remaining reader.old reader.new)
         (side W.contents writer.old writer.new))) }
     ensures err { IfErr result
-        (IsFaultOf (streams (side R.remaining reader.old reader.new)
+        (IsReplayFault (streams (side R.remaining reader.old reader.new)
         (side W.contents writer.old writer.new))) }
 {
     replay_as(alloc, reader, writer, ReplayPrint::Trace)

@@ -33,7 +33,7 @@ impl RunText {
 
     /// Whether it needs to be known what happens.
     pub(crate) fn tells(self) -> bool
-        ensures { result ≡ texts.tells self }
+        ensures { result ≡ texts.is_told_text self }
     {
         match self {
             RunText::Trace => false,

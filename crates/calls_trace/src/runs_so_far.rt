@@ -27,9 +27,9 @@ impl RunsSoFar {
     ghost use Rattle.calls_text.specs.SectionView.{SectionView};
     ghost use Rattle.calls_text.specs.Limits.{IsSection};
     ghost use Rattle.calls_text.specs.BadLine.{IsReadFault};
-    ghost use Rattle.calls_text.specs.Reader.{IsWithin, begun, left};
+    ghost use Rattle.calls_text.specs.Reader.{IsWithin, empty_section, bytes_left};
     ghost use Rattle.calls_trace.specs.private.Replaying.{IsRunOf, IsToldOf};
-    ghost use Rattle.calls_trace.specs.private.ReadRuns.{IsBegun, IsUnderWay, ArePlacedFor, ArePlacedSoFar, AreReadRuns};
+    ghost use Rattle.calls_trace.specs.private.ReadRuns.{IsBegun, IsReadUnderWay, ArePlacedFor, ArePlacedSoFar, AreReadRuns};
 
     /// The runs of no section yet.
     pub(crate) fn open(alloc: Global) -> Result<RunsSoFar, NoMemory>
@@ -71,9 +71,10 @@ impl RunsSoFar {
         requires few { length self.old.runs.items < 8 }
         requires inside { self.old.base + cpus ≤ 512 }
         ensures placed { (text : List ℕ) (done : List SectionView)
-            → IsWithin text done (begun cpus limit) reader.old → ArePlacedFor wanted done self.old
+            → IsWithin text done (empty_section cpus limit) reader.old
+            → ArePlacedFor wanted done self.old
             → OnOk result (ArePlacedSoFar text wanted reader.new self.new) }
-        ensures never_more { left reader.new ≤ left reader.old }
+        ensures never_more { bytes_left reader.new ≤ bytes_left reader.old }
     {
         let run = run_read(alloc, cpus, limit, reader, wanted)?;
         self.put(cpus, run);
@@ -87,7 +88,7 @@ impl RunsSoFar {
         reader: &mut CallsReader<'_>,
         wanted: bool,
     ) -> Result<Vec<PlacedRun>, CallsFault>
-        requires under_way { IsUnderWay wanted reader.old self }
+        requires under_way { IsReadUnderWay wanted reader.old self }
         ensures runs { (text : List ℕ) → ArePlacedSoFar text wanted reader.old self
             → IfOk result (λ v. AreReadRuns text wanted v.items) }
         ensures fault { (text : List ℕ) → ArePlacedSoFar text wanted reader.old self

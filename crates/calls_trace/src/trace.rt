@@ -10,7 +10,7 @@ ghost use Rattle.calls_trace.specs.Replay.{trace_of_sections};
 ghost use Rattle.calls_trace.specs.Written.{IsWritten, IsUnwritten};
 ghost use Rattle.calls_trace.specs.declared.run_text.RunText.TheVariants as texts;
 ghost use Rattle.calls_trace.specs.private.Kept.{IsKeptSection, KeepsSection};
-ghost use Rattle.calls_trace.specs.private.Replaying.{IsPlaced, view_of, run_in, told_in, heard, text_of_runs};
+ghost use Rattle.calls_trace.specs.private.Replaying.{IsPlaced, placed_view_of, placed_run_view, told_in, heard, text_of_runs};
 
 use crate::fault::TraceFault;
 use crate::kept_section::KeptSection;
@@ -24,8 +24,8 @@ use switch_text::{Counted, Run, Told, TraceRoom, write_events_in, write_slices, 
 /// A run as it is written.
 fn as_written(placed: &PlacedRun) -> Run<'_>
     requires { IsPlaced placed.now }
-    ensures view { runs.view_of result ≡ run_in (view_of placed.now) }
-    ensures run { runs.IsRun result }
+    ensures view { runs.switches_view_of result ≡ placed_run_view (placed_view_of placed.now) }
+    ensures run { runs.IsPrintable result }
 {
     Run {
         base: placed.base,
@@ -38,8 +38,8 @@ fn as_written(placed: &PlacedRun) -> Run<'_>
 fn all_as_written(alloc: Global, placed: &[PlacedRun]) -> Result<Vec<Run<'_>>, NoMemory>
     requires { All IsPlaced placed.now }
     ensures views { IfOk result (λ v. runs.views v.items
-        ≡ map (λ p. run_in (view_of p)) placed.now) }
-    ensures runs { IfOk result (λ v. All runs.IsRun v.items) }
+        ≡ map (λ p. placed_run_view (placed_view_of p)) placed.now) }
+    ensures runs { IfOk result (λ v. All runs.IsPrintable v.items) }
 {
     let mut written = Vec::with_capacity(alloc, placed.len())?;
     for run in placed {
@@ -58,7 +58,7 @@ pub(crate) fn heard_by(log: &Log) -> &[Happened]
 /// What happened in a run as it is written. More than 2^50 of it is in no memory.
 fn as_told(placed: &PlacedRun) -> Result<Told<'_>, NoMemory>
     requires { IsPlaced placed.now }
-    ensures view { IfOk result (λ t. told_view t ≡ told_in (view_of placed.now)) }
+    ensures view { IfOk result (λ t. told_view t ≡ told_in (placed_view_of placed.now)) }
     ensures told { IfOk result IsTold }
 {
     let happened = heard_by(&placed.run.log);
@@ -76,7 +76,7 @@ fn as_told(placed: &PlacedRun) -> Result<Told<'_>, NoMemory>
 fn all_as_told(alloc: Global, placed: &[PlacedRun]) -> Result<Vec<Told<'_>>, NoMemory>
     requires { All IsPlaced placed.now }
     ensures views { IfOk result (λ v. told_views v.items
-        ≡ map (λ p. told_in (view_of p)) placed.now) }
+        ≡ map (λ p. told_in (placed_view_of p)) placed.now) }
     ensures told { IfOk result (λ v. All IsTold v.items) }
     ensures count { IfOk result (λ v. length v.items ≡ length placed.now) }
 {

@@ -5,13 +5,13 @@ ghost use Rattle.counted_io.specs.Sides.{faults_of, side};
 ghost use Rattle.calls_text.specs.Limits.{IsSection};
 ghost use Rattle.calls_text.specs.Histories.{AreLegal, AreRuns, AreTold};
 ghost use Rattle.reply_text.specs.Replies.{replies_of};
-ghost use Rattle.calls_trace.specs.Answer.{replayed};
+ghost use Rattle.calls_trace.specs.Answer.{replayed_text};
 ghost use Rattle.run_options.specs.Options.{print_tells};
 ghost use Rattle.calls_trace.specs.Written.{IsWritten, IsUnwritten};
 ghost use Rattle.calls_trace.specs.declared.run_text.RunText.TheVariants as texts;
 ghost use Rattle.calls_trace.specs.private.Replaying.{IsPlaced, text_of_runs};
 ghost use Rattle.calls_trace.specs.private.Replayed.{IsReplayed, IsUnreplayed};
-ghost use Rattle.calls_trace.specs.private.RunTexts.{tells, text_of_all};
+ghost use Rattle.calls_trace.specs.private.RunTexts.{is_told_text, text_of_all};
 
 use crate::charting::write_chart_of;
 use crate::fault::{ReplayFault, TraceFault};
@@ -155,7 +155,7 @@ fn write_placed<W: Write>(
     requires sections { All IsSection histories.now }
     requires legal { AreLegal histories.now }
     requires runs { AreRuns histories.now states.items }
-    requires told { AreTold (tells text) histories.now logs.items }
+    requires told { AreTold (is_told_text text) histories.now logs.items }
     requires faults { faults_of writer.old < 2 ^ 63 }
     ensures ok { OnOk result
         (IsWritten (side W.contents writer.old writer.new) (text_of_all text histories.now)) }
@@ -208,9 +208,9 @@ pub fn write_run_as<W: Write>(
     requires told { AreTold (print_tells print) histories.now logs.items }
     requires faults { faults_of writer.old < 2 ^ 63 }
     ensures ok { OnOk result
-        (IsWritten (side W.contents writer.old writer.new) (replayed print histories.now)) }
+        (IsWritten (side W.contents writer.old writer.new) (replayed_text print histories.now)) }
     ensures err { IfErr result
-        (IsUnwritten (side W.contents writer.old writer.new) (replayed print histories.now)) }
+        (IsUnwritten (side W.contents writer.old writer.new) (replayed_text print histories.now)) }
 {
     match RunText::of(print) {
         Some(text) => write_placed(alloc, text, histories, states, logs, writer),

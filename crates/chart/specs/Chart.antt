@@ -1,14 +1,14 @@
 -- The chart: one SVG file without script (own; elements and attributes as in SVG 1.1). In the plot,
 -- an inner svg, x is the time itself in microseconds, so no time is rounded there.
 use Rattle.std.specs.Prelude.{ℕ, ◌+◌, ◌-◌, List, ◌++◌, length, flat_map, codes}
-use Rattle.run_figures.specs.Lines.{numbered}
+use Rattle.run_figures.specs.Lines.{numbered_lines}
 use Rattle.chart_pieces.specs.declared.window.Window.{Window}
 use Rattle.chart.specs.declared.sheet.Sheet.{Sheet}
 use Rattle.chart.specs.Seconds.{seconds}
 use Rattle.chart.specs.Sizes.{sheet_of, plot_height, plot_end, pixel_of}
 use Rattle.chart.specs.Axis.{ticks_of}
 use Rattle.chart.specs.Rows.{ChartRowView}
-use Rattle.chart.specs.Pieces.{with_number, text_at, times, name_lines, row_lines, over_lines}
+use Rattle.chart.specs.Pieces.{text_with_number, text_at, times, name_lines, row_lines, over_lines}
 use Rattle.chart.specs.Legend.{legend}
 
 -- ---- THE HEAD
@@ -18,16 +18,16 @@ chart_height s = plot_end s + 62
 
 abbrev pub opening : Sheet → List ℕ
 opening s =
-    with_number (codes "<svg xmlns=\"http://www.w3.org/2000/svg\" viewBox=\"0 0 1200 ")
+    text_with_number (codes "<svg xmlns=\"http://www.w3.org/2000/svg\" viewBox=\"0 0 1200 ")
     (chart_height s)
-    ++ (with_number (codes "\" width=\"1200\" height=\"") (chart_height s)
+    ++ (text_with_number (codes "\" width=\"1200\" height=\"") (chart_height s)
     ++ codes
     "\" role=\"img\" font-family=\"DejaVu Sans, Verdana, sans-serif\" font-size=\"12\">\n")
 
 abbrev pub counts : Sheet → List ℕ
 counts s =
-    with_number (codes "<title>Which task ran where: ") s.rows
-    ++ with_number (codes " tasks on ") s.cpus
+    text_with_number (codes "<title>Which task ran where: ") s.rows
+    ++ text_with_number (codes " tasks on ") s.cpus
 
 abbrev pub span : Sheet → List ℕ
 span s = codes " CPUs, " ++ (times s.window.from s.window.to ++ codes "</title>\n")
@@ -41,7 +41,7 @@ style = codes
 
 abbrev pub background : Sheet → List ℕ
 background s =
-    with_number (codes "<rect width=\"1200\" height=\"") (chart_height s)
+    text_with_number (codes "<rect width=\"1200\" height=\"") (chart_height s)
     ++ codes "\" fill=\"#fff\"/>\n"
 
 abbrev pub head : Sheet → List ℕ
@@ -51,26 +51,26 @@ head s = opening s ++ (chart_title s ++ (style ++ background s))
 
 abbrev pub plot_size : Sheet → List ℕ
 plot_size s =
-    with_number (codes "<svg x=\"150\" y=\"40\" width=\"1020\" height=\"") (plot_height s)
+    text_with_number (codes "<svg x=\"150\" y=\"40\" width=\"1020\" height=\"") (plot_height s)
 
 abbrev pub plot_view : Sheet → List ℕ
 plot_view s =
-    with_number (codes "\" viewBox=\"") s.window.from
-    ++ (with_number (codes " 0 ") (s.window.to - s.window.from)
-    ++ (with_number (codes " ") (plot_height s) ++ codes "\" preserveAspectRatio=\"none\">\n"))
+    text_with_number (codes "\" viewBox=\"") s.window.from
+    ++ (text_with_number (codes " 0 ") (s.window.to - s.window.from)
+    ++ (text_with_number (codes " ") (plot_height s) ++ codes "\" preserveAspectRatio=\"none\">\n"))
 
 abbrev pub plot_opening : Sheet → List ℕ
 plot_opening s = plot_size s ++ plot_view s
 
 abbrev pub grid_line : Sheet → ℕ → List ℕ
 grid_line s time =
-    with_number (codes "<path class=\"g\" d=\"M") time
-    ++ (with_number (codes " 0V") (plot_height s) ++ codes "\"/>\n")
+    text_with_number (codes "<path class=\"g\" d=\"M") time
+    ++ (text_with_number (codes " 0V") (plot_height s) ++ codes "\"/>\n")
 
 abbrev pub plot : Sheet → List ℕ → List ChartRowView → List ℕ
 plot s ticks rows =
     plot_opening s ++ (flat_map (grid_line s) ticks
-    ++ (numbered (row_lines s) 0 rows ++ codes "</svg>\n"))
+    ++ (numbered_lines (row_lines s) 0 rows ++ codes "</svg>\n"))
 
 -- ---- THE AXIS
 
@@ -93,11 +93,11 @@ axis s ticks =
 -- ---- ALL
 
 abbrev pub upper : Sheet → List ℕ → List ChartRowView → List ℕ
-upper s ticks rows = head s ++ (numbered (name_lines s) 0 rows ++ plot s ticks rows)
+upper s ticks rows = head s ++ (numbered_lines (name_lines s) 0 rows ++ plot s ticks rows)
 
 abbrev pub lower : Sheet → List ℕ → List ChartRowView → List ℕ
 lower s ticks rows =
-    numbered (over_lines s) 0 rows ++ (axis s ticks ++ (legend s ++ codes "</svg>\n"))
+    numbered_lines (over_lines s) 0 rows ++ (axis s ticks ++ (legend s ++ codes "</svg>\n"))
 
 abbrev pub chart_of : Sheet → List ℕ → List ChartRowView → List ℕ
 chart_of s ticks rows = upper s ticks rows ++ lower s ticks rows

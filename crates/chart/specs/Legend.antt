@@ -1,10 +1,10 @@
 -- The legend, below the plot (own): the colours of CPUs, and what the lines and marks mean.
 use Rattle.std.specs.Prelude.{ℕ, ◌+◌, ◌*◌, List, ◌++◌, length, codes}
-use Rattle.run_figures.specs.Lines.{numbered}
+use Rattle.run_figures.specs.Lines.{numbered_lines}
 use Rattle.chart.specs.declared.sheet.Sheet.{Sheet}
 use Rattle.chart.specs.Sizes.{plot_end}
 use Rattle.chart.specs.Colours.{fill_of, legend_cpus}
-use Rattle.chart.specs.Pieces.{with_number, text_at, number_ink}
+use Rattle.chart.specs.Pieces.{text_with_number, text_at, number_ink}
 
 -- ---- COLOURS
 
@@ -13,15 +13,15 @@ colour_left place = 150 + place * 28
 
 abbrev pub colour_place : Sheet → ℕ → List ℕ
 colour_place s place =
-    with_number (codes "<rect x=\"") (colour_left place)
-    ++ with_number (codes "\" y=\"") (plot_end s + 32)
+    text_with_number (codes "<rect x=\"") (colour_left place)
+    ++ text_with_number (codes "\" y=\"") (plot_end s + 32)
 
 abbrev pub colour_fill : Sheet → ℕ → List ℕ
 colour_fill s cpu =
     codes "\" width=\"22\" height=\"14\" fill=\"" ++ (fill_of s.cpus cpu ++ codes "\"/>")
 
 abbrev pub colour_end : ℕ → List ℕ
-colour_end cpu = with_number (codes "\">") cpu ++ codes "</text>\n"
+colour_end cpu = text_with_number (codes "\">") cpu ++ codes "</text>\n"
 
 abbrev pub colour_number : Sheet → ℕ → ℕ → List ℕ
 colour_number s place cpu =
@@ -34,16 +34,16 @@ colour_line s place cpu =
 
 abbrev pub colour_title : Sheet → List ℕ
 colour_title s =
-    with_number (codes "<text x=\"142\" y=\"") (plot_end s + 43)
+    text_with_number (codes "<text x=\"142\" y=\"") (plot_end s + 43)
     ++ codes "\" text-anchor=\"end\" font-size=\"11\">CPU</text>\n"
 
 abbrev pub colours : Sheet → List ℕ → List ℕ
-colours s cpus = colour_title s ++ numbered (colour_line s) 0 cpus
+colours s cpus = colour_title s ++ numbered_lines (colour_line s) 0 cpus
 
 -- ---- SIGNS
 
 abbrev pub sign_place : ℕ → ℕ → List ℕ
-sign_place left top = with_number (codes "\" d=\"M") left ++ with_number (codes " ") top
+sign_place left top = text_with_number (codes "\" d=\"M") left ++ text_with_number (codes " ") top
 
 abbrev pub sign_path : List ℕ → List ℕ
 sign_path path = path ++ codes "\"/>"

@@ -15,12 +15,12 @@ use Rattle.chart.specs.Colours.{fill_of, ink_of}
 use Rattle.chart.specs.Rows.{ChartRowView}
 
 -- a text with a number behind it
-abbrev pub with_number : List ℕ → ℕ → List ℕ
-with_number text n = text ++ decimal n
+abbrev pub text_with_number : List ℕ → ℕ → List ℕ
+text_with_number text n = text ++ decimal n
 
 -- the beginning of a text at a place
 abbrev pub text_at : ℕ → ℕ → List ℕ
-text_at x y = with_number (codes "<text x=\"") x ++ with_number (codes "\" y=\"") y
+text_at x y = text_with_number (codes "<text x=\"") x ++ text_with_number (codes "\" y=\"") y
 
 -- ---- WHAT A POINTER SHOWS: the end of a tag, and in it a title that begins with a name
 
@@ -34,8 +34,8 @@ times start stop = seconds start ++ (codes " to " ++ (seconds stop ++ codes " s"
 
 abbrev pub band_box : Sheet → ℕ → List ℕ
 band_box s place =
-    with_number (codes "<rect x=\"0\" y=\"") (40 + row_top s place)
-    ++ (with_number (codes "\" width=\"1170\" height=\"") s.size.height
+    text_with_number (codes "<rect x=\"0\" y=\"") (40 + row_top s place)
+    ++ (text_with_number (codes "\" width=\"1170\" height=\"") s.size.height
     ++ codes "\" fill=\"#f4f4f4\"/>\n")
 
 -- every second row has a band
@@ -47,14 +47,14 @@ name_size s = if is_tall s then [] else codes " font-size=\"10\""
 
 abbrev pub name_begins : Sheet → ℕ → List ℕ
 name_begins s place =
-    with_number (codes "<text x=\"142\" y=\"") (40 + (row_top s place + s.size.foot))
+    text_with_number (codes "<text x=\"142\" y=\"") (40 + (row_top s place + s.size.foot))
     ++ (codes "\" text-anchor=\"end\"" ++ name_size s)
 
-abbrev pub named : List ℕ → List ℕ
-named name = codes ">" ++ (escaped name ++ codes "</text>\n")
+abbrev pub name_in_text : List ℕ → List ℕ
+name_in_text name = codes ">" ++ (escaped name ++ codes "</text>\n")
 
 abbrev pub name_text : Sheet → ℕ → List ℕ → List ℕ
-name_text s place name = name_begins s place ++ named name
+name_text s place name = name_begins s place ++ name_in_text name
 
 -- in the lowest rows every fourth
 abbrev pub is_named : Sheet → ℕ → Bool
@@ -74,9 +74,9 @@ gap_word g = if g.throttled then codes " is throttled: " else codes " wants a CP
 
 abbrev pub gap_path : Sheet → ℕ → Gap → List ℕ
 gap_path s place g =
-    with_number (codes "\" d=\"M") g.start
-    ++ (with_number (codes " ") (row_top s place + s.size.middle)
-    ++ with_number (codes "H") g.stop)
+    text_with_number (codes "\" d=\"M") g.start
+    ++ (text_with_number (codes " ") (row_top s place + s.size.middle)
+    ++ text_with_number (codes "H") g.stop)
 
 abbrev pub gap_said : Gap → List ℕ
 gap_said g = gap_word g ++ times g.start g.stop
@@ -94,19 +94,19 @@ gap_line s place name g = gap_shape s place g ++ gap_title name g
 
 abbrev pub bar_box : Sheet → ℕ → Bar → List ℕ
 bar_box s place b =
-    with_number (codes "<rect class=\"b\" x=\"") b.start
-    ++ (with_number (codes "\" y=\"") (row_top s place + s.size.bar_top)
-    ++ (with_number (codes "\" width=\"") (us b)
-    ++ with_number (codes "\" height=\"") s.size.bar_height))
+    text_with_number (codes "<rect class=\"b\" x=\"") b.start
+    ++ (text_with_number (codes "\" y=\"") (row_top s place + s.size.bar_top)
+    ++ (text_with_number (codes "\" width=\"") (us b)
+    ++ text_with_number (codes "\" height=\"") s.size.bar_height))
 
 abbrev pub bar_fill : Sheet → ℕ → Bar → List ℕ
 bar_fill s base b = codes "\" fill=\"" ++ fill_of s.cpus (base + b.cpu)
 
 abbrev pub bar_said : ℕ → Bar → List ℕ
 bar_said base b =
-    with_number (codes " on CPU ") (base + b.cpu)
+    text_with_number (codes " on CPU ") (base + b.cpu)
     ++ (codes ": " ++ (times b.start b.stop
-    ++ (with_number (codes ", ") (us b) ++ codes " us")))
+    ++ (text_with_number (codes ", ") (us b) ++ codes " us")))
 
 abbrev pub bar_shape : Sheet → ℕ → ℕ → Bar → List ℕ
 bar_shape s place base b = bar_box s place b ++ bar_fill s base b
@@ -151,7 +151,7 @@ number_ink s cpu =
     codes "\" text-anchor=\"middle\" font-size=\"11\" fill=\"" ++ ink_of s.cpus cpu
 
 abbrev pub number_end : ℕ → List ℕ
-number_end cpu = with_number (codes "\" pointer-events=\"none\">") cpu ++ codes "</text>\n"
+number_end cpu = text_with_number (codes "\" pointer-events=\"none\">") cpu ++ codes "</text>\n"
 
 abbrev pub number_text : Sheet → ℕ → ℕ → Bar → List ℕ
 number_text s place base b =
@@ -185,8 +185,8 @@ mark_word Ended = codes " ended at "
 
 abbrev pub mark_place : Sheet → ℕ → Mark → List ℕ
 mark_place s place m =
-    with_number (codes "\" d=\"M") (pixel_of s m.time)
-    ++ (with_number (codes " ") (40 + (row_top s place + mark_top m.sign))
+    text_with_number (codes "\" d=\"M") (pixel_of s m.time)
+    ++ (text_with_number (codes " ") (40 + (row_top s place + mark_top m.sign))
     ++ mark_path m.sign)
 
 abbrev pub mark_said : Mark → List ℕ

@@ -11,8 +11,8 @@ pub record ChartRowView : Type 0 where
   pub base : ℕ
   pub row : RowView
 
-abbrev pub view_of : ChartRow → ChartRowView
-view_of r = record { name = r.name.now; base = r.base; row = r.row.now }
+abbrev pub chart_row_view_of : ChartRow → ChartRowView
+chart_row_view_of r = record { name = r.name.now; base = r.base; row = r.row.now }
 
 -- each of its bars and gaps has a part in the window, and each mark stands there
 abbrev pub IsDrawn : Window → ChartRow → Type 0

@@ -1,12 +1,12 @@
 //! The whole chart.
 
 ghost use Rattle.std.specs.Prelude.{◌≡◌, ◌≤◌, ◌^◌, All, length, map, flat_map};
-ghost use Rattle.run_figures.specs.Lines.{numbered};
+ghost use Rattle.run_figures.specs.Lines.{numbered_lines};
 ghost use Rattle.draft.specs.Draft.{Adds};
 ghost use Rattle.chart_pieces.specs.Window.{IsWindow};
 ghost use Rattle.chart.specs.Chart as charts;
 ghost use Rattle.chart.specs.Pieces as pieces;
-ghost use Rattle.chart.specs.Rows.{view_of, IsDrawn};
+ghost use Rattle.chart.specs.Rows.{chart_row_view_of, IsDrawn};
 ghost use Rattle.chart.specs.private.Sheets.{IsSheet};
 
 use crate::axis::ticks_of;
@@ -102,7 +102,7 @@ fn put_names(out: &mut Draft, sheet: &Sheet, rows: &[ChartRow<'_>])
     requires sheet { IsSheet sheet.now }
     requires few { length rows.now ≤ 2 ^ 20 }
     ensures { Adds out.old out.new
-        (numbered (pieces.name_lines sheet.now) 0 (map view_of rows.now)) }
+        (numbered_lines (pieces.name_lines sheet.now) 0 (map chart_row_view_of rows.now)) }
 {
     for (place, row) in rows.iter().enumerate() {
         put_name_lines(out, sheet, place as u64, row);
@@ -160,7 +160,7 @@ fn put_rows(out: &mut Draft, sheet: &Sheet, rows: &[ChartRow<'_>])
     requires sheet { IsSheet sheet.now }
     requires few { length rows.now ≤ 2 ^ 20 }
     ensures { Adds out.old out.new
-        (numbered (pieces.row_lines sheet.now) 0 (map view_of rows.now)) }
+        (numbered_lines (pieces.row_lines sheet.now) 0 (map chart_row_view_of rows.now)) }
 {
     for (place, row) in rows.iter().enumerate() {
         put_row_lines(out, sheet, place as u64, row);
@@ -170,7 +170,8 @@ fn put_rows(out: &mut Draft, sheet: &Sheet, rows: &[ChartRow<'_>])
 fn put_plot(out: &mut Draft, sheet: &Sheet, ticks: &[u64], rows: &[ChartRow<'_>])
     requires sheet { IsSheet sheet.now }
     requires few { length rows.now ≤ 2 ^ 20 }
-    ensures { Adds out.old out.new (charts.plot sheet.now ticks.now (map view_of rows.now)) }
+    ensures { Adds out.old out.new
+        (charts.plot sheet.now ticks.now (map chart_row_view_of rows.now)) }
 {
     put_plot_opening(out, sheet);
     put_grid(out, sheet, ticks);
@@ -185,7 +186,7 @@ fn put_over(out: &mut Draft, sheet: &Sheet, rows: &[ChartRow<'_>])
     requires few { length rows.now ≤ 2 ^ 20 }
     requires drawn { All (IsDrawn sheet.now.window) rows.now }
     ensures { Adds out.old out.new
-        (numbered (pieces.over_lines sheet.now) 0 (map view_of rows.now)) }
+        (numbered_lines (pieces.over_lines sheet.now) 0 (map chart_row_view_of rows.now)) }
 {
     for (place, row) in rows.iter().enumerate() {
         put_over_lines(out, sheet, place as u64, row);
@@ -242,7 +243,8 @@ fn put_axis(out: &mut Draft, sheet: &Sheet, ticks: &[u64])
 fn put_upper(out: &mut Draft, sheet: &Sheet, ticks: &[u64], rows: &[ChartRow<'_>])
     requires sheet { IsSheet sheet.now }
     requires few { length rows.now ≤ 2 ^ 20 }
-    ensures { Adds out.old out.new (charts.upper sheet.now ticks.now (map view_of rows.now)) }
+    ensures { Adds out.old out.new
+        (charts.upper sheet.now ticks.now (map chart_row_view_of rows.now)) }
 {
     put_head(out, sheet);
     put_names(out, sheet, rows);
@@ -255,7 +257,8 @@ fn put_lower(out: &mut Draft, alloc: Global, sheet: &Sheet, ticks: &[u64], rows:
     requires few { length rows.now ≤ 2 ^ 20 }
     requires early { All (λ t. t ≤ 2 ^ 42) ticks.now }
     requires drawn { All (IsDrawn sheet.now.window) rows.now }
-    ensures { Adds out.old out.new (charts.lower sheet.now ticks.now (map view_of rows.now)) }
+    ensures { Adds out.old out.new
+        (charts.lower sheet.now ticks.now (map chart_row_view_of rows.now)) }
 {
     put_over(out, sheet, rows);
     put_axis(out, sheet, ticks);
@@ -269,7 +272,8 @@ fn put_chart_of(out: &mut Draft, alloc: Global, sheet: &Sheet, ticks: &[u64], ro
     requires few { length rows.now ≤ 2 ^ 20 }
     requires early { All (λ t. t ≤ 2 ^ 42) ticks.now }
     requires drawn { All (IsDrawn sheet.now.window) rows.now }
-    ensures { Adds out.old out.new (charts.chart_of sheet.now ticks.now (map view_of rows.now)) }
+    ensures { Adds out.old out.new
+        (charts.chart_of sheet.now ticks.now (map chart_row_view_of rows.now)) }
 {
     put_upper(out, sheet, ticks, rows);
     put_lower(out, alloc, sheet, ticks, rows);
@@ -282,7 +286,8 @@ pub fn put_chart(out: &mut Draft, alloc: Global, window: Window, cpus: u64, rows
     requires cpus { cpus ≤ 512 }
     requires few { length rows.now ≤ 2 ^ 20 }
     requires drawn { All (IsDrawn window) rows.now }
-    ensures { Adds out.old out.new (charts.chart_text window cpus (map view_of rows.now)) }
+    ensures { Adds out.old out.new
+        (charts.chart_text window cpus (map chart_row_view_of rows.now)) }
 {
     match ticks_of(alloc, &window) {
         Ok(ticks) => {

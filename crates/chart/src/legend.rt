@@ -1,7 +1,7 @@
 //! The legend, below the plot.
 
 ghost use Rattle.std.specs.Prelude.{◌≡◌, ◌<◌, ◌≤◌, ◌^◌, All, length};
-ghost use Rattle.run_figures.specs.Lines.{numbered};
+ghost use Rattle.run_figures.specs.Lines.{numbered_lines};
 ghost use Rattle.draft.specs.Draft.{Adds};
 ghost use Rattle.chart.specs.Legend as legends;
 ghost use Rattle.chart.specs.private.Sheets.{IsSheet};
@@ -76,7 +76,7 @@ fn put_boxes(out: &mut Draft, sheet: &Sheet, cpus: &[u64])
     requires sheet { IsSheet sheet.now }
     requires few { length cpus.now ≤ 8 }
     requires small { All (λ c. c < 2 ^ 40) cpus.now }
-    ensures { Adds out.old out.new (numbered (legends.colour_line sheet.now) 0 cpus.now) }
+    ensures { Adds out.old out.new (numbered_lines (legends.colour_line sheet.now) 0 cpus.now) }
 {
     for (place, cpu) in cpus.iter().enumerate() {
         put_colour(out, sheet, place as u64, *cpu);

@@ -3,7 +3,7 @@
 ghost use Rattle.std.specs.Prelude.{◌≡◌, ◌<◌, ◌≤◌, ◌^◌, All, flat_map};
 ghost use Rattle.draft.specs.Draft.{Adds};
 ghost use Rattle.chart.specs.Pieces as pieces;
-ghost use Rattle.chart.specs.Rows.{view_of};
+ghost use Rattle.chart.specs.Rows.{chart_row_view_of};
 ghost use Rattle.chart.specs.private.Sheets.{IsSheet};
 
 use crate::colours::ink_of;
@@ -232,7 +232,7 @@ fn put_marks(out: &mut Draft, sheet: &Sheet, place: u64, name: &[u8], marks: &[M
 }
 
 fn has_marks(sheet: &Sheet, row: &ChartRow<'_>) -> bool
-    ensures { result ≡ pieces.has_marks sheet.now (view_of row.now) }
+    ensures { result ≡ pieces.has_marks sheet.now (chart_row_view_of row.now) }
 {
     let drawn = row.row;
     sheet.is_tall() && drawn.marks.len() <= 170
@@ -242,7 +242,7 @@ fn put_mark_lines(out: &mut Draft, sheet: &Sheet, place: u64, row: &ChartRow<'_>
     requires sheet { IsSheet sheet.now }
     requires place { place ≤ 2 ^ 32 }
     requires times { All (λ m. m.time ≤ sheet.now.window.to) row.now.row.now.marks }
-    ensures { Adds out.old out.new (pieces.mark_lines sheet.now place (view_of row.now)) }
+    ensures { Adds out.old out.new (pieces.mark_lines sheet.now place (chart_row_view_of row.now)) }
 {
     if has_marks(sheet, row) {
         let drawn = row.row;
@@ -257,7 +257,7 @@ pub(crate) fn put_over_lines(out: &mut Draft, sheet: &Sheet, place: u64, row: &C
     requires place { place ≤ 2 ^ 32 }
     requires starts { All (λ b. b.start < sheet.now.window.to) row.now.row.now.bars }
     requires times { All (λ m. m.time ≤ sheet.now.window.to) row.now.row.now.marks }
-    ensures { Adds out.old out.new (pieces.over_lines sheet.now place (view_of row.now)) }
+    ensures { Adds out.old out.new (pieces.over_lines sheet.now place (chart_row_view_of row.now)) }
 {
     let drawn = row.row;
     put_numbers(out, sheet, place, row.base, &drawn.bars);

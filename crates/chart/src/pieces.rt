@@ -4,7 +4,7 @@ ghost use Rattle.std.specs.Prelude.{◌≡◌, ◌+◌, ◌<◌, ◌≤◌, ◌^
 ghost use Rattle.draft.specs.Draft.{Adds};
 ghost use Rattle.chart_pieces.specs.Bars as chart_bars;
 ghost use Rattle.chart.specs.Pieces as pieces;
-ghost use Rattle.chart.specs.Rows.{view_of};
+ghost use Rattle.chart.specs.Rows.{chart_row_view_of};
 ghost use Rattle.chart.specs.private.Sheets.{IsSheet};
 
 use crate::colours::fill_of;
@@ -80,7 +80,7 @@ fn put_name_begins(out: &mut Draft, sheet: &Sheet, place: u64)
 }
 
 fn put_named(out: &mut Draft, name: &[u8])
-    ensures { Adds out.old out.new (pieces.named name.now) }
+    ensures { Adds out.old out.new (pieces.name_in_text name.now) }
 {
     out.put(b">");
     put_escaped(out, name);
@@ -110,7 +110,7 @@ fn is_named(sheet: &Sheet, place: u64) -> bool
 pub(crate) fn put_name_lines(out: &mut Draft, sheet: &Sheet, place: u64, row: &ChartRow<'_>)
     requires sheet { IsSheet sheet.now }
     requires place { place ≤ 2 ^ 32 }
-    ensures { Adds out.old out.new (pieces.name_lines sheet.now place (view_of row.now)) }
+    ensures { Adds out.old out.new (pieces.name_lines sheet.now place (chart_row_view_of row.now)) }
 {
     put_band(out, sheet, place);
     if is_named(sheet, place) {
@@ -241,7 +241,7 @@ fn put_bar_shape(out: &mut Draft, sheet: &Sheet, place: u64, base: u32, bar: &Ba
 }
 
 fn put_bar_title(out: &mut Draft, row: &ChartRow<'_>, bar: &Bar)
-    ensures { Adds out.old out.new (pieces.bar_title (view_of row.now) bar.now) }
+    ensures { Adds out.old out.new (pieces.bar_title (chart_row_view_of row.now) bar.now) }
 {
     put_title(out, row.name);
     put_bar_said(out, row.base, bar);
@@ -252,7 +252,8 @@ fn put_bar_title(out: &mut Draft, row: &ChartRow<'_>, bar: &Bar)
 fn put_bar(out: &mut Draft, sheet: &Sheet, place: u64, row: &ChartRow<'_>, bar: &Bar)
     requires sheet { IsSheet sheet.now }
     requires place { place ≤ 2 ^ 32 }
-    ensures { Adds out.old out.new (pieces.bar_line sheet.now place (view_of row.now) bar.now) }
+    ensures { Adds out.old out.new
+        (pieces.bar_line sheet.now place (chart_row_view_of row.now) bar.now) }
 {
     put_bar_shape(out, sheet, place, row.base, bar);
     put_bar_title(out, row, bar);
@@ -272,7 +273,7 @@ fn put_bars(out: &mut Draft, sheet: &Sheet, place: u64, row: &ChartRow<'_>, bars
     requires sheet { IsSheet sheet.now }
     requires place { place ≤ 2 ^ 32 }
     ensures { Adds out.old out.new
-        (flat_map (pieces.bar_line sheet.now place (view_of row.now)) bars.now) }
+        (flat_map (pieces.bar_line sheet.now place (chart_row_view_of row.now)) bars.now) }
 {
     for bar in bars {
         put_bar(out, sheet, place, row, bar);
@@ -283,7 +284,7 @@ fn put_bars(out: &mut Draft, sheet: &Sheet, place: u64, row: &ChartRow<'_>, bars
 pub(crate) fn put_row_lines(out: &mut Draft, sheet: &Sheet, place: u64, row: &ChartRow<'_>)
     requires sheet { IsSheet sheet.now }
     requires place { place ≤ 2 ^ 32 }
-    ensures { Adds out.old out.new (pieces.row_lines sheet.now place (view_of row.now)) }
+    ensures { Adds out.old out.new (pieces.row_lines sheet.now place (chart_row_view_of row.now)) }
 {
     let drawn = row.row;
     put_gaps(out, sheet, place, row.name, &drawn.gaps);

@@ -12,7 +12,7 @@ use itoa::Buffer;
 
 /// A text with a number behind it.
 pub(crate) fn put_with(out: &mut Draft, text: &[u8], n: u64)
-    ensures { Adds out.old out.new (pieces.with_number text.now n) }
+    ensures { Adds out.old out.new (pieces.text_with_number text.now n) }
 {
     out.put(text);
     out.put_decimal(n);

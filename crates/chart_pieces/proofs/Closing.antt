@@ -10,31 +10,31 @@ use Rattle.chart_pieces.specs.declared.window.Window.{Window}
 use Rattle.chart_pieces.specs.RowView.{RowView}
 use Rattle.chart_pieces.specs.Bars.{bars_in}
 use Rattle.chart_pieces.specs.Moments.{moments, moments_of}
-use Rattle.chart_pieces.specs.Standing.{at_rest, after}
+use Rattle.chart_pieces.specs.Standing.{at_rest, after_turn}
 use Rattle.chart_pieces.specs.Rows.{gap_by, gaps_from, marks_by, marks_from, row_of}
-use Rattle.chart_pieces.specs.private.LineView.{LineView}
-use Rattle.chart_pieces.specs.private.Lines.{no_line, with_bars, line_after, line_all, row_by, line_of}
+use Rattle.chart_pieces.specs.private.LineView.{ChartLineView}
+use Rattle.chart_pieces.specs.private.Lines.{line_without_bars, with_bars, bars_after, bars_all, row_by, bars_line}
 
 abbrev own_of : ℕ → List Moment → List Moment
 own_of n ms = filter (λ m. eqb m.number n) ms
 
-abbrev line_own : Window → List Moment → LineView → LineView
-line_own w own l = fold (λ (x : LineView) (m : Moment). line_after w m x) l own
+abbrev line_own : Window → List Moment → ChartLineView → ChartLineView
+line_own w own l = fold (λ (x : ChartLineView) (m : Moment). bars_after w m x) l own
 
-own_line : (w : Window) (ms : List Moment) (l : LineView) (n : ℕ) → l.number ≡ n → line_all w ms l ≡ line_own w (own_of n ms) l
+own_line : (w : Window) (ms : List Moment) (l : ChartLineView) (n : ℕ) → l.number ≡ n → bars_all w ms l ≡ line_own w (own_of n ms) l
 own_line w [] l n e = refl
 own_line w (m ∷ ms) l n e =
-    elim (eqb m.number n) as (λ b. eqb m.number n ≡ b → line_all w ms (cond (eqb l.number m.number) (line_after w m l) l) ≡ line_own w (cond b (m ∷ own_of n ms) (own_of n ms)) l) [
+    elim (eqb m.number n) as (λ b. eqb m.number n ≡ b → bars_all w ms (cond (eqb l.number m.number) (bars_after w m l) l) ≡ line_own w (cond b (m ∷ own_of n ms) (own_of n ms)) l) [
       | true ↦ λ yes.
           let own : eqb l.number m.number ≡ true = eq-eqb l.number m.number (e ∙ sym (eqb-true m.number n yes)) in
-          ap (λ b. line_all w ms (cond b (line_after w m l) l)) own ∙ own_line w ms (line_after w m l) n e
+          ap (λ b. bars_all w ms (cond b (bars_after w m l) l)) own ∙ own_line w ms (bars_after w m l) n e
       | false ↦ λ no.
           let other : eqb l.number m.number ≡ false = ne_eqb l.number m.number (λ (is : l.number ≡ m.number). eqb-false m.number n no (sym is ∙ e)) in
-          ap (λ b. line_all w ms (cond b (line_after w m l) l)) other ∙ own_line w ms l n e
+          ap (λ b. bars_all w ms (cond b (bars_after w m l) l)) other ∙ own_line w ms l n e
     ] refl
 
 -- a line, and the rest of its moments
-abbrev row_from : Window → ℕ → LineView → List Moment → RowView
+abbrev row_from : Window → ℕ → ChartLineView → List Moment → RowView
 row_from w time l own = record {
   number = l.number;
   bars = reverse l.bars;
@@ -42,7 +42,7 @@ row_from w time l own = record {
   marks = l.marks ++ marks_from w l.standing own;
 }
 
-own_closed : (w : Window) (time : ℕ) (own : List Moment) (l : LineView) → row_by w time (line_own w own l) ≡ row_from w time l own
+own_closed : (w : Window) (time : ℕ) (own : List Moment) (l : ChartLineView) → row_by w time (line_own w own l) ≡ row_from w time l own
 own_closed w time [] l = ap (λ (ms : List Mark). record {
   number = l.number;
   bars = reverse l.bars;
@@ -50,18 +50,18 @@ own_closed w time [] l = ap (λ (ms : List Mark). record {
   marks = ms;
 }) (sym (append-nil l.marks))
 own_closed w time (m ∷ ms) l =
-    own_closed w time ms (line_after w m l)
+    own_closed w time ms (bars_after w m l)
     ∙ (λ i. record {
       number = l.number;
       bars = reverse l.bars;
-      gaps = append_assoc l.gaps (gap_by w l.standing l.since m.time) (gaps_from w time (after m.turn l.standing) m.time ms) i;
-      marks = append_assoc l.marks (marks_by w l.standing m.time m.turn) (marks_from w (after m.turn l.standing) ms) i;
+      gaps = append_assoc l.gaps (gap_by w l.standing l.since m.time) (gaps_from w time (after_turn m.turn l.standing) m.time ms) i;
+      marks = append_assoc l.marks (marks_by w l.standing m.time m.turn) (marks_from w (after_turn m.turn l.standing) ms) i;
     })
 
-pub row_is : (w : Window) (run : RunView) (n : ℕ) → row_by w run.time (line_of w run n) ≡ row_of w run n
+pub row_is : (w : Window) (run : RunView) (n : ℕ) → row_by w run.time (bars_line w run n) ≡ row_of w run n
 row_is w run n =
     let own = moments_of run.happened run.switches n in
-    let l = with_bars w run.time run.switches (no_line n) in
+    let l = with_bars w run.time run.switches (line_without_bars n) in
     ap (row_by w run.time) (own_line w (moments run.happened run.switches) l n refl) ∙ own_closed w run.time own l
     ∙ (λ i. record {
       number = n;

@@ -5,7 +5,8 @@ use Rattle.std.proofs.lemmas.Bool.{cases_lt}
 use Rattle.std.proofs.lemmas.List.Elements.{All-head, All-tail}
 use Rattle.std.proofs.lemmas.List.Sums.{sum_by-cons}
 use Rattle.domain_run.specs.Switch.{Switch}
-use Rattle.run_figures.specs.Stays.{Stay, until, stays_by, stays, cpu_us, is_task}
+use Rattle.edf_pick.specs.Places.{is_task}
+use Rattle.run_figures.specs.Stays.{Stay, until, stays_by, stays, cpu_us}
 use Rattle.chart_pieces.specs.declared.row.Bar.{Bar}
 use Rattle.chart_pieces.specs.declared.window.Window.{Window}
 use Rattle.chart_pieces.specs.Window.{touches, IsWhole}

@@ -13,8 +13,8 @@ use Rattle.domain_run.specs.declared.switch.PrevState.TheVariants.{Running}
 use Rattle.chart_pieces.specs.declared.standing.Moment.{Moment}
 use Rattle.chart_pieces.specs.declared.window.Window.{Window}
 use Rattle.chart_pieces.specs.Moments.{moment_of, moments_by, beyond, moments}
-use Rattle.chart_pieces.specs.private.LineView.{LineView}
-use Rattle.chart_pieces.specs.private.Lines.{line_after, line_if, line_all}
+use Rattle.chart_pieces.specs.private.LineView.{ChartLineView}
+use Rattle.chart_pieces.specs.private.Lines.{bars_after, bars_if, bars_all}
 
 pub map-map : {X Y Z : Type 0} (f : Y → Z) (g : X → Y) (xs : List X) → map f (map g xs) ≡ map (λ x. f (g x)) xs
 map-map f g [] = refl
@@ -25,32 +25,32 @@ map_same f g [] same = refl
 map_same f g (x ∷ xs) same = λ i. same x i ∷ map_same f g xs same i
 
 -- NUMBERS STAY
-number_kept : (w : Window) (l : LineView) (m : Moment) → (line_if w l m).number ≡ l.number
-number_kept w l m = elim (eqb l.number m.number) as (λ b. (cond b (line_after w m l) l).number ≡ l.number) [ true ↦ refl | false ↦ refl ]
+number_kept : (w : Window) (l : ChartLineView) (m : Moment) → (bars_if w l m).number ≡ l.number
+number_kept w l m = elim (eqb l.number m.number) as (λ b. (cond b (bars_after w m l) l).number ≡ l.number) [ true ↦ refl | false ↦ refl ]
 
-pub number_of_line : (w : Window) (ms : List Moment) (l : LineView) → (line_all w ms l).number ≡ l.number
+pub number_of_line : (w : Window) (ms : List Moment) (l : ChartLineView) → (bars_all w ms l).number ≡ l.number
 number_of_line w [] l = refl
-number_of_line w (m ∷ ms) l = number_of_line w ms (line_if w l m) ∙ number_kept w l m
+number_of_line w (m ∷ ms) l = number_of_line w ms (bars_if w l m) ∙ number_kept w l m
 
-pub numbers_of_lines : (w : Window) (ms : List Moment) (ls now : List LineView) (numbers : List ℕ) → now ≡ map (line_all w ms) ls → map (λ l. l.number) ls ≡ numbers → map (λ l. l.number) now ≡ numbers
+pub numbers_of_lines : (w : Window) (ms : List Moment) (ls now : List ChartLineView) (numbers : List ℕ) → now ≡ map (bars_all w ms) ls → map (λ l. l.number) ls ≡ numbers → map (λ l. l.number) now ≡ numbers
 numbers_of_lines w ms ls now numbers is keyed =
-    ap (λ (xs : List LineView). map (λ l. l.number) xs) is
-    ∙ map-map (λ (l : LineView). l.number) (line_all w ms) ls ∙ map_same (λ l. (line_all w ms l).number) (λ l. l.number) ls (number_of_line w ms) ∙ keyed
+    ap (λ (xs : List ChartLineView). map (λ l. l.number) xs) is
+    ∙ map-map (λ (l : ChartLineView). l.number) (bars_all w ms) ls ∙ map_same (λ l. (bars_all w ms l).number) (λ l. l.number) ls (number_of_line w ms) ∙ keyed
 
 -- some moments, and others behind them
-pub both_told : (w : Window) (xs ys : List Moment) (old before now : List LineView) → before ≡ map (line_all w xs) old → now ≡ map (line_all w ys) before → now ≡ map (line_all w (xs ++ ys)) old
+pub both_told : (w : Window) (xs ys : List Moment) (old before now : List ChartLineView) → before ≡ map (bars_all w xs) old → now ≡ map (bars_all w ys) before → now ≡ map (bars_all w (xs ++ ys)) old
 both_told w xs ys old before now b n =
-    n ∙ ap (map (line_all w ys)) b ∙ map-map (line_all w ys) (line_all w xs) old
-    ∙ map_same (λ l. line_all w ys (line_all w xs l)) (line_all w (xs ++ ys)) old (λ l. sym (fold-append (line_if w) l xs ys))
+    n ∙ ap (map (bars_all w ys)) b ∙ map-map (bars_all w ys) (bars_all w xs) old
+    ∙ map_same (λ l. bars_all w ys (bars_all w xs l)) (bars_all w (xs ++ ys)) old (λ l. sym (fold-append (bars_if w) l xs ys))
 
-pub none_told : (w : Window) (ls : List LineView) → ls ≡ map (line_all w []) ls
+pub none_told : (w : Window) (ls : List ChartLineView) → ls ≡ map (bars_all w []) ls
 none_told w ls = sym (map-id ls)
 
 -- one entry more
-pub one_told : (w : Window) (hs : List Happened) (i : ℕ) (d : Happened) (old before now : List LineView) → i < length hs → before ≡ map (line_all w (map moment_of (take i hs))) old → now ≡ map (λ l. line_if w l (moment_of (get_or hs i d))) before → now ≡ map (line_all w (map moment_of (take (i + 1) hs))) old
+pub one_told : (w : Window) (hs : List Happened) (i : ℕ) (d : Happened) (old before now : List ChartLineView) → i < length hs → before ≡ map (bars_all w (map moment_of (take i hs))) old → now ≡ map (λ l. bars_if w l (moment_of (get_or hs i d))) before → now ≡ map (bars_all w (map moment_of (take (i + 1) hs))) old
 one_told w hs i d old before now l b n =
     both_told w (map moment_of (take i hs)) (moment_of (get_or hs i d) ∷ []) old before now b n
-    ∙ ap (λ (ms : List Moment). map (line_all w ms) old) (sym (map_more moment_of hs i d l))
+    ∙ ap (λ (ms : List Moment). map (bars_all w ms) old) (sym (map_more moment_of hs i d l))
 
 -- HOW FAR
 abbrev pub blank : Happened
@@ -75,12 +75,12 @@ all_passed hs i time l before later =
 abbrev pub blank_switch : Switch
 blank_switch = record { time = 0; prev = None; next = None; cpu = 0; state = Running }
 
-abbrev pub IsRest : Window → List Happened → List Switch → List LineView → ℕ → ℕ → List LineView → Type 0
-IsRest w hs ss old j k now = map (line_all w (moments (drop j hs) (drop k ss))) now ≡ map (line_all w (moments hs ss)) old
+abbrev pub IsRest : Window → List Happened → List Switch → List ChartLineView → ℕ → ℕ → List ChartLineView → Type 0
+IsRest w hs ss old j k now = map (bars_all w (moments (drop j hs) (drop k ss))) now ≡ map (bars_all w (moments hs ss)) old
 
 -- behind the next switch
-pub next_rest : (w : Window) (hs : List Happened) (ss : List Switch) (old : List LineView) (j k n : ℕ) (d : Switch) (now told last : List LineView) → k < length ss → n ≡ prefix_len (λ h. nat_le h.time (get_or ss k d).time) (drop j hs)
-    → told ≡ map (line_all w (map moment_of (take n (drop j hs)))) now → last ≡ map (line_all w (moments_by (get_or ss k d))) told
+pub next_rest : (w : Window) (hs : List Happened) (ss : List Switch) (old : List ChartLineView) (j k n : ℕ) (d : Switch) (now told last : List ChartLineView) → k < length ss → n ≡ prefix_len (λ h. nat_le h.time (get_or ss k d).time) (drop j hs)
+    → told ≡ map (bars_all w (map moment_of (take n (drop j hs)))) now → last ≡ map (bars_all w (moments_by (get_or ss k d))) told
     → IsRest w hs ss old j k now → IsRest w hs ss old (j + n) (k + 1) last
 next_rest w hs ss old j k n d now told last l count a b rest =
     let s = get_or ss k d in
@@ -95,14 +95,14 @@ next_rest w hs ss old j k n d now told last l count a b rest =
     ap (λ (xs : List Moment). xs ++ (moments_by s ++ behind)) first
     ∙ ap (λ (xs : List Happened). map moment_of (take (prefix_len p here) here) ++ (moments_by s ++ moments xs (drop (k + 1) ss))) left
     ∙ ap (λ (xs : List Switch). moments here xs) (sym (drop_more ss k d l)) in
-    both_told w front (moments_by s ++ behind) now told (map (line_all w behind) last) a
-    (ap (map (line_all w behind)) b ∙ map-map (line_all w behind) (line_all w (moments_by s)) told
-    ∙ map_same (λ x. line_all w behind (line_all w (moments_by s) x)) (line_all w (moments_by s ++ behind)) told (λ x. sym (fold-append (line_if w) x (moments_by s) behind)))
-    ∙ ap (λ (ms : List Moment). map (line_all w ms) now) whole ∙ rest
+    both_told w front (moments_by s ++ behind) now told (map (bars_all w behind) last) a
+    (ap (map (bars_all w behind)) b ∙ map-map (bars_all w behind) (bars_all w (moments_by s)) told
+    ∙ map_same (λ x. bars_all w behind (bars_all w (moments_by s) x)) (bars_all w (moments_by s ++ behind)) told (λ x. sym (fold-append (bars_if w) x (moments_by s) behind)))
+    ∙ ap (λ (ms : List Moment). map (bars_all w ms) now) whole ∙ rest
 
 -- at the end
-pub last_rest : (w : Window) (hs : List Happened) (ss : List Switch) (old : List LineView) (j k : ℕ) (rest : List Happened) (now last : List LineView) → length ss ≤ k → rest ≡ drop j hs → last ≡ map (line_all w (map moment_of rest)) now → IsRest w hs ss old j k now → last ≡ map (line_all w (moments hs ss)) old
+pub last_rest : (w : Window) (hs : List Happened) (ss : List Switch) (old : List ChartLineView) (j k : ℕ) (rest : List Happened) (now last : List ChartLineView) → length ss ≤ k → rest ≡ drop j hs → last ≡ map (bars_all w (map moment_of rest)) now → IsRest w hs ss old j k now → last ≡ map (bars_all w (moments hs ss)) old
 last_rest w hs ss old j k rest now last l is a whole =
     let none : drop k ss ≡ [] = drop_of_length-le ss l in
-    a ∙ ap (λ (xs : List Happened). map (line_all w (map moment_of xs)) now) is
-    ∙ ap (λ (xs : List Switch). map (line_all w (moments (drop j hs) xs)) now) (sym none) ∙ whole
+    a ∙ ap (λ (xs : List Happened). map (bars_all w (map moment_of xs)) now) is
+    ∙ ap (λ (xs : List Switch). map (bars_all w (moments (drop j hs) xs)) now) (sym none) ∙ whole

@@ -20,7 +20,7 @@ use Rattle.chart_pieces.specs.declared.window.Window.{Window}
 use Rattle.chart_pieces.specs.Window.{touches, holds}
 use Rattle.chart_pieces.specs.Bars.{bars_of}
 use Rattle.chart_pieces.specs.Moments.{moments_of}
-use Rattle.chart_pieces.specs.Standing.{at_rest, after, is_shown}
+use Rattle.chart_pieces.specs.Standing.{at_rest, after_turn, is_shown}
 use Rattle.chart_pieces.specs.Rows.{gap_by, gaps_from, mark_in, job_marks, marks_by_told, is_dead, end_marks, marks_by, marks_from, row_of}
 use Rattle.chart_pieces.specs.Laws.{IsSeen, AreSeen}
 
@@ -45,7 +45,7 @@ one_gap w s a b =
 all_gaps : (w : Window) (time : ℕ) (s : Standing) (since : ℕ) (ms : List Moment) → All (GapSeen w) (gaps_from w time s since ms)
 all_gaps w time s since [] = one_gap w s since time
 all_gaps w time s since (m ∷ ms) =
-    All-append (GapSeen w) (gap_by w s since m.time) (gaps_from w time (after m.turn s) m.time ms) (one_gap w s since m.time) (all_gaps w time (after m.turn s) m.time ms)
+    All-append (GapSeen w) (gap_by w s since m.time) (gaps_from w time (after_turn m.turn s) m.time ms) (one_gap w s since m.time) (all_gaps w time (after_turn m.turn s) m.time ms)
 
 -- MARKS
 abbrev MarkSeen : Window → Mark → Type 0
@@ -91,7 +91,7 @@ turn_marks w s time (Comes cpu) = no_mark w
 all_marks : (w : Window) (s : Standing) (ms : List Moment) → All (MarkSeen w) (marks_from w s ms)
 all_marks w s [] = no_mark w
 all_marks w s (m ∷ ms) =
-    All-append (MarkSeen w) (marks_by w s m.time m.turn) (marks_from w (after m.turn s) ms) (turn_marks w s m.time m.turn) (all_marks w (after m.turn s) ms)
+    All-append (MarkSeen w) (marks_by w s m.time m.turn) (marks_from w (after_turn m.turn s) ms) (turn_marks w s m.time m.turn) (all_marks w (after_turn m.turn s) ms)
 
 -- A ROW
 pub row_seen : (w : Window) (run : RunView) (n : ℕ) → AreSeen w (row_of w run n)

@@ -6,17 +6,18 @@ use Rattle.std.proofs.Math.ListN.{set}
 use Rattle.std.proofs.lemmas.Bool.{ne_eqb, cases_eq}
 use Rattle.std.proofs.lemmas.List.{drop_more, reverse-append}
 use Rattle.domain_run.specs.Switch.{Switch}
-use Rattle.run_figures.specs.Stays.{until, is_task}
+use Rattle.edf_pick.specs.Places.{is_task}
+use Rattle.run_figures.specs.Stays.{until}
 use Rattle.chart_pieces.specs.declared.row.Bar.{Bar}
 use Rattle.chart_pieces.specs.declared.window.Window.{Window}
 use Rattle.chart_pieces.specs.Window.{touches}
 use Rattle.chart_pieces.specs.Bars.{bar_by, bars_of, bars_in}
-use Rattle.chart_pieces.specs.private.LineView.{LineView}
+use Rattle.chart_pieces.specs.private.LineView.{ChartLineView}
 use Rattle.chart_pieces.specs.private.Lines.{with_bar, with_bar_of, with_bars}
 use Rattle.chart_pieces.proofs.Moments.{map-map, map_same}
 
 -- NO SWITCH
-pub no_bars : (w : Window) (time : ℕ) (ls : List LineView) → ls ≡ map (with_bars w time []) ls
+pub no_bars : (w : Window) (time : ℕ) (ls : List ChartLineView) → ls ≡ map (with_bars w time []) ls
 no_bars w time ls =
     sym (map-id ls) ∙ map_same (λ l. l) (with_bars w time []) ls (λ l. ap (λ (bs : List Bar). record l { bars = bs }) (sym (append-nil l.bars)))
 
@@ -30,12 +31,12 @@ one_more bars later b true = ap (λ (xs : List Bar). bars ++ xs) (reverse-append
 one_more bars later b false = sym (append-nil (bars ++ reverse later))
 
 -- a switch before these, by which somebody comes or nobody
-abbrev came : Window → ℕ → Switch → List Switch → Option ℕ → LineView → LineView
+abbrev came : Window → ℕ → Switch → List Switch → Option ℕ → ChartLineView → ChartLineView
 came w time s ss next l = record l {
   bars = l.bars ++ reverse (filter (λ b. touches w b.start b.stop) (cond (is_task l.number next) (bar_by s (until time s.cpu ss) ∷ []) [] ++ bars_of time ss l.number));
 }
 
-with_own : (w : Window) (time : ℕ) (s : Switch) (ss : List Switch) (m : ℕ) (l : LineView) (b : Bool) → eqb m l.number ≡ b → eqb l.number m ≡ b
+with_own : (w : Window) (time : ℕ) (s : Switch) (ss : List Switch) (m : ℕ) (l : ChartLineView) (b : Bool) → eqb m l.number ≡ b → eqb l.number m ≡ b
     → came w time s ss (Some m) l ≡ with_bar_of (Some m) w s (until time s.cpu ss) (with_bars w time ss l)
 with_own w time s ss m l true to from =
     let u = until time s.cpu ss in
@@ -48,7 +49,7 @@ with_own w time s ss m l false to from =
     ap (λ b. record l { bars = l.bars ++ reverse (filter (λ (x : Bar). touches w x.start x.stop) (cond b (bar_by s u ∷ []) [] ++ bars_of time ss l.number)) }) to
     ∙ ap (λ b. cond b (with_bar w s u (with_bars w time ss l)) (with_bars w time ss l)) (sym from)
 
-with_next : (w : Window) (time : ℕ) (s : Switch) (ss : List Switch) (next : Option ℕ) (l : LineView) → came w time s ss next l ≡ with_bar_of next w s (until time s.cpu ss) (with_bars w time ss l)
+with_next : (w : Window) (time : ℕ) (s : Switch) (ss : List Switch) (next : Option ℕ) (l : ChartLineView) → came w time s ss next l ≡ with_bar_of next w s (until time s.cpu ss) (with_bars w time ss l)
 with_next w time s ss None l = refl
 with_next w time s ss (Some m) l = ⊎_elim
     (λ (e : m ≡ l.number). with_own w time s ss m l true (eq-eqb m l.number e) (eq-eqb l.number m (sym e)))
@@ -56,7 +57,7 @@ with_next w time s ss (Some m) l = ⊎_elim
     (cases_eq m l.number)
 
 -- of all tasks
-pub bars_before : (w : Window) (time : ℕ) (ss : List Switch) (i left u : ℕ) (d : Switch) (old before now : List LineView) → i < length ss → left ≡ i + 1 → u ≡ until time (get_or ss i d).cpu (drop left ss)
+pub bars_before : (w : Window) (time : ℕ) (ss : List Switch) (i left u : ℕ) (d : Switch) (old before now : List ChartLineView) → i < length ss → left ≡ i + 1 → u ≡ until time (get_or ss i d).cpu (drop left ss)
     → before ≡ map (with_bars w time (drop left ss)) old → now ≡ map (with_bar_of (get_or ss i d).next w (get_or ss i d) u) before → now ≡ map (with_bars w time (drop i ss)) old
 bars_before w time ss i left u d old before now l at is b n =
     let s = get_or ss i d in

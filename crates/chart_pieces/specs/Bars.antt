@@ -1,7 +1,8 @@
 -- Bars: where a task ran, read off the switches (own).
 use Rattle.std.specs.Prelude.{ℕ, ◌-◌, if◌then◌else◌, List, [], ◌∷◌, ◌++◌, filter}
 use Rattle.domain_run.specs.Switch.{Switch}
-use Rattle.run_figures.specs.Stays.{until, is_task}
+use Rattle.edf_pick.specs.Places.{is_task}
+use Rattle.run_figures.specs.Stays.{until}
 use Rattle.chart_pieces.specs.declared.row.Bar.{Bar}
 use Rattle.chart_pieces.specs.declared.window.Window.{Window}
 use Rattle.chart_pieces.specs.Window.{touches}

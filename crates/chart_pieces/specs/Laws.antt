@@ -7,8 +7,8 @@ use Rattle.chart_pieces.specs.RowView.{RowView}
 use Rattle.chart_pieces.specs.Bars.{us}
 
 -- the bars of a task, over the whole run, sum to its CPU time in the summary
-abbrev pub IsFull : RunView → RowView → Type 0
-IsFull run row = sum_by us row.bars ≡ cpu_us run.time run.switches row.number
+abbrev pub BarsAreAllCpuTime : RunView → RowView → Type 0
+BarsAreAllCpuTime run row = sum_by us row.bars ≡ cpu_us run.time run.switches row.number
 
 -- a bar and a gap have a length, and a part in the window
 abbrev pub IsSeen : Window → ℕ → ℕ → Type 0

@@ -18,7 +18,7 @@ use Rattle.chart_pieces.specs.RowView.{RowView}
 use Rattle.chart_pieces.specs.Window.{touches, holds}
 use Rattle.chart_pieces.specs.Bars.{bars_in}
 use Rattle.chart_pieces.specs.Moments.{moments_of}
-use Rattle.chart_pieces.specs.Standing.{at_rest, after, is_shown}
+use Rattle.chart_pieces.specs.Standing.{at_rest, after_turn, is_shown}
 
 -- GAPS: how a task stands from one of its moments to the next
 abbrev pub gap_by : Window → Standing → ℕ → ℕ → List Gap
@@ -30,7 +30,7 @@ gap_by w s start stop =
 abbrev pub gaps_from : Window → ℕ → Standing → ℕ → List Moment → List Gap
 gaps_from w time s since [] = gap_by w s since time
 gaps_from w time s since (m ∷ ms) =
-    gap_by w s since m.time ++ gaps_from w time (after m.turn s) m.time ms
+    gap_by w s since m.time ++ gaps_from w time (after_turn m.turn s) m.time ms
 
 -- MARKS
 abbrev pub mark_in : Window → Sign → ℕ → List Mark
@@ -67,7 +67,7 @@ marks_by w s time (Comes cpu) = []
 
 abbrev pub marks_from : Window → Standing → List Moment → List Mark
 marks_from w s [] = []
-marks_from w s (m ∷ ms) = marks_by w s m.time m.turn ++ marks_from w (after m.turn s) ms
+marks_from w s (m ∷ ms) = marks_by w s m.time m.turn ++ marks_from w (after_turn m.turn s) ms
 
 -- A ROW
 abbrev pub row_of : Window → RunView → ℕ → RowView

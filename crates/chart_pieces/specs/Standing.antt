@@ -3,7 +3,7 @@
 use Rattle.std.specs.Prelude.{ℕ, Bool, true, false, ◌&&◌, ◌||◌, is_none, if◌then◌else◌, Some, None}
 use Rattle.domain_run.specs.declared.happened.What.{What}
 use Rattle.domain_run.specs.declared.happened.What.TheVariants.{JobEnds, NextReleased, Spent, Cut, Replenished, Released, WokenSpent}
-use Rattle.run_figures.specs.Stays.{is_task}
+use Rattle.edf_pick.specs.Places.{is_task}
 use Rattle.run_figures.specs.Throttling.{throttled_then}
 use Rattle.chart_pieces.specs.declared.standing.Turn.{Turn}
 use Rattle.chart_pieces.specs.declared.standing.Turn.TheVariants.{Told, Leaves, Comes}
@@ -42,10 +42,10 @@ after_told what s = record s {
 abbrev pub after_leaving : ℕ → Standing → Standing
 after_leaving cpu s = record s { cpu = if is_task cpu s.cpu then None else s.cpu }
 
-abbrev pub after : Turn → Standing → Standing
-after (Told what) s = after_told what s
-after (Leaves cpu state) s = after_leaving cpu s
-after (Comes cpu) s = record s { cpu = Some cpu }
+abbrev pub after_turn : Turn → Standing → Standing
+after_turn (Told what) s = after_told what s
+after_turn (Leaves cpu state) s = after_leaving cpu s
+after_turn (Comes cpu) s = record s { cpu = Some cpu }
 
 -- between its bars it is shown where it is throttled, and where it is ready: a job is under way,
 -- and it runs on no CPU

@@ -23,9 +23,9 @@ pub record IsWhole (w : Window) (time : ℕ) : Type 0 where
 
 -- WHAT IS ASKED FOR: a part of a run, to its end where no end is given; at least a microsecond of
 -- it is shown, and nothing behind 2^42 us
-abbrev pub last_of : Option ℕ → ℕ → ℕ
-last_of None end = end
-last_of (Some to) end = to
+abbrev pub window_end : Option ℕ → ℕ → ℕ
+window_end None end = end
+window_end (Some to) end = to
 
 abbrev pub first_of : Span → ℕ
 first_of span = min span.from (2 ^ 42 - 1)
@@ -33,5 +33,5 @@ first_of span = min span.from (2 ^ 42 - 1)
 abbrev pub window_of : Span → ℕ → Window
 window_of span end = record {
   from = first_of span;
-  to = max (first_of span + 1) (min (last_of span.to end) (2 ^ 42));
+  to = max (first_of span + 1) (min (window_end span.to end) (2 ^ 42));
 }

@@ -1,7 +1,7 @@
 //! The rows of a run.
 
 ghost use Rattle.std.specs.Prelude.{◌≡◌, IfOk, All, map};
-ghost use Rattle.run_figures.specs.Runs.{IsRun, view_of};
+ghost use Rattle.run_figures.specs.Runs.{IsBoundedRun, run_view_of};
 ghost use Rattle.chart_pieces.specs.Laws as laws;
 ghost use Rattle.chart_pieces.specs.Rows as rows;
 ghost use Rattle.chart_pieces.specs.Window.{IsWhole};
@@ -18,9 +18,9 @@ use std::alloc::Global;
 
 /// The lines of all tasks, with all that is told.
 fn lines_of(alloc: Global, run: &Run<'_>, window: &Window) -> Result<Vec<Line>, NoMemory>
-    requires run { IsRun (view_of run.now) }
+    requires run { IsBoundedRun (run_view_of run.now) }
     ensures { IfOk result (λ v. v.items ≡ map
-        (λ t. lines.line_of window.now (view_of run.now) t.number) run.now.tasks.now) }
+        (λ t. lines.bars_line window.now (run_view_of run.now) t.number) run.now.tasks.now) }
 {
     let places = Places::of(alloc, run.tasks)?;
     let mut table = no_lines(alloc, run.tasks)?;
@@ -35,11 +35,11 @@ fn lines_of(alloc: Global, run: &Run<'_>, window: &Window) -> Result<Vec<Line>, 
 /// # Errors
 /// 12 [`NoMemory`]: a growth was refused; nothing is left.
 pub fn rows_of(alloc: Global, run: &Run<'_>, window: Window) -> Result<Vec<Row>, NoMemory>
-    requires run { IsRun (view_of run.now) }
-    ensures rows { IfOk result (λ v. v.items ≡ rows.rows_of window (view_of run.now)) }
+    requires run { IsBoundedRun (run_view_of run.now) }
+    ensures rows { IfOk result (λ v. v.items ≡ rows.rows_of window (run_view_of run.now)) }
     ensures seen { IfOk result (λ v. All (laws.AreSeen window) v.items) }
     ensures full { IfOk result (λ v. IsWhole window run.now.time
-        → All (laws.IsFull (view_of run.now)) v.items) }
+        → All (laws.BarsAreAllCpuTime (run_view_of run.now)) v.items) }
 {
     let mut table = lines_of(alloc, run, &window)?;
     let mut all = Vec::with_capacity(alloc, table.len())?;

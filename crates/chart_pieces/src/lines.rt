@@ -26,9 +26,9 @@ pub(crate) struct Line {
 }
 
 impl Model for Line {
-    ghost use Rattle.chart_pieces.specs.private.LineView.{LineView};
+    ghost use Rattle.chart_pieces.specs.private.LineView.{ChartLineView};
 
-    ghost Value = { LineView };
+    ghost Value = { ChartLineView };
 
     ghost view = { λ l. record {
       number = l.number;
@@ -42,7 +42,7 @@ impl Model for Line {
 
 /// One line for each task.
 pub(crate) fn no_lines(alloc: Global, tasks: &[Admitted]) -> Result<Vec<Line>, NoMemory>
-    ensures { IfOk result (λ v. v.items ≡ map (λ t. lines.no_line t.number) tasks.now) }
+    ensures { IfOk result (λ v. v.items ≡ map (λ t. lines.line_without_bars t.number) tasks.now) }
 {
     let mut table = Vec::with_capacity(alloc, tasks.len())?;
     for task in tasks {
@@ -99,7 +99,7 @@ pub(crate) fn put_bar(
 
 /// What a moment of the task makes of its line.
 fn tell_line(line: &mut Line, window: &Window, moment: &Moment) -> Result<(), NoMemory>
-    ensures { OnOk result (line.new ≡ lines.line_after window.now moment.now line.old) }
+    ensures { OnOk result (line.new ≡ lines.bars_after window.now moment.now line.old) }
 {
     push_gap(
         &mut line.gaps,
@@ -129,7 +129,7 @@ pub(crate) fn tell(
 ) -> Result<(), NoMemory>
     requires keyed { map (λ l. l.number) table.old.items ≡ places.now }
     ensures { OnOk result (table.new.items
-        ≡ map (λ l. lines.line_if window.now l moment.now) table.old.items) }
+        ≡ map (λ l. lines.bars_if window.now l moment.now) table.old.items) }
 {
     match places.find(moment.number) {
         None => Ok(()),

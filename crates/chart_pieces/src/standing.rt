@@ -93,7 +93,7 @@ fn after_leaving(standing: Standing, cpu: u16) -> Standing
 
 /// How a task stands behind a moment of it.
 pub(crate) fn after(standing: Standing, turn: Turn) -> Standing
-    ensures { result ≡ standings.after turn standing }
+    ensures { result ≡ standings.after_turn turn standing }
 {
     match turn {
         Turn::Told(what) => after_told(standing, what),

@@ -1,7 +1,7 @@
 //! The bars of a run, told from its last switch to the first.
 
 ghost use Rattle.std.specs.Prelude.{◌≡◌, IfOk, OnOk, map, replicate};
-ghost use Rattle.run_figures.specs.Runs.{IsRun, view_of};
+ghost use Rattle.run_figures.specs.Runs.{IsBoundedRun, run_view_of};
 ghost use Rattle.chart_pieces.specs.private.Lines as lines;
 
 use crate::lines::{Line, put_bar};
@@ -28,7 +28,7 @@ pub(crate) fn put_bars(
     run: &Run<'_>,
 ) -> Result<(), NoMemory>
     requires keyed { map (λ l. l.number) table.old.items ≡ places.now }
-    requires run { IsRun (view_of run.now) }
+    requires run { IsBoundedRun (run_view_of run.now) }
     ensures { OnOk result (table.new.items ≡ map
         (lines.with_bars window.now run.now.time run.now.switches.now) table.old.items) }
 {

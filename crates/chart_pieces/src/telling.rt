@@ -31,7 +31,7 @@ fn tell_until(
 ) -> Result<usize, NoMemory>
     requires keyed { map (λ l. l.number) table.old.items ≡ places.now }
     ensures told { IfOk result (λ n. table.new.items ≡ map
-        (lines.line_all window.now (map moments.moment_of (take n happened.now))) table.old.items) }
+        (lines.bars_all window.now (map moments.moment_of (take n happened.now))) table.old.items) }
     ensures count { IfOk result (λ n. n ≡ prefix_len (λ h. nat_le h.time time) happened.now) }
 {
     let mut count = 0;
@@ -54,7 +54,7 @@ fn tell_all(
 ) -> Result<(), NoMemory>
     requires keyed { map (λ l. l.number) table.old.items ≡ places.now }
     ensures { OnOk result (table.new.items ≡ map
-        (lines.line_all window.now (map moments.moment_of happened.now)) table.old.items) }
+        (lines.bars_all window.now (map moments.moment_of happened.now)) table.old.items) }
 {
     for entry in happened {
         tell(table, places, window, &moment_of(entry))?;
@@ -71,7 +71,7 @@ fn tell_leaving(
 ) -> Result<(), NoMemory>
     requires keyed { map (λ l. l.number) table.old.items ≡ places.now }
     ensures { OnOk result (table.new.items ≡ map
-        (lines.line_all window.now (moments.leaving switch.now switch.now.prev)) table.old.items) }
+        (lines.bars_all window.now (moments.leaving switch.now switch.now.prev)) table.old.items) }
 {
     match switch.prev() {
         None => Ok(()),
@@ -100,7 +100,7 @@ fn tell_coming(
 ) -> Result<(), NoMemory>
     requires keyed { map (λ l. l.number) table.old.items ≡ places.now }
     ensures { OnOk result (table.new.items ≡ map
-        (lines.line_all window.now (moments.coming switch.now switch.now.next)) table.old.items) }
+        (lines.bars_all window.now (moments.coming switch.now switch.now.next)) table.old.items) }
 {
     match switch.next() {
         None => Ok(()),
@@ -126,7 +126,7 @@ fn tell_switch(
 ) -> Result<(), NoMemory>
     requires keyed { map (λ l. l.number) table.old.items ≡ places.now }
     ensures { OnOk result (table.new.items ≡ map
-        (lines.line_all window.now (moments.moments_by switch.now)) table.old.items) }
+        (lines.bars_all window.now (moments.moments_by switch.now)) table.old.items) }
 {
     tell_leaving(table, places, window, switch)?;
     tell_coming(table, places, window, switch)
@@ -142,7 +142,7 @@ pub(crate) fn tell_moments(
 ) -> Result<(), NoMemory>
     requires keyed { map (λ l. l.number) table.old.items ≡ places.now }
     ensures { OnOk result (table.new.items ≡ map
-        (lines.line_all window.now (moments.moments happened.now switches.now)) table.old.items) }
+        (lines.bars_all window.now (moments.moments happened.now switches.now)) table.old.items) }
 {
     let mut from = 0;
     for switch in switches {

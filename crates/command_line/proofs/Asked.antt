@@ -9,21 +9,21 @@ use Rattle.clap.specs.declared.parser.matches.ArgMatches.{ArgMatches}
 use Rattle.clap.specs.declared.parser.matches.ArgMatches.TheViews.{out-ArgMatches, out-SubCommand}
 use Rattle.clap.specs.declared.parser.matches.SubCommand.{SubCommand}
 use Rattle.command_line.specs.Commands.{program_app}
-use Rattle.command_line.specs.Reading.{HasTextsOfReplay, HasTextsOfRun, IsReading}
-use Rattle.command_line.specs.Tasks.{IsAsked, IsAskedBy, IsMeant, IsRefusedBy, IsTaskOf, IsWrong, name_of}
+use Rattle.command_line.specs.Reading.{HasTextsOfReplay, HasTextsOfRun, ReadsWords}
+use Rattle.command_line.specs.Tasks.{IsAsked, IsAskedBy, IsMeant, IsRefusedBy, IsTaskOf, IsWrong, command_name}
 use Rattle.command_line.specs.declared.words.Task.{Task}
 use Rattle.command_line.specs.declared.words.Wrong.{Wrong}
 use Rattle.command_line.specs.declared.words.Wrong.TheVariants as wrong
 
-name_in : {Z : Type 0} (o : Option (Box SubCommand Z)) → name_of (subcommand_rows o) ≡ option_map (λ b. (out-SubCommand (box_value b)).name.now) o
+name_in : {Z : Type 0} (o : Option (Box SubCommand Z)) → command_name (subcommand_rows o) ≡ option_map (λ b. (out-SubCommand (box_value b)).name.now) o
 name_in None = refl
 name_in (Some b) = refl
 
 -- the name of the command with what is found there
-pub name_found : (m : ArgMatches) → name_of (subcommand_rows_of m) ≡ subcommand_name_of m
+pub name_found : (m : ArgMatches) → command_name (subcommand_rows_of m) ≡ subcommand_name_of m
 name_found m = name_in (out-ArgMatches m).subcommand
 
-both_parts : (o : Option (Text × List Row)) (name : Text) (rows : List Row) → name_of o ≡ Some name → option_map (λ p. p.1) o ≡ Some rows → o ≡ Some (name, rows)
+both_parts : (o : Option (Text × List Row)) (name : Text) (rows : List Row) → command_name o ≡ Some name → option_map (λ p. p.1) o ≡ Some rows → o ≡ Some (name, rows)
 both_parts None name rows is found = absurd (true≢false (sym (ap is_some is)))
 both_parts (Some p) name rows is found = ap₂ (λ (n : Text) (rs : List Row). Some (n, rs)) (ap (λ (o : Option Text). unwrap_or o name) is) (ap (λ (o : Option (List Row)). unwrap_or o rows) found)
 
@@ -37,9 +37,9 @@ pub rows_found : (m : ArgMatches) (name : Text) (mine rows : List Row) → subco
 rows_found m name mine rows is found = ap (λ (o : Option (List Row)). unwrap_or o rows) (sym found ∙ ap (option_map (λ p. p.1)) is)
 
 pub not_found : (m : ArgMatches) (name : Text) (rows : List Row) → subcommand_rows_of m ≡ Some (name, rows) → subcommand_name_of m ≡ Some name
-not_found m name rows is = sym (name_found m) ∙ ap name_of is
+not_found m name rows is = sym (name_found m) ∙ ap command_name is
 
-pub of_error : (words : List Text) (e : Error) → IsReading words (Err e) → IsAskedBy words (Err (wrong.Clap e))
+pub of_error : (words : List Text) (e : Error) → ReadsWords words (Err e) → IsAskedBy words (Err (wrong.Clap e))
 of_error words e read = record { run = read.run; replay = read.replay; are_held = read.are_held; named = tt; meant = tt; taken = tt; taken_by_replay = tt; wrong = read.refused }
 
 is_wrong : (app : App) (words : List Text) (w : Wrong) → IsRefusedBy (subcommand_of app words) w → IsWrong app words w
@@ -49,7 +49,7 @@ is_wrong app words (wrong.Clap e) (inr (inr r)) = absurd r.2
 is_wrong app words (wrong.Options fault) refused = refused
 is_wrong app words wrong.BothStdin refused = refused
 
-pub of_wrong : (words : List Text) (m : ArgMatches) (w : Wrong) → IsReading words (Ok m) → IsRefusedBy (subcommand_rows_of m) w
+pub of_wrong : (words : List Text) (m : ArgMatches) (w : Wrong) → ReadsWords words (Ok m) → IsRefusedBy (subcommand_rows_of m) w
     → IsAskedBy words (Err w)
 of_wrong words m w read refused = record {
   run = read.run;
@@ -62,13 +62,13 @@ of_wrong words m w read refused = record {
   wrong = is_wrong (program_app read.run read.replay) words w (subst (λ (command : Option (Text × List Row)). IsRefusedBy command w) read.found refused);
 }
 
-pub of_task : (words : List Text) (m : ArgMatches) (task : Task) → IsReading words (Ok m) → HasTextsOfRun m → HasTextsOfReplay m → IsTaskOf (subcommand_name_of m) task
+pub of_task : (words : List Text) (m : ArgMatches) (task : Task) → ReadsWords words (Ok m) → HasTextsOfRun m → HasTextsOfReplay m → IsTaskOf (subcommand_name_of m) task
     → IsMeant (subcommand_rows_of m) task → IsAskedBy words (Ok task)
 of_task words m task read texts text named meant = record {
   run = read.run;
   replay = read.replay;
   are_held = read.are_held;
-  named = subst (λ (command : Option (Text × List Row)). IsTaskOf (name_of command) task) read.found
+  named = subst (λ (command : Option (Text × List Row)). IsTaskOf (command_name command) task) read.found
       (subst (λ (name : Option Text). IsTaskOf name task) (sym (name_found m)) named);
   meant = subst (λ (command : Option (Text × List Row)). IsMeant command task) read.found meant;
   taken = λ rows is. texts rows (read.found ∙ is);
@@ -76,7 +76,7 @@ of_task words m task read texts text named meant = record {
   wrong = tt;
 }
 
-pub of_answer : (words : List Text) (m : ArgMatches) (r : Result Task Wrong) → IsReading words (Ok m) → HasTextsOfRun m → HasTextsOfReplay m
+pub of_answer : (words : List Text) (m : ArgMatches) (r : Result Task Wrong) → ReadsWords words (Ok m) → HasTextsOfRun m → HasTextsOfReplay m
     → IfOk r (IsTaskOf (subcommand_name_of m)) → IfOk r (IsMeant (subcommand_rows_of m)) → IfErr r (IsRefusedBy (subcommand_rows_of m)) → IsAskedBy words r
 of_answer words m (Ok task) read texts text named meant refused = of_task words m task read texts text named meant
 of_answer words m (Err w) read texts text named meant refused = of_wrong words m w read refused

@@ -3,7 +3,7 @@ use Rattle.std.proofs.Common.{◌≡◌, ◌∙◌, ℕ, List, Option, Some, Non
 use Rattle.clap.specs.Words.{Row, first_of}
 use Rattle.command_line.specs.Found.{AreSpanWordsAt, IsAskedAt, IsCutBy, IsCutFault, IsPrintAt, IsReplayPrintAt, IsTextAt, print_text, replay_print_text, replay_span_in, span_in}
 use Rattle.chart_pieces.specs.declared.window.Span.{Span}
-use Rattle.run_options.specs.Words.{span_of, uncut}
+use Rattle.run_options.specs.Words.{span_of, no_part_asked}
 use Rattle.run_options.specs.declared.words.SpanWords.{SpanWords}
 use Rattle.run_options.specs.declared.words.WordsFault.{WordsFault}
 use Rattle.run_options.specs.declared.options.Print.{Print}
@@ -76,7 +76,7 @@ chart_fault rows text words fault read at_words is refused = record {
 
 -- a part is asked for beside another text
 pub other_fault : (rows : List Row) (text : List ℕ) (words : SpanWords) (fault : WordsFault) → IsTextAt rows (codes "print") text → AreSpanWordsAt rows words
-    → (text ≡ codes "chart" → ⊥) → uncut words ≡ Err fault → IsCutFault rows fault
+    → (text ≡ codes "chart" → ⊥) → no_part_asked words ≡ Err fault → IsCutFault rows fault
 other_fault rows text words fault read at_words differs refused = record {
   words = words;
   are_found = at_words;
@@ -108,7 +108,7 @@ pub record IsOther (text : List ℕ) : Type 0 where
   pub summary : text ≡ codes "summary" → ⊥
 
 pub print_other : (rows : List Row) (text : List ℕ) (words : SpanWords) → IsTextAt rows (codes "print") text → AreSpanWordsAt rows words
-    → (text ≡ codes "calls" → ⊥) → IsOther text → uncut words ≡ Ok tt → IsPrintAt rows prints.Trace
+    → (text ≡ codes "calls" → ⊥) → IsOther text → no_part_asked words ≡ Ok tt → IsPrintAt rows prints.Trace
 print_other rows text words read at_words calls differs cut = other print_text span_in prints.Trace rows text words read at_words go cut
   where
     go : (p : Print) → text ≡ print_text p → codes "trace" ≡ print_text p
@@ -135,7 +135,7 @@ pub replay_print_named : (rows : List Row) (text : List ℕ) (words : SpanWords)
 replay_print_named = named replay_print_text replay_span_in replay_prints.Trace (λ p is. replay_print_some p (ap length is))
 
 pub replay_print_other : (rows : List Row) (text : List ℕ) (words : SpanWords) → IsTextAt rows (codes "print") text → AreSpanWordsAt rows words
-    → IsOther text → uncut words ≡ Ok tt → IsReplayPrintAt rows replay_prints.Trace
+    → IsOther text → no_part_asked words ≡ Ok tt → IsReplayPrintAt rows replay_prints.Trace
 replay_print_other rows text words read at_words differs cut = other replay_print_text replay_span_in replay_prints.Trace rows text words read at_words go cut
   where
     go : (p : ReplayPrint) → text ≡ replay_print_text p → codes "trace" ≡ replay_print_text p

@@ -17,7 +17,7 @@ use Rattle.clap.specs.declared.error.Error.{Error}
 use Rattle.clap.specs.declared.error.kind.ErrorKind.TheVariants.{OutOfMemory}
 use Rattle.clap.specs.declared.parser.matches.ArgMatches.{ArgMatches}
 use Rattle.command_line.specs.Commands.{AreHeld, AreTexts, HeldNames, program_app, replay_texts, run_texts}
-use Rattle.command_line.specs.Reading.{HasNumber, HasReplayTexts, HasTexts, HasTextsOfReplay, HasTextsOfRun, IsMomentIfAny, IsOneAt, IsReading}
+use Rattle.command_line.specs.Reading.{HasNumber, HasReplayTexts, HasTexts, HasTextsOfReplay, HasTextsOfRun, IsMomentIfAny, IsOneAt, ReadsWords}
 use Rattle.command_line.proofs.Passed.{HasPassing, HasPassingIfAny, IsKnown, found_has, level_has, level_may, neither, or_cases}
 
 abbrev app : HeldNames → HeldNames → App
@@ -201,16 +201,16 @@ found_at run replay named P each words rows is e =
     at_stop a named P each stop rows is (neither _ _ past_walk.1).0
 
 -- what was read has them
-pub reading_has : (words : List Text) (r : Result ArgMatches Error) → IsReading words r → IfOk r HasTextsOfRun
+pub reading_has : (words : List Text) (r : Result ArgMatches Error) → ReadsWords words r → IfOk r HasTextsOfRun
 reading_has words (Ok m) reading = λ rows is. found_at reading.run reading.replay (codes "run") HasTexts (each_run reading.run reading.replay reading.are_held) words rows (sym reading.found ∙ is) reading.refused
 reading_has words (Err e) reading = tt
 
-pub reading_has_replay : (words : List Text) (r : Result ArgMatches Error) → IsReading words r → IfOk r HasTextsOfReplay
+pub reading_has_replay : (words : List Text) (r : Result ArgMatches Error) → ReadsWords words r → IfOk r HasTextsOfReplay
 reading_has_replay words (Ok m) reading = λ rows is. found_at reading.run reading.replay (codes "replay") HasReplayTexts (each_replay reading.run reading.replay reading.are_held) words rows (sym reading.found ∙ is) reading.refused
 reading_has_replay words (Err e) reading = tt
 
 -- words are read where memory runs out before them
-pub refused_for_memory : (words : List Text) (e : Error) → kind_of e ≡ OutOfMemory → IsReading words (Err e)
+pub refused_for_memory : (words : List Text) (e : Error) → kind_of e ≡ OutOfMemory → ReadsWords words (Err e)
 refused_for_memory words e is = record {
   run = record { ref_ptr = (0, 0); now = map held run_texts };
   replay = record { ref_ptr = (0, 0); now = map held replay_texts };

@@ -41,8 +41,8 @@ option name default =
     record (new_rule name) { long = Some name; value_names = 1; defaults = default ∷ [] }
 
 -- an option that takes a number from 1 to the most
-abbrev pub counted : Text → ℕ → Text → Rule
-counted name most default = record (option name default) { parser = Some (Unsigned 1 most) }
+abbrev pub count_option : Text → ℕ → Text → Rule
+count_option name most default = record (option name default) { parser = Some (Unsigned 1 most) }
 
 -- `--print`, with the names that it takes
 abbrev pub print_option : HeldNames → Rule
@@ -53,22 +53,22 @@ abbrev pub flag : Text → Rule
 flag name = record (new_rule name) { long = Some name; action = Some SetTrue }
 
 -- an option whose value passes a test, and which has no default
-abbrev pub tested : Text → ValueParser → Rule
-tested name test =
+abbrev pub tested_option : Text → ValueParser → Rule
+tested_option name test =
     record (new_rule name) { long = Some name; value_names = 1; parser = Some test }
 
 -- a time of a run, in microseconds
 abbrev pub moment : Text → Rule
-moment name = tested name (Unsigned 0 4398046511104)
+moment name = tested_option name (Unsigned 0 4398046511104)
 
 -- the options of `run`
 abbrev pub run_options : HeldNames → List Rule
 run_options names =
     option (codes "domains") (codes "1")
-    ∷ counted (codes "rt-runtime") 1000000000 (codes "950000")
-    ∷ counted (codes "rt-period") 1000000000 (codes "1000000")
-    ∷ counted (codes "clients") 64 (codes "1")
-    ∷ counted (codes "workers") 8 (codes "1")
+    ∷ count_option (codes "rt-runtime") 1000000000 (codes "950000")
+    ∷ count_option (codes "rt-period") 1000000000 (codes "1000000")
+    ∷ count_option (codes "clients") 64 (codes "1")
+    ∷ count_option (codes "workers") 8 (codes "1")
     ∷ flag (codes "reclaim")
     ∷ print_option names
     ∷ moment (codes "from")
@@ -97,8 +97,8 @@ abbrev pub compare_options : List Rule
 compare_options =
     file (codes "MODEL") ∷ file (codes "RECORDED")
     ∷ record (option (codes "within") (codes "1000")) { parser = Some (Unsigned 0 1000000000) }
-    ∷ tested (codes "noise") (Unsigned 0 1000000000)
-    ∷ tested (codes "shift") (Signed (neg_ℤ (pos (2 ^ 60))) (pos (2 ^ 60)))
+    ∷ tested_option (codes "noise") (Unsigned 0 1000000000)
+    ∷ tested_option (codes "shift") (Signed (neg_ℤ (pos (2 ^ 60))) (pos (2 ^ 60)))
     ∷ flag (codes "cpus")
     ∷ []
 
@@ -114,7 +114,7 @@ program_app run replay =
     with_subcommand both compare_app.top
 
 -- clap's command is `dlsim run`
-pub record IsRun (c : Command) : Type 0 where
+pub record IsRunCommand (c : Command) : Type 0 where
   pub names : HeldNames
   pub are_texts : AreTexts run_texts names
   pub app : app_of c ≡ run_app names

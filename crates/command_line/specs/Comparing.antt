@@ -34,8 +34,8 @@ abbrev pub IsOptionalAt : List Row → List ℕ → Option ℕ → Type 0
 IsOptionalAt rows name n = (o : Option ℕ) × IsReadAt rows name o × (n ≡ option_map cut o)
 
 -- how far two clocks may be said to be apart
-abbrev pub IsShift : ℤ → Type 0
-IsShift us = (neg_ℤ (pos (2 ^ 60)) ≤ℤ us) × (us ≤ℤ pos (2 ^ 60))
+abbrev pub IsShiftWord : ℤ → Type 0
+IsShiftWord us = (neg_ℤ (pos (2 ^ 60)) ≤ℤ us) × (us ≤ℤ pos (2 ^ 60))
 
 -- the text is a sign, where it has one, and decimal digits that write the number, which fits 64
 -- bits
@@ -57,13 +57,13 @@ pub record IsShiftAt (rows : List Row) (name : List ℕ) (shift : Option ℤ) : 
   pub read : Option ℤ
   pub at : IsSignedAt rows name read
   pub none : read ≡ None → shift ≡ None
-  pub some : (v : ℤ) → read ≡ Some v → IsShift v → shift ≡ Some v
+  pub some : (v : ℤ) → read ≡ Some v → IsShiftWord v → shift ≡ Some v
 
 -- the numbers are within their limits
 pub record AreFit (o : CompareOptions) : Type 0 where
   pub within : o.within ≤ 1000000000
   pub noise : IfSome o.noise (λ us. us ≤ 1000000000)
-  pub shift : IfSome o.shift IsShift
+  pub shift : IfSome o.shift IsShiftWord
 
 -- each number, and the flag, is that of its own name
 pub record AreOptionsAt (rows : List Row) (o : CompareOptions) : Type 0 where

@@ -3,7 +3,7 @@ use Rattle.std.specs.Prelude.{◌≡◌, ◌≢◌, ◌⊎◌, ◌<◌, ◌^◌,
 use Rattle.std.specs.Str.Parse.{IsNumeral, digits_value, without_leading_plus}
 use Rattle.clap.specs.Words.{Row, first_of, one_of}
 use Rattle.chart_pieces.specs.declared.window.Span.{Span}
-use Rattle.run_options.specs.Words.{AreMeant, IsWordsFault, span_of, uncut}
+use Rattle.run_options.specs.Words.{AreMeant, IsWordsFault, span_of, no_part_asked}
 use Rattle.run_options.specs.declared.options.Options.{Options}
 use Rattle.run_options.specs.declared.options.Print.{Print}
 use Rattle.run_options.specs.declared.options.Print.TheVariants as prints
@@ -15,7 +15,7 @@ use Rattle.run_options.specs.declared.words.WordsFault.{WordsFault}
 
 -- the text is decimal digits that write the number, which is below 2^64; zeros may stand before
 -- them, and before these a plus
-pub record Spells (text : List ℕ) (number : ℕ) : Type 0 where
+pub record SpellsNumber (text : List ℕ) (number : ℕ) : Type 0 where
   pub digits : IsNumeral 10 (without_leading_plus text)
   pub value : digits_value 10 (without_leading_plus text) ≡ number
   pub small : number < 2 ^ 64
@@ -24,15 +24,17 @@ pub record Spells (text : List ℕ) (number : ℕ) : Type 0 where
 -- is no text or it spells no number
 pub record IsNumberAt (rows : List Row) (name : List ℕ) (most n : ℕ) : Type 0 where
   pub absent : one_of name rows ≡ None → n ≡ 1
-  pub spelled : (text : List ℕ) (v : ℕ) → one_of name rows ≡ Some text → Spells text v
+  pub spelled : (text : List ℕ) (v : ℕ) → one_of name rows ≡ Some text → SpellsNumber text v
       → n ≡ min (max v 1) most
-  pub other : (text : List ℕ) → one_of name rows ≡ Some text → ((v : ℕ) → Spells text v → ⊥) → n ≡ 1
+  pub other : (text : List ℕ) → one_of name rows ≡ Some text → ((v : ℕ) → SpellsNumber text v → ⊥)
+      → n ≡ 1
 
 -- the number that an option's text spells; none where there is no text, or it spells no number
 pub record IsReadAt (rows : List Row) (name : List ℕ) (o : Option ℕ) : Type 0 where
   pub absent : one_of name rows ≡ None → o ≡ None
-  pub spelled : (text : List ℕ) (v : ℕ) → one_of name rows ≡ Some text → Spells text v → o ≡ Some v
-  pub other : (text : List ℕ) → one_of name rows ≡ Some text → ((v : ℕ) → Spells text v → ⊥)
+  pub spelled : (text : List ℕ) (v : ℕ) → one_of name rows ≡ Some text → SpellsNumber text v
+      → o ≡ Some v
+  pub other : (text : List ℕ) → one_of name rows ≡ Some text → ((v : ℕ) → SpellsNumber text v → ⊥)
       → o ≡ None
 
 -- the words that say which part of a run is drawn
@@ -43,7 +45,7 @@ pub record AreSpanWordsAt (rows : List Row) (words : SpanWords) : Type 0 where
 -- a chart shows the part that these words ask for, and beside another text they ask for none
 abbrev pub IsCutBy : SpanWords → Option Span → Type 0
 IsCutBy words (Some span) = span_of words ≡ Ok span
-IsCutBy words None = uncut words ≡ Ok tt
+IsCutBy words None = no_part_asked words ≡ Ok tt
 
 -- what is printed: the text at `print` asks for it, each by a text of its own; and where that asks
 -- for nothing, this one. A chart is of that part
@@ -61,7 +63,7 @@ pub record IsCutFault (rows : List Row) (fault : WordsFault) : Type 0 where
   pub words : SpanWords
   pub are_found : AreSpanWordsAt rows words
   pub chart : first_of (codes "print") rows ≡ Some (codes "chart") → span_of words ≡ Err fault
-  pub other : first_of (codes "print") rows ≢ Some (codes "chart") → uncut words ≡ Err fault
+  pub other : first_of (codes "print") rows ≢ Some (codes "chart") → no_part_asked words ≡ Err fault
 
 -- the texts that ask for what is printed of a run
 abbrev pub print_text : Print → List ℕ
@@ -138,5 +140,5 @@ pub record AreFaulty (rows : List Row) (fault : WordsFault) : Type 0 where
   pub are_found : AreFound rows words
   pub is_fault : IsWordsFault words fault
 
-abbrev pub IsFaultOf : List Row → WordsFault → Type 0
-IsFaultOf rows fault = IsCutFault rows fault ⊎ AreFaulty rows fault
+abbrev pub IsFaultOfRows : List Row → WordsFault → Type 0
+IsFaultOfRows rows fault = IsCutFault rows fault ⊎ AreFaulty rows fault

@@ -43,7 +43,7 @@ pub record HasReplayTexts (rows : List Row) : Type 0 where
 -- the command that the words name and what is found for each of its options are what clap's rules
 -- give for the words, of which the first is the program's name; where it is refused, clap's rules
 -- refuse the words so, or memory ran out
-pub record IsReading (words : List Text) (r : Result ArgMatches Error) : Type 0 where
+pub record ReadsWords (words : List Text) (r : Result ArgMatches Error) : Type 0 where
   pub run : HeldNames
   pub replay : HeldNames
   pub are_held : AreHeld run replay

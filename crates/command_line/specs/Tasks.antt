@@ -6,7 +6,7 @@ use Rattle.command_line.specs.Reading.{HasReplayTexts, HasTexts}
 use Rattle.run_options.specs.Options.{AreOptions}
 use Rattle.run_options.specs.declared.words.WordsFault.TheVariants.{Memory}
 use Rattle.command_line.specs.Comparing.{IsComparisonAt, IsWithItself, shares_stdin, AreFit}
-use Rattle.command_line.specs.Found.{AreMeantBy, IsCutFault, IsFaultOf, IsReplayPrintAt}
+use Rattle.command_line.specs.Found.{AreMeantBy, IsCutFault, IsFaultOfRows, IsReplayPrintAt}
 use Rattle.command_line.specs.declared.words.Task.{Task}
 use Rattle.command_line.specs.declared.words.Task.TheVariants.{Compare, Replay, Run}
 use Rattle.command_line.specs.declared.words.Wrong.{Wrong}
@@ -31,8 +31,8 @@ IsTaskOf command (Compare comparison) = command ≡ Some (codes "compare")
 abbrev pub Command : Type 0
 Command = Option (Text × List Row)
 
-abbrev pub name_of : Command → Option Text
-name_of = option_map (λ command. command.0)
+abbrev pub command_name : Command → Option Text
+command_name = option_map (λ command. command.0)
 
 -- a run, with the options that the words at the options of `run` mean
 abbrev pub IsRunBy : List Row → Task → Type 0
@@ -63,7 +63,7 @@ IsMeant command (Compare comparison) =
 
 -- what is wrong with the words at the options of `run`: they mean no options, for this reason
 abbrev pub IsRunRefusedBy : List Row → Wrong → Type 0
-IsRunRefusedBy rows (wrong.Options fault) = IsFaultOf rows fault
+IsRunRefusedBy rows (wrong.Options fault) = IsFaultOfRows rows fault
 IsRunRefusedBy rows (wrong.Clap error) = ⊥
 IsRunRefusedBy rows wrong.BothStdin = ⊥
 
@@ -104,7 +104,7 @@ pub record IsAskedBy (words : List Text) (r : Result Task Wrong) : Type 0 where
   pub run : HeldNames
   pub replay : HeldNames
   pub are_held : AreHeld run replay
-  pub named : IfOk r (IsTaskOf (name_of (subcommand_of (program_app run replay) words)))
+  pub named : IfOk r (IsTaskOf (command_name (subcommand_of (program_app run replay) words)))
   pub meant : IfOk r (IsMeant (subcommand_of (program_app run replay) words))
   pub taken : IfOk r
       (λ task. (rows : List Row)

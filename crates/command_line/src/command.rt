@@ -3,8 +3,8 @@
 ghost use Rattle.std.specs.Prelude.{◌≡◌, ◌<◌, ◌+◌, [], ◌∷◌, IfOk, OnOk, Some, false, fold, map, vec_capacity, vec_len};
 ghost use Rattle.clap.specs.declared.builder.command.Command.{Command};
 ghost use Rattle.clap.specs.Words.{new_app, rule_of, with_rule};
-ghost use Rattle.command_line.specs.Commands.{AreTexts, IsCompare, IsProgram, IsReplay, IsRun, compare_options, file, flag, option, replay_options, replay_texts, run_options, run_texts, tested};
-ghost use Rattle.command_line.specs.private.Made.{Adds, AreInTurn, IsMade, IsOption, names_in, of_choice};
+ghost use Rattle.command_line.specs.Commands.{AreTexts, IsCompare, IsProgram, IsReplay, IsRunCommand, compare_options, file, flag, option, replay_options, replay_texts, run_options, run_texts, tested_option};
+ghost use Rattle.command_line.specs.private.Made.{AddsOne, AreInTurn, IsChoiceMade, IsOption, names_of_choices, of_choice};
 
 use crate::texts::{
     ABOUT, ABOUT_END, CLIENTS_HELP, COMPARE_ABOUT, COMPARE_END, CPUS_HELP, DOMAINS_HELP, FROM_HELP,
@@ -179,7 +179,7 @@ fn file<'a>(alloc: Global, name: &'a str, help: &'a str) -> Arg<'a>
 
 /// An option whose value passes a test, and which has no default.
 fn tested<'a>(alloc: Global, name: &'a str, test: ValueParser<'a>, help: &'a str) -> Arg<'a>
-    ensures rule { rule_of result ≡ tested name.now test.entry }
+    ensures rule { rule_of result ≡ tested_option name.now test.entry }
     ensures local { result.global ≡ false }
 {
     Arg::new(alloc, name)
@@ -217,16 +217,16 @@ fn all_made<'a>(alloc: Global, choices: &[Choice<'a>]) -> Result<Vec<Arg<'a>>, A
 
 /// What `run` may be told.
 fn run_choices() -> &'static [Choice<'static>]
-    ensures texts { AreTexts run_texts (names_in result.now) }
-    ensures rules { map of_choice result.now ≡ run_options (names_in result.now) }
+    ensures texts { AreTexts run_texts (names_of_choices result.now) }
+    ensures rules { map of_choice result.now ≡ run_options (names_of_choices result.now) }
 {
     &RUN_CHOICES
 }
 
 /// What `replay` may be told.
 fn replay_choices() -> &'static [Choice<'static>]
-    ensures texts { AreTexts replay_texts (names_in result.now) }
-    ensures rules { map of_choice result.now ≡ replay_options (names_in result.now) }
+    ensures texts { AreTexts replay_texts (names_of_choices result.now) }
+    ensures rules { map of_choice result.now ≡ replay_options (names_of_choices result.now) }
 {
     &REPLAY_CHOICES
 }
@@ -248,8 +248,8 @@ fn add_command<'a>(
     choices: &[Choice<'a>],
 ) -> Result<(), AllocError>
     requires room { vec_len commands.old < vec_capacity commands.old }
-    ensures added { OnOk result (Adds
-        (λ made. IsMade made (fold with_rule (new_app name.now) (map of_choice choices.now)))
+    ensures added { OnOk result (AddsOne
+        (λ made. IsChoiceMade made (fold with_rule (new_app name.now) (map of_choice choices.now)))
         commands.old.items commands.new.items) }
     ensures len { OnOk result (vec_len commands.new ≡ vec_len commands.old + 1) }
     ensures capacity { vec_capacity commands.new ≡ vec_capacity commands.old }
@@ -265,7 +265,8 @@ fn add_command<'a>(
 
 /// The three commands, in the order of the help.
 fn subcommands<'a>(alloc: Global) -> Result<Vec<Command<'a>>, AllocError>
-    ensures { IfOk result (λ made. (run replay compare : Command) × IsRun run × IsReplay replay
+    ensures { IfOk result
+        (λ made. (run replay compare : Command) × IsRunCommand run × IsReplay replay
         × IsCompare compare × (made.items ≡ run ∷ replay ∷ compare ∷ [])) }
 {
     let mut all = Vec::with_capacity(alloc, 3)?;

@@ -2,10 +2,10 @@
 
 ghost use Rattle.std.specs.Prelude.{◌≡◌, ◌≤◌, IfOk, IfSome, codes};
 ghost use Rattle.clap.specs.Words.{found_of, rows_of};
-ghost use Rattle.command_line.specs.Comparing.{AreFit, AreOptionsAt, IsComparisonAt, IsOptionalAt, IsShift, IsShiftAt, IsSignedAt, IsSource, IsTimeAt, cut, shares_stdin};
+ghost use Rattle.command_line.specs.Comparing.{AreFit, AreOptionsAt, IsComparisonAt, IsOptionalAt, IsShiftWord, IsShiftAt, IsSignedAt, IsSource, IsTimeAt, cut, shares_stdin};
 
 use crate::command::{LEAST_SHIFT, MOST_SHIFT, MOST_TIME};
-use crate::words::{read_at, text_of};
+use crate::found::{read_at, text_of};
 use clap::ArgMatches;
 use compare_report::CompareOptions;
 use std::alloc::{AllocError, Global};
@@ -80,7 +80,7 @@ fn noise_of(found: &ArgMatches<'_>) -> Option<u32>
 
 /// The number at `shift`, within 2^60 to either side, where it is there.
 fn shift_of(found: &ArgMatches<'_>) -> Option<i64>
-    ensures within { IfSome result IsShift }
+    ensures within { IfSome result IsShiftWord }
     ensures found { IsShiftAt (rows_of (found_of found.now)) (codes "shift") result }
 {
     match signed_at(found, "shift") {

@@ -7,14 +7,15 @@
 //! the reasons of these rules alone. [`task_in`] reads what words mean off these matches. It meets
 //! the definitions of what the texts at the options mean (`specs/Found.antt`; of `compare`,
 //! `specs/Comparing.antt`) and of what is asked for (`specs/Tasks.antt`). [`read_words`] is that of
-//! the words of the process, which no contract can name: of it is promised that a run, a replay or a
-//! comparison may be made with what it gives. Nothing here reads or writes files, and an error's
+//! the words of the process, which no contract can name: of it is promised that a run, a replay or
+//! a comparison may be made with what it gives. Nothing here reads or writes files, and an error's
 //! text is printed by the caller. Nor does anything know of a session, so that this crate is not
 //! proved behind one.
 #![tactic(auto)]
 
 mod command;
 mod comparison;
+mod found;
 mod reading;
 mod texts;
 mod words;

@@ -3,7 +3,7 @@
 ghost use Rattle.std.specs.Prelude.{◌≡◌, IfOk, map, string_bytes};
 ghost use Rattle.clap.specs.Words.{kind_of};
 ghost use Rattle.clap.specs.declared.error.kind.ErrorKind.TheVariants.{InvalidValue};
-ghost use Rattle.command_line.specs.Reading.{HasTextsOfReplay, HasTextsOfRun, IsReading};
+ghost use Rattle.command_line.specs.Reading.{HasTextsOfReplay, HasTextsOfRun, ReadsWords};
 
 use crate::command::program;
 use clap::error::ErrorKind;
@@ -19,7 +19,7 @@ use std::alloc::{AllocError, Global};
 /// its value or has one that it does not take; of no command; of `--help` and `help`, which are
 /// errors too; [`ErrorKind::OutOfMemory`] where a growth was refused.
 pub fn matches_of<'a>(alloc: Global, words: &'a [String]) -> Result<ArgMatches<'a>, Error>
-    ensures reading { IsReading (map string_bytes words.now) result }
+    ensures reading { ReadsWords (map string_bytes words.now) result }
     ensures texts { IfOk result HasTextsOfRun }
     ensures replay_texts { IfOk result HasTextsOfReplay }
 {

@@ -3,11 +3,12 @@
 ghost use Rattle.std.specs.Prelude.{◌<◌, ◌≤◌, IfErr, IfOk, map, string_bytes};
 ghost use Rattle.clap.specs.Words.{found_of, rows_of, subcommand_name_of, subcommand_rows_of};
 ghost use Rattle.run_options.specs.Options.{AreOptions};
-ghost use Rattle.command_line.specs.Found.{AreFound, AreMeantBy, AreSpanWordsAt, IsCutFault, IsFaultOf, IsNumberAt, IsPrintAt, IsReadAt, IsReplayPrintAt, IsTextAt};
+ghost use Rattle.command_line.specs.Found.{AreFound, AreMeantBy, AreSpanWordsAt, IsCutFault, IsFaultOfRows, IsPrintAt, IsReplayPrintAt};
 ghost use Rattle.command_line.specs.Tasks.{IsAsked, IsAskedBy, IsComparisonBy, IsComparisonRefusedBy, IsFit, IsMeant, IsRefusedBy, IsReplayBy, IsReplayRefusedBy, IsRunBy, IsRunRefusedBy, IsTaskOf};
 
 use crate::command::{MOST_CLIENTS, MOST_TIME, MOST_WORKERS};
 use crate::comparison::{Comparison, comparison_of, shares_stdin};
+use crate::found::{number, read_at, text_of};
 use crate::reading::{matches_of, not_utf8};
 use clap::{ArgMatches, Error};
 use run_options::{
@@ -64,33 +65,6 @@ impl From<WordsFault> for Wrong {
 
     fn from(fault: WordsFault) -> Wrong {
         Wrong::Options(fault)
-    }
-}
-
-/// The number at an option, from 1 on. Clap has tested it, and knows its default.
-fn number(found: &ArgMatches<'_>, name: &str, most: u64) -> u64
-    requires { 1 ≤ most }
-    ensures some { 0 < result }
-    ensures most { result ≤ most }
-    ensures found { IsNumberAt (rows_of (found_of found.now)) name.now most result }
-{
-    found.get_one::<u64>(name).unwrap_or(1).clamp(1, most)
-}
-
-/// The number at an option, where it has one.
-pub(crate) fn read_at(found: &ArgMatches<'_>, name: &str) -> Option<u64>
-    ensures { IsReadAt (rows_of (found_of found.now)) name.now result }
-{
-    found.get_one::<u64>(name)
-}
-
-/// The text at an option; the empty text where it has none, which clap does not let come.
-pub(crate) fn text_of<'a>(found: &ArgMatches<'a>, name: &str) -> &'a str
-    ensures { IsTextAt (rows_of (found_of found.now)) name.now result.now }
-{
-    match found.get_str(name) {
-        Some(text) => text,
-        None => "",
     }
 }
 
@@ -184,7 +158,7 @@ fn words_of<'a>(found: &ArgMatches<'a>) -> Result<Words<'a>, WordsFault>
 fn options_of(alloc: Global, found: &ArgMatches<'_>) -> Result<Options, WordsFault>
     ensures sound { IfOk result AreOptions }
     ensures meant { IfOk result (AreMeantBy (rows_of (found_of found.now))) }
-    ensures refused { IfErr result (IsFaultOf (rows_of (found_of found.now))) }
+    ensures refused { IfErr result (IsFaultOfRows (rows_of (found_of found.now))) }
 {
     let words = words_of(found)?;
     read_options(alloc, &words)

@@ -9,17 +9,17 @@ use Rattle.recorded_text.specs.Steps.{step_view}
 use Rattle.recorded_text.specs.Names.{Grows}
 use Rattle.recorded_text.specs.declared.fault.RecordedFault.{RecordedFault}
 use Rattle.recorded_text.specs.declared.fault.RecordedFault.TheVariants as recorded
-use Rattle.recorded_text.specs.Text.{IsRead, IsFault, faults_after, first_bad, switches_in}
-use Rattle.counted_io.specs.Sides.{Side, HasNoFault, HasOneFault}
+use Rattle.recorded_text.specs.Text.{IsRead, IsRecordedFault, recorded_faults_after, first_bad, switches_in}
+use Rattle.counted_io.specs.Sides.{Side, HasNoFault, HasOneFault, IsUntouched}
 use Rattle.compare_report.specs.declared.fault.CompareFault.{CompareFault}
 use Rattle.compare_report.specs.declared.fault.CompareFault.TheVariants.{BadLine, NoSwitch, Read, Endless, Write, Memory}
 use Rattle.compare_report.specs.declared.fault.Input.{Input}
 use Rattle.compare_report.specs.declared.fault.Input.TheVariants.{Model, Recorded}
 use Rattle.compare_report.specs.declared.options.CompareOptions.{CompareOptions}
 use Rattle.compare_report.specs.Reading.{AreReadFrom, pair, ArePair}
-use Rattle.compare_report.specs.Answer.{Streams, IsUntouched, IsWell, HasBadLine, HasNoSwitch, StopsAt, IsFaultOf, IsReportOf}
+use Rattle.compare_report.specs.Answer.{CompareStreams, IsWell, HasBadLine, HasNoSwitch, StopsAt, IsCompareFault, IsReportOf}
 use Rattle.compare_report.specs.Report.{IsReport}
-use Rattle.compare_report.specs.private.Met.{IsTextFault, told_of}
+use Rattle.compare_report.specs.private.Met.{IsTextFault, fault_of_input}
 
 keeps : (o : Option (List ℕ)) → Keeps o o
 keeps None = tt
@@ -53,14 +53,14 @@ no_switch s names steps none h fine =
     }
 
 -- the fault of a reader, told as one of its text
-pub fault_told : (input : Input) (s : Side) (e : RecordedFault) → IfSome s.before.bytes (λ text. IsFault text e) → s.after.faults ≡ faults_after {T = Unit {0}} s.before.faults (Err e) → IsTextFault input s (told_of input e)
+pub fault_told : (input : Input) (s : Side) (e : RecordedFault) → IfSome s.before.bytes (λ text. IsRecordedFault text e) → s.after.faults ≡ recorded_faults_after {T = Unit {0}} s.before.faults (Err e) → IsTextFault input s (fault_of_input input e)
 fault_told input s (recorded.BadLine n) h faults = (refl, record { bad = h; no_fault = faults })
 fault_told input s recorded.Read h faults = (refl, faults)
 fault_told input s recorded.Endless h faults = (refl, faults)
 fault_told input s recorded.Memory h faults = faults
 
 -- a fault of the model's text, and one of the recorded one
-pub of_model : (asked : CompareOptions) (s : Streams) (e : CompareFault) → IsTextFault Model s.model e → IsUntouched s.recorded → IsUntouched s.writer → IsFaultOf asked s e
+pub of_model : (asked : CompareOptions) (s : CompareStreams) (e : CompareFault) → IsTextFault Model s.model e → IsUntouched s.recorded → IsUntouched s.writer → IsCompareFault asked s e
 of_model asked s (BadLine i n) h order unwritten = subst (λ (j : Input). StopsAt j (HasBadLine n) s) (sym h.0) (record { here = h.1; order = order; unwritten = unwritten })
 of_model asked s (NoSwitch i) h order unwritten = subst (λ (j : Input). StopsAt j HasNoSwitch s) (sym h.0) (record { here = h.1; order = order; unwritten = unwritten })
 of_model asked s (Read i) h order unwritten = subst (λ (j : Input). StopsAt j HasOneFault s) (sym h.0) (record { here = h.1; order = order; unwritten = unwritten })
@@ -68,7 +68,7 @@ of_model asked s (Endless i) h order unwritten = subst (λ (j : Input). StopsAt 
 of_model asked s (Write n) h order unwritten = absurd h
 of_model asked s Memory h order unwritten = record { model = h; recorded = order.no_fault; unwritten = unwritten }
 
-pub of_recorded : (asked : CompareOptions) (s : Streams) (e : CompareFault) → IsTextFault Recorded s.recorded e → IsWell s.model → IsUntouched s.writer → IsFaultOf asked s e
+pub of_recorded : (asked : CompareOptions) (s : CompareStreams) (e : CompareFault) → IsTextFault Recorded s.recorded e → IsWell s.model → IsUntouched s.writer → IsCompareFault asked s e
 of_recorded asked s (BadLine i n) h order unwritten = subst (λ (j : Input). StopsAt j (HasBadLine n) s) (sym h.0) (record { here = h.1; order = order; unwritten = unwritten })
 of_recorded asked s (NoSwitch i) h order unwritten = subst (λ (j : Input). StopsAt j HasNoSwitch s) (sym h.0) (record { here = h.1; order = order; unwritten = unwritten })
 of_recorded asked s (Read i) h order unwritten = subst (λ (j : Input). StopsAt j HasOneFault s) (sym h.0) (record { here = h.1; order = order; unwritten = unwritten })
@@ -94,7 +94,7 @@ are_pair one other old new many model recorded is g m r =
     }
 
 -- the report of what was read, under the names that the code has for the parts
-pub report_is : (asked : CompareOptions) (s : Streams) (none old new : List (List ℕ)) (many : ℕ) (model recorded first second : List Step) (text : List ℕ)
+pub report_is : (asked : CompareOptions) (s : CompareStreams) (none old new : List (List ℕ)) (many : ℕ) (model recorded first second : List Step) (text : List ℕ)
     → none ≡ [] → many ≡ length old → Grows old new → first ≡ model → second ≡ recorded
     → AreReadFrom s.model.before.bytes none old model → AreReadFrom s.recorded.before.bytes old new recorded
     → IsReport asked (pair new many first second) text → HasNoFault s.model → HasNoFault s.recorded → IsReportOf asked s text

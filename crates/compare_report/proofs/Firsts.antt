@@ -2,8 +2,8 @@
 use Rattle.std.proofs.Common.{◌≡◌, ℕ, ◌+◌, ◌<◌, ◌≤◌, ⊎_elim, List, length, get_or, sym, ap, ◌∙◌, subst, arith, Option, Some, None, is_some, true≢false, unwrap_or}
 use Rattle.std.proofs.lemmas.Bool.{cases_lt}
 use Rattle.std.proofs.Math.ListN.{get_or-eq_default}
-use Rattle.compare_report.specs.First.{IsFirst}
-use Rattle.compare_report.specs.private.SoFar.{IsLeast, IsSoFar}
+use Rattle.compare_report.specs.First.{IsFirstStart}
+use Rattle.compare_report.specs.private.SoFar.{IsLeastSoFar, IsFirstSoFar}
 
 some_same : (a b : ℕ) → Some a ≡ Some b → a ≡ b
 some_same a b e = ap (λ o. unwrap_or o a) e
@@ -14,7 +14,7 @@ up_to P i before here k lt =
     ⊎_elim (λ less. before k less) (λ more. let same : i ≡ k = omega (arith, more, lt) in subst P same here) (cases_lt k i)
 
 -- no time at the place
-pub none_here : (starts : List (Option ℕ)) (i : ℕ) (found : Option (ℕ × ℕ)) → get_or starts i None ≡ None → IsSoFar starts i found → IsSoFar starts (i + 1) found
+pub none_here : (starts : List (Option ℕ)) (i : ℕ) (found : Option (ℕ × ℕ)) → get_or starts i None ≡ None → IsFirstSoFar starts i found → IsFirstSoFar starts (i + 1) found
 none_here starts i None none was = up_to (λ k. get_or starts k None ≡ None) i was none
 none_here starts i (Some f) none was = record {
   within = omega (arith, was.within);
@@ -25,7 +25,7 @@ none_here starts i (Some f) none was = record {
 }
 
 -- the first time
-pub first_here : (starts : List (Option ℕ)) (i at : ℕ) → get_or starts i None ≡ Some at → IsSoFar starts i None → IsSoFar starts (i + 1) (Some (i, at))
+pub first_here : (starts : List (Option ℕ)) (i at : ℕ) → get_or starts i None ≡ Some at → IsFirstSoFar starts i None → IsFirstSoFar starts (i + 1) (Some (i, at))
 first_here starts i at here was =
     let nothing : (k other : ℕ) → k < i → get_or starts k None ≡ Some other → ⊥ = λ k other less e. true≢false (sym (ap is_some e) ∙ ap is_some (was k less)) in
     record {
@@ -37,7 +37,7 @@ first_here starts i at here was =
     }
 
 -- a time that is no earlier
-pub later_here : (starts : List (Option ℕ)) (i at : ℕ) (f : ℕ × ℕ) → get_or starts i None ≡ Some at → f.1 ≤ at → IsLeast starts i f → IsLeast starts (i + 1) f
+pub later_here : (starts : List (Option ℕ)) (i at : ℕ) (f : ℕ × ℕ) → get_or starts i None ≡ Some at → f.1 ≤ at → IsLeastSoFar starts i f → IsLeastSoFar starts (i + 1) f
 later_here starts i at f here le was = record {
   within = omega (arith, was.within);
   is = was.is;
@@ -47,7 +47,7 @@ later_here starts i at f here le was = record {
 }
 
 -- and one that is
-pub earlier_here : (starts : List (Option ℕ)) (i at : ℕ) (f : ℕ × ℕ) → get_or starts i None ≡ Some at → at < f.1 → IsLeast starts i f → IsLeast starts (i + 1) (i, at)
+pub earlier_here : (starts : List (Option ℕ)) (i at : ℕ) (f : ℕ × ℕ) → get_or starts i None ≡ Some at → at < f.1 → IsLeastSoFar starts i f → IsLeastSoFar starts (i + 1) (i, at)
 earlier_here starts i at f here less was =
     let before : (k other : ℕ) → k < i → get_or starts k None ≡ Some other → at < other = λ k other lt e. let le = was.least k other lt e in omega (arith, le, less) in
     record {
@@ -62,7 +62,7 @@ beyond : (starts : List (Option ℕ)) (k other : ℕ) → get_or starts k None �
 beyond starts k other e = ⊎_elim (λ lt. lt) (λ past. absurd (true≢false (sym (ap is_some e) ∙ ap is_some (get_or-eq_default starts None past)))) (cases_lt k (length starts))
 
 -- of all
-pub of_all : (starts : List (Option ℕ)) (f : ℕ × ℕ) → IsLeast starts (length starts) f → IsFirst starts (Some f.0)
+pub of_all : (starts : List (Option ℕ)) (f : ℕ × ℕ) → IsLeastSoFar starts (length starts) f → IsFirstStart starts (Some f.0)
 of_all starts f is = (
   f.1,
   record {
@@ -73,5 +73,5 @@ of_all starts f is = (
   },
 )
 
-pub of_none : (starts : List (Option ℕ)) → IsSoFar starts (length starts) None → IsFirst starts None
+pub of_none : (starts : List (Option ℕ)) → IsFirstSoFar starts (length starts) None → IsFirstStart starts None
 of_none starts none k = ⊎_elim (λ lt. none k lt) (λ past. get_or-eq_default starts None past) (cases_lt k (length starts))

@@ -1,9 +1,9 @@
 -- What a comparison of two texts answers, and what it leaves (own).
 use Rattle.std.specs.Prelude.{◌≡◌, ℕ, List, [], Some, None, IfSome}
-use Rattle.std.specs.Io.KnownBytes.{Appends, Keeps}
+use Rattle.std.specs.Io.KnownBytes.{Appends}
 use Rattle.recorded_text.specs.declared.step.Step.{Step}
 use Rattle.recorded_text.specs.Text.{first_bad, switches_in}
-use Rattle.counted_io.specs.Sides.{Side, HasNoFault, HasOneFault}
+use Rattle.counted_io.specs.Sides.{Side, HasNoFault, HasOneFault, IsUntouched}
 use Rattle.counted_io.specs.Faults.{TakesFront}
 use Rattle.compare_report.specs.declared.fault.CompareFault.{CompareFault}
 use Rattle.compare_report.specs.declared.fault.CompareFault.TheVariants.{BadLine, NoSwitch, Read, Endless, Write, Memory}
@@ -15,16 +15,17 @@ use Rattle.compare_report.specs.Report.{IsReport}
 
 -- what a comparison met: the readers of both texts and the writer, each before the call and after
 -- it
-pub record Streams : Type 0 where
+pub record CompareStreams : Type 0 where
   pub model : Side
   pub recorded : Side
   pub writer : Side
 
-abbrev pub streams : Side → Side → Side → Streams
-streams model recorded writer = record { model = model; recorded = recorded; writer = writer }
+abbrev pub compare_streams : Side → Side → Side → CompareStreams
+compare_streams model recorded writer =
+    record { model = model; recorded = recorded; writer = writer }
 
 -- the report of the two texts that were read
-pub record IsReportOf (asked : CompareOptions) (s : Streams) (text : List ℕ) : Type 0 where
+pub record IsReportOf (asked : CompareOptions) (s : CompareStreams) (text : List ℕ) : Type 0 where
   pub pair : Pair
   pub read : ArePair s.model.before.bytes s.recorded.before.bytes pair
   pub report : IsReport asked pair text
@@ -32,18 +33,13 @@ pub record IsReportOf (asked : CompareOptions) (s : Streams) (text : List ℕ) :
   pub recorded : HasNoFault s.recorded
 
 -- the report was written, and nothing else
-pub record IsAnswered (asked : CompareOptions) (s : Streams) : Type 0 where
+pub record IsComparisonWritten (asked : CompareOptions) (s : CompareStreams) : Type 0 where
   pub text : List ℕ
   pub report : IsReportOf asked s text
   pub written : Appends s.writer.before.bytes s.writer.after.bytes text
   pub writes : HasNoFault s.writer
 
 -- ---- faults
-
--- no byte came or went, and no call failed
-pub record IsUntouched (s : Side) : Type 0 where
-  pub kept : Keeps s.before.bytes s.after.bytes
-  pub no_fault : HasNoFault s
 
 -- a text was read to its end, and is one of switches
 pub record IsWell (s : Side) : Type 0 where
@@ -63,39 +59,39 @@ pub record HasNoSwitch (s : Side) : Type 0 where
   pub none : IfSome s.before.bytes (λ text. switches_in text ≡ [])
   pub no_fault : HasNoFault s
 
-abbrev pub reader_of : Input → Streams → Side
+abbrev pub reader_of : Input → CompareStreams → Side
 reader_of Model s = s.model
 reader_of Recorded s = s.recorded
 
 -- the model's text is read first, and the recorded one only then
-abbrev pub IsInOrder : Input → Streams → Type 0
+abbrev pub IsInOrder : Input → CompareStreams → Type 0
 IsInOrder Model s = IsUntouched s.recorded
 IsInOrder Recorded s = IsWell s.model
 
 -- reading stopped at a text, of which this holds; nothing was written
-pub record StopsAt (input : Input) (holds : Side → Type 0) (s : Streams) : Type 0 where
+pub record StopsAt (input : Input) (holds : Side → Type 0) (s : CompareStreams) : Type 0 where
   pub here : holds (reader_of input s)
   pub order : IsInOrder input s
   pub unwritten : IsUntouched s.writer
 
 -- the writer failed: exactly so many bytes of the report were taken, and not all
-pub record IsCutOff (asked : CompareOptions) (s : Streams) (written : ℕ) : Type 0 where
+pub record IsReportCutOff (asked : CompareOptions) (s : CompareStreams) (written : ℕ) : Type 0 where
   pub text : List ℕ
   pub report : IsReportOf asked s text
   pub taken : TakesFront s.writer.before.bytes s.writer.after.bytes text written
   pub writes : HasOneFault s.writer
 
 -- memory was refused, and nothing was written
-pub record IsOutOfMemory (s : Streams) : Type 0 where
+pub record IsCompareOutOfMemory (s : CompareStreams) : Type 0 where
   pub model : HasNoFault s.model
   pub recorded : HasNoFault s.recorded
   pub unwritten : IsUntouched s.writer
 
 -- a fault is what was met
-abbrev pub IsFaultOf : CompareOptions → Streams → CompareFault → Type 0
-IsFaultOf asked s (BadLine input n) = StopsAt input (HasBadLine n) s
-IsFaultOf asked s (NoSwitch input) = StopsAt input HasNoSwitch s
-IsFaultOf asked s (Read input) = StopsAt input HasOneFault s
-IsFaultOf asked s (Endless input) = StopsAt input HasNoFault s
-IsFaultOf asked s (Write written) = IsCutOff asked s written
-IsFaultOf asked s Memory = IsOutOfMemory s
+abbrev pub IsCompareFault : CompareOptions → CompareStreams → CompareFault → Type 0
+IsCompareFault asked s (BadLine input n) = StopsAt input (HasBadLine n) s
+IsCompareFault asked s (NoSwitch input) = StopsAt input HasNoSwitch s
+IsCompareFault asked s (Read input) = StopsAt input HasOneFault s
+IsCompareFault asked s (Endless input) = StopsAt input HasNoFault s
+IsCompareFault asked s (Write written) = IsReportCutOff asked s written
+IsCompareFault asked s Memory = IsCompareOutOfMemory s

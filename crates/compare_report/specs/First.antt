@@ -9,6 +9,6 @@ pub record IsEarliest (starts : List (Option ℕ)) (j at : ℕ) : Type 0 where
   pub least : (k other : ℕ) → slice_index_or starts k None ≡ Some other → at ≤ other
   pub first : (k other : ℕ) → k < j → slice_index_or starts k None ≡ Some other → at < other
 
-abbrev pub IsFirst : List (Option ℕ) → Option ℕ → Type 0
-IsFirst starts None = (k : ℕ) → slice_index_or starts k None ≡ None
-IsFirst starts (Some j) = (at : ℕ) × IsEarliest starts j at
+abbrev pub IsFirstStart : List (Option ℕ) → Option ℕ → Type 0
+IsFirstStart starts None = (k : ℕ) → slice_index_or starts k None ≡ None
+IsFirstStart starts (Some j) = (at : ℕ) × IsEarliest starts j at

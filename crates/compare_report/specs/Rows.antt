@@ -2,7 +2,7 @@
 use Rattle.std.specs.Prelude.{◌≡◌, ℕ, ◌+◌, List, [], length, filter, map, Option, Some, None}
 use Rattle.trace_compare.specs.declared.task.TaskRuns.{TaskRuns}
 use Rattle.trace_compare.specs.declared.pairs.Matching.{Matching}
-use Rattle.trace_compare.specs.Pairs.{matched}
+use Rattle.trace_compare.specs.Pairs.{count_matched}
 use Rattle.trace_compare.specs.Differences.{pairs_of, start_apart, end_apart, is_inside, others, cpu_time, taken_time}
 use Rattle.compare_report.specs.declared.line.Row.{Row}
 use Rattle.compare_report.specs.declared.line.Spread.{Spread}
@@ -18,8 +18,8 @@ pub record IsRow (shift from until : ℕ) (name : List ℕ) (t : TaskRuns) (m : 
     : Type 0 where
   pub called : r.name.now ≡ name
   pub runs : r.runs ≡ length t.model.items
-  pub matches : r.matched ≡ matched m.partners.items
-  pub recorded : r.recorded ≡ matched m.partners.items + others from until shift m.left.items
+  pub matches : r.matched ≡ count_matched m.partners.items
+  pub recorded : r.recorded ≡ count_matched m.partners.items + others from until shift m.left.items
   pub starts : IsSpreadOf
       (map (start_apart shift) (pairs_of t.model.items m.partners.items)) r.starts
   pub ends : IsSpreadOf (map (end_apart shift) (pairs_of t.model.items m.partners.items)) r.ends

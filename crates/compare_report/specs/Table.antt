@@ -1,25 +1,18 @@
 -- The table of a comparison, as a text (own).
 use Rattle.std.specs.Prelude.{ℕ, ◌-◌, ◌/◌, ◌%◌, Bool, true, false, List, [], ◌∷◌, ◌++◌, length, replicate, Option, Some, None, codes, decimal}
+use Rattle.draft.specs.Columns.{right, column}
 use Rattle.compare_report.specs.declared.line.Spread.{Spread}
 use Rattle.compare_report.specs.declared.line.Stretch.{Stretch}
 use Rattle.compare_report.specs.declared.line.Shift.{Shift}
 use Rattle.compare_report.specs.declared.line.Row.{Row}
 use Rattle.compare_report.specs.declared.line.Place.{Place}
 
--- a text at the right of a column; one that is wider widens it in its line
-abbrev pub right : ℕ → List ℕ → List ℕ
-right width text = replicate (width - length text) 32 ++ text
-
--- a column behind others: a space, and a text at its right
-abbrev pub column : ℕ → List ℕ → List ℕ
-column width text = 32 ∷ right width text
-
 -- microseconds as seconds, with six digits behind the point
 abbrev pub zeros_right : ℕ → List ℕ → List ℕ
 zeros_right width text = replicate (width - length text) 48 ++ text
 
-abbrev pub seconds : ℕ → List ℕ
-seconds us = decimal (us / 1000000) ++ (46 ∷ zeros_right 6 (decimal (us % 1000000)))
+abbrev pub seconds_text : ℕ → List ℕ
+seconds_text us = decimal (us / 1000000) ++ (46 ∷ zeros_right 6 (decimal (us % 1000000)))
 
 -- ---- the shift
 
@@ -29,7 +22,7 @@ sign false = []
 
 -- `shift 1705.992138 s`: how far the recording's clock is ahead, or behind
 abbrev pub shift_line : Shift → List ℕ
-shift_line s = codes "shift " ++ (sign s.behind ++ (seconds s.us ++ codes " s\n"))
+shift_line s = codes "shift " ++ (sign s.behind ++ (seconds_text s.us ++ codes " s\n"))
 
 -- ---- a row
 
@@ -41,24 +34,24 @@ spread_columns width None = column width (codes "-")
 spread_columns width (Some s) =
     column width (decimal s.half) ++ (column 9 (decimal s.most) ++ column 9 (decimal s.max))
 
-abbrev pub header : List ℕ
-header = codes
+abbrev pub table_header : List ℕ
+table_header = codes
     "#          task   runs recorded matched  start_p50 start_p95 start_max   end_p50   end_p95   end_max    cpu_us rec_cpu_us\n"
 
 -- how many runs: of the model, recorded, matched
-abbrev pub count_columns : Row → List ℕ
-count_columns r =
+abbrev pub run_columns : Row → List ℕ
+run_columns r =
     column 6 (decimal r.runs) ++ (column 8 (decimal r.recorded) ++ column 7 (decimal r.matched))
 
 -- CPU time: of the model, recorded
-abbrev pub time_columns : Row → List ℕ
-time_columns r = column 9 (decimal r.cpu) ++ column 10 (decimal r.recorded_cpu)
+abbrev pub cpu_columns : Row → List ℕ
+cpu_columns r = column 9 (decimal r.cpu) ++ column 10 (decimal r.recorded_cpu)
 
 abbrev pub row_line : Row → List ℕ
 row_line r =
     right 15 r.name.now
-    ++ (count_columns r
-    ++ (spread_columns 10 r.starts ++ (spread_columns 9 r.ends ++ (time_columns r ++ codes "\n"))))
+    ++ (run_columns r
+    ++ (spread_columns 10 r.starts ++ (spread_columns 9 r.ends ++ (cpu_columns r ++ codes "\n"))))
 
 -- ---- the CPUs
 
@@ -70,7 +63,7 @@ cpus_line same matched =
 -- ---- the first differences
 
 abbrev pub stretch_text : Stretch → List ℕ
-stretch_text s = seconds s.start ++ (codes " to " ++ (seconds s.«end» ++ codes " s"))
+stretch_text s = seconds_text s.start ++ (codes " to " ++ (seconds_text s.«end» ++ codes " s"))
 
 abbrev pub place_text : Place → List ℕ
 place_text p =

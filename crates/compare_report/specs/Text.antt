@@ -6,10 +6,10 @@ use Rattle.trace_compare.specs.Pairs.{no_shift}
 use Rattle.trace_compare.specs.Differences.{distance}
 use Rattle.compare_report.specs.declared.line.Shift.{Shift}
 use Rattle.compare_report.specs.declared.line.Place.{Place}
-use Rattle.compare_report.specs.Table.{shift_line, header, row_line, cpus_line, missing_line, other_line, no_difference}
+use Rattle.compare_report.specs.Table.{shift_line, table_header, row_line, cpus_line, missing_line, other_line, no_difference}
 use Rattle.compare_report.specs.declared.finding.Missing.{Missing}
 use Rattle.compare_report.specs.declared.finding.Finding.{Finding}
-use Rattle.compare_report.specs.First.{IsFirst}
+use Rattle.compare_report.specs.First.{IsFirstStart}
 
 -- by how much the recording's clock is ahead, or behind, under a shift that is counted from -2^61
 -- us
@@ -31,10 +31,10 @@ differences_told None None = no_difference
 differences_told None (Some p) = other_line p
 differences_told (Some x) other = missing_line x.place x.nearest ++ other_told other
 
-abbrev pub told : Bool → ℕ → List Finding → Option Missing → Option Place → List ℕ
-told cpus shift fs missing other =
+abbrev pub report_text : Bool → ℕ → List Finding → Option Missing → Option Place → List ℕ
+report_text cpus shift fs missing other =
     shift_line (shift_told shift)
-    ++ (header ++ (flat_map (λ f. row_line f.row) fs
+    ++ (table_header ++ (flat_map (λ f. row_line f.row) fs
     ++ (cpus_told cpus fs ++ differences_told missing other)))
 
 -- when each task's first run of the model that matches nothing begins, and its first such recorded
@@ -55,7 +55,7 @@ other_at fs j = option_and_then (λ f. f.other) (option_and_then (slice_get fs) 
 -- the text of these findings, with the earliest differences of all tasks
 pub record IsTextOf (cpus : Bool) (shift : ℕ) (fs : List Finding) (text : List ℕ) : Type 0 where
   pub missing : Option ℕ
-  pub missing_first : IsFirst (missing_starts fs) missing
+  pub missing_first : IsFirstStart (missing_starts fs) missing
   pub other : Option ℕ
-  pub other_first : IsFirst (other_starts fs) other
-  pub shown : text ≡ told cpus shift fs (missing_at fs missing) (other_at fs other)
+  pub other_first : IsFirstStart (other_starts fs) other
+  pub shown : text ≡ report_text cpus shift fs (missing_at fs missing) (other_at fs other)

@@ -5,8 +5,8 @@ ghost use Rattle.counted_io.specs.Sides.{faults_of, inner_of, side};
 ghost use Rattle.trace_compare.specs.Tasks.{HaveSmallTimes};
 ghost use Rattle.recorded_text.specs.Names.{Grows};
 ghost use Rattle.compare_report.specs.Reading.{AreReadFrom};
-ghost use Rattle.compare_report.specs.Answer.{streams, IsAnswered, IsFaultOf};
-ghost use Rattle.compare_report.specs.private.Met.{IsTextFault, told_of};
+ghost use Rattle.compare_report.specs.Answer.{compare_streams, IsComparisonWritten, IsCompareFault};
+ghost use Rattle.compare_report.specs.private.Met.{IsTextFault, fault_of_input};
 
 use crate::fault::{CompareFault, Input};
 use crate::options::CompareOptions;
@@ -18,7 +18,7 @@ use std::io::{Read, Write};
 
 /// A fault of one of the texts.
 fn fault_of(input: Input, fault: RecordedFault) -> CompareFault
-    ensures { result ≡ told_of input fault }
+    ensures { result ≡ fault_of_input input fault }
 {
     match fault {
         RecordedFault::BadLine(line) => CompareFault::BadLine { input, line },
@@ -78,10 +78,10 @@ pub fn compare_texts<M: Read, R: Read, W: Write>(
     requires recorded { faults_of recorded.old < 2 ^ 63 }
     requires writer { faults_of writer.old < 2 ^ 63 }
     ensures ok { OnOk result
-        (IsAnswered options (streams (side M.remaining model.old model.new)
+        (IsComparisonWritten options (compare_streams (side M.remaining model.old model.new)
         (side R.remaining recorded.old recorded.new) (side W.contents writer.old writer.new))) }
     ensures err { IfErr result
-        (IsFaultOf options (streams (side M.remaining model.old model.new)
+        (IsCompareFault options (compare_streams (side M.remaining model.old model.new)
         (side R.remaining recorded.old recorded.new) (side W.contents writer.old writer.new))) }
 {
     let mut names = Names::new(alloc);

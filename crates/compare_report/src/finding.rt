@@ -2,7 +2,7 @@
 
 ghost use Rattle.std.specs.Prelude.{◌≡◌, ◌<◌, ◌≤◌, ◌^◌, All, IfOk, count_by, length, nat_lt};
 ghost use Rattle.trace_compare.specs.Runs.{IsShort};
-ghost use Rattle.trace_compare.specs.Tasks.{IsSound};
+ghost use Rattle.trace_compare.specs.Tasks.{AreSoundRuns};
 ghost use Rattle.trace_compare.specs.Matched.{IsSoundMatching};
 ghost use Rattle.compare_report.specs.Findings.{stretch_of, IsNearestOf, IsMissingAt, IsMissingOf, IsOtherAt, IsOtherOf, IsFinding};
 
@@ -58,7 +58,7 @@ fn nearest_stretch(shift: u64, m: &Run, recorded: &[Run]) -> Option<Stretch>
 /// The model's run of a number, and the recorded run that is nearest.
 fn missing_at<'a>(shift: u64, name: &'a [u8], task: &TaskRuns, number: usize) -> Missing<'a>
     requires shift { shift < 2 ^ 62 }
-    requires task { IsSound task.now }
+    requires task { AreSoundRuns task.now }
     requires among { number < length task.now.model.items }
     ensures { IsMissingAt shift name.now task.now number result }
 {
@@ -81,7 +81,7 @@ fn missing_in<'a>(
     matching: &Matching,
 ) -> Option<Missing<'a>>
     requires shift { shift < 2 ^ 62 }
-    requires task { IsSound task.now }
+    requires task { AreSoundRuns task.now }
     requires as_many { length matching.now.partners.items ≡ length task.now.model.items }
     ensures { IsMissingOf shift name.now task.now matching.now result }
 {
@@ -139,7 +139,7 @@ pub(crate) fn finding_of<'a>(
     requires shift { span.shift < 2 ^ 62 }
     requires from { span.from ≤ 2 ^ 61 }
     requires until { span.until < 2 ^ 61 }
-    requires task { IsSound task.now }
+    requires task { AreSoundRuns task.now }
     requires matching { IsSoundMatching matching.now }
     requires as_many { length matching.now.partners.items ≡ length task.now.model.items }
     ensures { IfOk result (IsFinding span.shift span.from span.until name.now task.now

@@ -3,7 +3,7 @@
 ghost use Rattle.std.specs.Prelude.{◌≡◌, ◌<◌, ◌≤◌, ◌^◌, ℕ, List, All, IfOk, length, slice_index_or};
 ghost use Rattle.trace_compare.specs.declared.task.TaskRuns.{TaskRuns};
 ghost use Rattle.trace_compare.specs.declared.pairs.Matching.{Matching};
-ghost use Rattle.trace_compare.specs.Tasks.{IsSound};
+ghost use Rattle.trace_compare.specs.Tasks.{AreSoundRuns};
 ghost use Rattle.trace_compare.specs.Matched.{IsSoundMatching};
 ghost use Rattle.compare_report.specs.Findings.{IsFinding, AreFindings};
 ghost use Rattle.compare_report.specs.private.Fitting.{AreFitting};
@@ -39,7 +39,7 @@ fn finding_at<'a>(
     requires there { number < length tasks.now }
     requires names { length tasks.now ≤ length names.now }
     requires matchings { AreFitting tasks.now matchings.now }
-    requires tasks { All IsSound tasks.now }
+    requires tasks { All AreSoundRuns tasks.now }
     requires matched { All IsSoundMatching matchings.now }
     ensures { IfOk result (λ f. (x : List ℕ) (t : TaskRuns) (m : Matching)
         → IsFinding span.shift span.from span.until (slice_index_or names.now number x)
@@ -64,7 +64,7 @@ pub(crate) fn findings_of<'a>(
     requires until { span.until < 2 ^ 61 }
     requires names { length tasks.now ≤ length names.now }
     requires matchings { AreFitting tasks.now matchings.now }
-    requires tasks { All IsSound tasks.now }
+    requires tasks { All AreSoundRuns tasks.now }
     requires matched { All IsSoundMatching matchings.now }
     ensures { IfOk result (λ v. AreFindings span.shift span.from span.until names.now tasks.now
         matchings.now (length tasks.now) v.items) }

@@ -1,7 +1,8 @@
 //! Texts put behind what stands before.
 
 ghost use Rattle.std.specs.Prelude.{◌≤◌, decimal};
-ghost use Rattle.compare_report.specs.Table.{column, right, seconds, zeros_right};
+ghost use Rattle.draft.specs.Columns.{right, column};
+ghost use Rattle.compare_report.specs.Table.{seconds_text, zeros_right};
 ghost use Rattle.draft.specs.Draft.{Adds};
 
 use draft::Draft;
@@ -62,7 +63,7 @@ fn put_six(out: &mut Draft, n: u64)
 
 /// Microseconds as seconds.
 pub(crate) fn put_seconds(out: &mut Draft, us: u64)
-    ensures { Adds out.old out.new (seconds us) }
+    ensures { Adds out.old out.new (seconds_text us) }
 {
     out.put_decimal(us / 1000000);
     out.put(b".");

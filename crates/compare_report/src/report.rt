@@ -1,7 +1,7 @@
 //! The report of two texts that were read.
 
 ghost use Rattle.std.specs.Prelude.{◌≡◌, ◌<◌, ◌≤◌, ◌^◌, All, IfOk, length};
-ghost use Rattle.trace_compare.specs.Tasks.{IsSound, HaveSmallTimes};
+ghost use Rattle.trace_compare.specs.Tasks.{AreSoundRuns, HaveSmallTimes};
 ghost use Rattle.trace_compare.specs.Matched.{IsSoundMatching};
 ghost use Rattle.trace_compare.specs.Differences.{first_start, last_end};
 ghost use Rattle.compare_report.specs.Report.{IsReport};
@@ -20,7 +20,7 @@ use trace_compare::{
 
 /// The model's time, under a shift.
 fn span_of(shift: u64, tasks: &[TaskRuns]) -> Span
-    requires { All IsSound tasks.now }
+    requires { All AreSoundRuns tasks.now }
     ensures shift { result.shift ≡ shift }
     ensures from { result.from ≡ first_start tasks.now }
     ensures until { result.until ≡ last_end tasks.now }
@@ -43,7 +43,7 @@ fn report_of_compared(
     compared: &Compared,
 ) -> Result<Vec<u8>, NoMemory>
     requires names { length tasks.now ≤ length names.now }
-    requires tasks { All IsSound tasks.now }
+    requires tasks { All AreSoundRuns tasks.now }
     requires shift { compared.now.shift < 2 ^ 62 }
     requires fitting { AreFitting tasks.now compared.now.tasks.items }
     requires matched { All IsSoundMatching compared.now.tasks.items }

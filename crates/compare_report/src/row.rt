@@ -2,7 +2,7 @@
 
 ghost use Rattle.std.specs.Prelude.{◌≡◌, ◌<◌, ◌≤◌, ◌^◌, All, IfOk, filter, map};
 ghost use Rattle.trace_compare.specs.Runs.{IsShort};
-ghost use Rattle.trace_compare.specs.Tasks.{IsSound};
+ghost use Rattle.trace_compare.specs.Tasks.{AreSoundRuns};
 ghost use Rattle.trace_compare.specs.Matched.{IsSoundMatching};
 ghost use Rattle.trace_compare.specs.Differences.{pairs_of, start_apart, end_apart, is_inside};
 ghost use Rattle.compare_report.specs.Rows.{IsRow, IsSpreadOf};
@@ -71,7 +71,7 @@ pub(crate) fn row_of<'a>(
     requires shift { span.shift < 2 ^ 62 }
     requires from { span.from ≤ 2 ^ 61 }
     requires until { span.until < 2 ^ 61 }
-    requires task { IsSound task.now }
+    requires task { AreSoundRuns task.now }
     requires matching { IsSoundMatching matching.now }
     requires starts { apart.starts.items
         ≡ map (start_apart span.shift) (pairs_of task.now.model.items matching.now.partners.items) }

@@ -5,8 +5,8 @@ ghost use Rattle.std.specs.Option.{option_map};
 ghost use Rattle.std.specs.List.{flat_map};
 ghost use Rattle.compare_report.specs.Table.{row_line};
 ghost use Rattle.draft.specs.Draft.{Adds};
-ghost use Rattle.compare_report.specs.First.{IsFirst};
-ghost use Rattle.compare_report.specs.Text.{shift_told, cpus_told, differences_told, told, other_told, missing_starts, other_starts, missing_at, other_at, IsTextOf};
+ghost use Rattle.compare_report.specs.First.{IsFirstStart};
+ghost use Rattle.compare_report.specs.Text.{shift_told, cpus_told, differences_told, report_text, other_told, missing_starts, other_starts, missing_at, other_at, IsTextOf};
 
 use crate::differing::{put_missing, put_no_difference, put_other};
 use crate::finding::{Finding, Missing};
@@ -112,7 +112,7 @@ fn other_start(finding: &Finding<'_>) -> Option<u64>
 
 /// The task whose run of the model that matches nothing is the earliest.
 fn first_missing(alloc: Global, findings: &[Finding<'_>]) -> Result<Option<usize>, AllocError>
-    ensures { IfOk result (IsFirst (missing_starts findings.now)) }
+    ensures { IfOk result (IsFirstStart (missing_starts findings.now)) }
 {
     let mut starts = Vec::new(alloc);
     for finding in findings {
@@ -123,7 +123,7 @@ fn first_missing(alloc: Global, findings: &[Finding<'_>]) -> Result<Option<usize
 
 /// The task whose recorded run that matches nothing is the earliest.
 fn first_other(alloc: Global, findings: &[Finding<'_>]) -> Result<Option<usize>, AllocError>
-    ensures { IfOk result (IsFirst (other_starts findings.now)) }
+    ensures { IfOk result (IsFirstStart (other_starts findings.now)) }
 {
     let mut starts = Vec::new(alloc);
     for finding in findings {
@@ -165,7 +165,7 @@ fn put_all(
     missing: Option<Missing<'_>>,
     other: Option<Place<'_>>,
 )
-    ensures { Adds out.old out.new (told cpus shift findings.now missing.entry other.entry) }
+    ensures { Adds out.old out.new (report_text cpus shift findings.now missing.entry other.entry) }
 {
     put_shift(out, shift_of(shift));
     put_header(out);

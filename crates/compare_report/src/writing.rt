@@ -1,7 +1,7 @@
 //! The lines of the table.
 
 ghost use Rattle.std.specs.Prelude.{◌≤◌};
-ghost use Rattle.compare_report.specs.Table.{count_columns, cpus_line, header, row_line, shift_line, spread_columns, time_columns};
+ghost use Rattle.compare_report.specs.Table.{run_columns, cpus_line, table_header, row_line, shift_line, spread_columns, cpu_columns};
 ghost use Rattle.draft.specs.Draft.{Adds};
 
 use crate::line::{Row, Shift, Spread};
@@ -20,7 +20,7 @@ pub fn put_shift(out: &mut Draft, shift: Shift)
 
 /// Puts the header of the table behind a text.
 pub fn put_header(out: &mut Draft)
-    ensures { Adds out.old out.new header }
+    ensures { Adds out.old out.new table_header }
 {
     out.put(
         b"#          task   runs recorded matched  start_p50 start_p95 start_max   end_p50   end_p95   end_max    cpu_us rec_cpu_us\n",
@@ -44,7 +44,7 @@ fn put_spread(out: &mut Draft, width: usize, spread: Option<Spread>)
 }
 
 fn put_counts(out: &mut Draft, row: &Row<'_>)
-    ensures { Adds out.old out.new (count_columns row.now) }
+    ensures { Adds out.old out.new (run_columns row.now) }
 {
     put_number(out, 6, row.runs);
     put_wide(out, 8, row.recorded);
@@ -52,7 +52,7 @@ fn put_counts(out: &mut Draft, row: &Row<'_>)
 }
 
 fn put_times(out: &mut Draft, row: &Row<'_>)
-    ensures { Adds out.old out.new (time_columns row.now) }
+    ensures { Adds out.old out.new (cpu_columns row.now) }
 {
     put_wide(out, 9, row.cpu);
     put_wide(out, 10, row.recorded_cpu);

@@ -4,7 +4,7 @@ use Rattle.std.proofs.lemmas.List.{append_assoc, append-nil, length-append}
 use Rattle.std.proofs.lemmas.List.Elements.{All-nil, All-push}
 use Rattle.std.proofs.lemmas.List.Sums.{sum_by-append}
 use Rattle.counted_io.specs.declared.call.Call.{Call}
-use Rattle.counted_io.specs.Calls.{Moves, moved_by, moved, EndsIn, AskForTheRest, IsWriting, IsStoppedWriting}
+use Rattle.counted_io.specs.Calls.{Moves, moved_by, bytes_moved, EndsIn, AskForTheRest, IsWriting, IsStoppedWriting}
 
 -- one more
 pub behind : (old calls now next : List Call) (one : Call) → now ≡ old ++ calls → next ≡ now ++ one ∷ [] → next ≡ old ++ (calls ++ one ∷ [])
@@ -41,10 +41,10 @@ pub record AreWrites (old now : List Call) (n at : ℕ) : Type 0 where
 pub no_writes : (old : List Call) (n : ℕ) → AreWrites old old n 0
 no_writes old n = record { calls = []; since = sym (append-nil old); written = record { moves = All-nil Moves; taken = refl; asked = tt } }
 
-pub asks_on : (n : ℕ) (calls : List Call) (one : Call) → AskForTheRest n calls → one.most ≡ n - moved calls → AskForTheRest n (calls ++ one ∷ [])
+pub asks_on : (n : ℕ) (calls : List Call) (one : Call) → AskForTheRest n calls → one.most ≡ n - bytes_moved calls → AskForTheRest n (calls ++ one ∷ [])
 asks_on n [] one a e = (omega (arith, e), tt)
 asks_on n (c ∷ calls) one a e =
-    let all : one.most ≡ n - (0 + moved_by c.answer + moved calls) = e ∙ ap (λ (m : ℕ). n - m) (sum_by-append (λ (x : Call). moved_by x.answer) (c ∷ []) calls) in
+    let all : one.most ≡ n - (0 + moved_by c.answer + bytes_moved calls) = e ∙ ap (λ (m : ℕ). n - m) (sum_by-append (λ (x : Call). moved_by x.answer) (c ∷ []) calls) in
     (a.0, asks_on (n - moved_by c.answer) calls one a.1 (omega (arith, all)))
 
 pub write_on : (old now next : List Call) (one : Call) (n at k : ℕ) → AreWrites old now n at → next ≡ now ++ one ∷ [] → one.most ≡ n - at → one.answer ≡ Some k → 0 < k → AreWrites old next n (at + k)

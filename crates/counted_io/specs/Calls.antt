@@ -13,8 +13,8 @@ abbrev pub moved_by : Option ℕ → ℕ
 moved_by None = 0
 moved_by (Some n) = n
 
-abbrev pub moved : List Call → ℕ
-moved calls = sum_by (λ c. moved_by c.answer) calls
+abbrev pub bytes_moved : List Call → ℕ
+bytes_moved calls = sum_by (λ c. moved_by c.answer) calls
 
 -- what a write comes to: to take nothing is a fault too
 abbrev pub IsTakenBy : Option ℕ → Option ℕ → Type 0
@@ -44,7 +44,7 @@ AskForTheRest n (call ∷ calls) =
 -- writes of so many bytes, of which so many were taken
 pub record IsWriting (n at : ℕ) (calls : List Call) : Type 0 where
   pub moves : All Moves calls
-  pub taken : moved calls ≡ at
+  pub taken : bytes_moved calls ≡ at
   pub asked : AskForTheRest n calls
 
 -- and one more, which took nothing

@@ -1,5 +1,6 @@
 -- A reader or a writer as calls meet it: what of it is known, and how many of its calls failed.
 use Rattle.std.specs.Prelude.{ℕ, ◌≡◌, ◌+◌, List, Option}
+use Rattle.std.specs.Io.KnownBytes.{Keeps}
 use Rattle.counted_io.specs.declared.call.Call.{Call}
 use Rattle.counted_io.specs.declared.counted.Counted.{Counted}
 
@@ -8,8 +9,8 @@ abbrev pub inner_of : {T : Type 0} → Counted T → T
 inner_of c = c.port.inner
 
 -- its calls so far, and what each answered
-abbrev pub calls_of : {T : Type 0} → Counted T → List Call
-calls_of c = c.port.calls
+abbrev pub port_calls : {T : Type 0} → Counted T → List Call
+port_calls c = c.port.calls
 
 -- how many of its calls failed so far
 abbrev pub faults_of : {T : Type 0} → Counted T → ℕ
@@ -21,8 +22,8 @@ pub record Moment : Type 0 where
   pub bytes : Option (List ℕ)
   pub faults : ℕ
 
-abbrev pub moment_of : {T : Type 0} → (T → Option (List ℕ)) → Counted T → Moment
-moment_of known c = record { bytes = known (inner_of c); faults = faults_of c }
+abbrev pub port_moment : {T : Type 0} → (T → Option (List ℕ)) → Counted T → Moment
+port_moment known c = record { bytes = known (inner_of c); faults = faults_of c }
 
 -- before a call, and after it
 pub record Side : Type 0 where
@@ -30,7 +31,7 @@ pub record Side : Type 0 where
   pub after : Moment
 
 abbrev pub side : {T : Type 0} → (T → Option (List ℕ)) → Counted T → Counted T → Side
-side known old new = record { before = moment_of known old; after = moment_of known new }
+side known old new = record { before = port_moment known old; after = port_moment known new }
 
 -- no call failed
 abbrev pub HasNoFault : Side → Type 0
@@ -39,3 +40,8 @@ HasNoFault s = s.after.faults ≡ s.before.faults
 -- exactly one call failed
 abbrev pub HasOneFault : Side → Type 0
 HasOneFault s = s.after.faults ≡ s.before.faults + 1
+
+-- no byte came or went, and no call failed
+pub record IsUntouched (s : Side) : Type 0 where
+  pub kept : Keeps s.before.bytes s.after.bytes
+  pub no_fault : HasNoFault s

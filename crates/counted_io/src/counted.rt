@@ -3,7 +3,7 @@
 ghost use Rattle.std.specs.Prelude.{◌≡◌, ◌<◌, ◌≤◌, ◌^◌, ◌++◌, ◌∷◌, [], ℕ, List, Option, length, take, is_some, is_ok, IfSome, IfNone, IfOk, IfErr, OnOk, OnErr};
 ghost use Rattle.std.specs.Io.KnownBytes.{Appends, Consumes, IsAtEnd, Keeps};
 ghost use Rattle.counted_io.specs.declared.call.Call.{Call};
-ghost use Rattle.counted_io.specs.Sides.{inner_of, calls_of, faults_of};
+ghost use Rattle.counted_io.specs.Sides.{inner_of, port_calls, faults_of};
 ghost use Rattle.counted_io.specs.Calls.{IsTakenBy, IsReading, IsWrittenBy};
 ghost use Rattle.counted_io.specs.Faults.{one_more_unless, faults_after, ConsumesSome, TakesFront};
 
@@ -32,7 +32,7 @@ impl<T> Counted<T> {
     /// A reader or writer of which no call has failed yet. Takes no memory.
     pub fn new(inner: T) -> Counted<T>
         ensures inner { inner_of result ≡ inner }
-        ensures calls { calls_of result ≡ [] }
+        ensures calls { port_calls result ≡ [] }
         ensures faults { faults_of result ≡ 0 }
     {
         Counted {
@@ -73,8 +73,8 @@ impl<R: Read> Counted<R> {
             (Keeps (R.remaining (inner_of self.old)) (R.remaining (inner_of self.new))) }
         ensures faults { faults_of self.new
             ≡ one_more_unless (is_some result) (faults_of self.old) }
-        ensures asked { calls_of self.new
-            ≡ calls_of self.old ++ record { most = length buf.new; answer = result } ∷ [] }
+        ensures asked { port_calls self.new
+            ≡ port_calls self.old ++ record { most = length buf.new; answer = result } ∷ [] }
     {
         let answer = self.port.read(buf);
         if answer.is_none() {
@@ -98,7 +98,7 @@ impl<R: Read> Counted<R> {
             (ConsumesSome (R.remaining (inner_of self.old)) (R.remaining (inner_of self.new))) }
         ensures faults { faults_of self.new ≡ faults_after (faults_of self.old) result }
         ensures asked { (calls : List Call)
-            × (calls_of self.new ≡ calls_of self.old ++ calls) × IsReading calls result }
+            × (port_calls self.new ≡ port_calls self.old ++ calls) × IsReading calls result }
     {
         let mut bytes = Vec::new(alloc);
         let mut piece = [0u8; 16384];
@@ -134,8 +134,8 @@ impl<W: Write> Counted<W> {
         ensures faults { faults_of self.new
             ≡ one_more_unless (is_some result) (faults_of self.old) }
         ensures asked { (answer : Option ℕ)
-            × (calls_of self.new
-            ≡ calls_of self.old ++ record { most = length bytes.now; answer = answer } ∷ [])
+            × (port_calls self.new
+            ≡ port_calls self.old ++ record { most = length bytes.now; answer = answer } ∷ [])
             × IsTakenBy answer result }
     {
         match self.port.write(bytes) {
@@ -163,7 +163,7 @@ impl<W: Write> Counted<W> {
         ensures empty { length bytes.now ≡ 0 → self.new ≡ self.old }
         ensures faults { faults_of self.new ≡ one_more_unless (is_ok result) (faults_of self.old) }
         ensures asked { (calls : List Call)
-            × (calls_of self.new ≡ calls_of self.old ++ calls)
+            × (port_calls self.new ≡ port_calls self.old ++ calls)
             × IsWrittenBy (length bytes.now) calls result }
     {
         let mut at = 0;

@@ -32,11 +32,11 @@ pub(crate) struct Past {
 impl Model for Past {
     ghost use Rattle.std.specs.Prelude.{List};
     ghost use Rattle.counted_io.specs.declared.call.Call.{Call};
-    ghost use Rattle.counted_io.specs.private.Past.{calls_in};
+    ghost use Rattle.counted_io.specs.private.Past.{past_calls};
 
     ghost Value = { List Call };
 
-    ghost view = { λ p. calls_in p.calls };
+    ghost view = { λ p. past_calls p.calls };
 }
 
 impl Past {

@@ -12,7 +12,7 @@ use Rattle.domain_run.specs.declared.call.Call.{Call}
 use Rattle.domain_run.specs.declared.call.Call.TheVariants as calls
 use Rattle.domain_run.specs.declared.call.Reply.{Reply}
 use Rattle.domain_run.specs.declared.call.Reply.TheVariants.{Admitted, Changed, Woken, Left, Done, Set, Departed, Full, Twice, Busy, NotListed, NotWaiting}
-use Rattle.domain_run.specs.Domain.{Domain, opened}
+use Rattle.domain_run.specs.Domain.{Domain, empty_domain}
 use Rattle.domain_run.specs.Tick.{sum_of}
 use Rattle.domain_run.specs.Calls.{reply_to, is_refusal, after_call}
 use Rattle.domain_run.proofs.CallerLemmas.{sum_push, granted_is, refused_keeps, admit_busy}
@@ -20,11 +20,11 @@ use Rattle.rtapp_scenario.specs.ScenarioView.{TaskSpecView}
 use Rattle.calls_text.specs.declared.section.Entry.{Entry}
 use Rattle.call_book.specs.Book.{AdmissionView, admission, IsMember, own_entries}
 use Rattle.calls_text.specs.Histories.{IsLegal}
-use Rattle.session.specs.SessionId.{SessionId, cap_in, cpus_of}
-use Rattle.session.specs.Asks.{Answer, IsLawful, Asked, Made, call_of, domain_of, made_at, made_in, entries_from}
+use Rattle.session.specs.SessionId.{SessionId, cap_in, cpu_set_of}
+use Rattle.session.specs.Asks.{Answer, IsLawful, Asked, Made, admit_call, domain_with_cpus, made_at, made_in, entries_from}
 use Rattle.session.specs.Admissions.{own_asked}
 use Rattle.session.specs.RunEnd.{advance_of, EndsWith}
-use Rattle.dl_session.specs.InOrder.{is_admitted}
+use Rattle.dl_session.specs.InOrder.{is_admitted_reply}
 use Rattle.dl_session.specs.ScenarioAnswers.{IsByCap}
 use Rattle.dl_session.proofs.OrderAdmissions.{as_reply, as_after, with_admitted, admitted_as, task_from, is_admission}
 use Rattle.dl_session.proofs.OrderRuns.{is_verdict, admitted_is, refused_else, LegalFrom}
@@ -67,9 +67,9 @@ within_granted most d c is one =
 
 within_next : (most : ℕ) (d : Domain) (c : Call) → IsWithin most d → is_verdict (Some (reply_to d c)) ≡ true → IsWithin most (after_call d c)
 within_next most d c is verdict =
-    elim (cases_Bool (is_admitted (reply_to d c))) [
+    elim (cases_Bool (is_admitted_reply (reply_to d c))) [
       | inl holds ↦ within_granted most d c is (admitted_is (reply_to d c) holds)
-      | inr fails ↦ subst (IsWithin most) (sym (refused_keeps d c (refused_else (is_admitted (reply_to d c)) (is_refusal (reply_to d c)) fails verdict))) is
+      | inr fails ↦ subst (IsWithin most) (sym (refused_keeps d c (refused_else (is_admitted_reply (reply_to d c)) (is_refusal (reply_to d c)) fails verdict))) is
     ]
 
 capped_all : (most : ℕ) (d : Domain) (entries : List Entry) → IsWithin most d → All (λ e. is_verdict e.reply ≡ true) entries → LegalFrom d entries → All (EntryCapped most) entries
@@ -123,12 +123,12 @@ others_of P None rest all = all
 others_of P (Some x) rest all = All-tail P x rest all
 
 answer_capped : (id : SessionId) (d : ℕ) (t : TaskSpecView) (answer : Answer)
-    → ((m : Made) → made_at d (domain_of id.cpu_sets t.cpus) (call_of t) answer ≡ Some m → MadeCapped (cap_in id d) m) → IsByCap id d t answer
+    → ((m : Made) → made_at d (domain_with_cpus id.cpu_sets t.cpus) (admit_call t) answer ≡ Some m → MadeCapped (cap_in id d) m) → IsByCap id d t answer
 answer_capped id d t (Ok (Busy seen)) capped = λ goes.
-    let m : Made = record { call = call_of t; reply = Busy seen } in
+    let m : Made = record { call = admit_call t; reply = Busy seen } in
     let a : AdmissionView = record { number = t.number; name = t.name; params = params_of t.attr; delay = t.delay; script = t.script } in
-    let there : made_at d (domain_of id.cpu_sets t.cpus) (call_of t) (Ok (Busy seen)) ≡ Some m =
-    ap (λ (o : Option ℕ). made_at d o (call_of t) (Ok (Busy seen))) goes.domain ∙ ap (λ (b : Bool). cond b (Some m) None) (eq-eqb d d refl) in
+    let there : made_at d (domain_with_cpus id.cpu_sets t.cpus) (admit_call t) (Ok (Busy seen)) ≡ Some m =
+    ap (λ (o : Option ℕ). made_at d o (admit_call t) (Ok (Busy seen))) goes.domain ∙ ap (λ (b : Bool). cond b (Some m) None) (eq-eqb d d refl) in
     let told = capped m there a seen refl refl in
     record { within = told.0; above = told.1 }
 answer_capped id d t (Ok Admitted) capped = tt
@@ -148,7 +148,7 @@ asked_capped : (id : SessionId) (d : ℕ) (asked : List Asked) → All (MadeCapp
 asked_capped id d [] all = All-nil (λ (q : Asked). IsByCap id d q.task q.answer)
 asked_capped id d (q ∷ asked) all =
     let P = MadeCapped (cap_in id d) in
-    let o = made_at d (domain_of id.cpu_sets q.task.cpus) (call_of q.task) q.answer in
+    let o = made_at d (domain_with_cpus id.cpu_sets q.task.cpus) (admit_call q.task) q.answer in
     All-cons (λ (x : Asked). IsByCap id d x.task x.answer) q asked
     (answer_capped id d q.task q.answer (λ m is. first_of P o (made_in id d asked) all m is))
     (asked_capped id d asked (others_of P o (made_in id d asked) all))
@@ -174,11 +174,11 @@ all_front P xs ys all = λ k d h. subst P (get_or_append_left xs ys d k h) (all 
 
 pub by_cap : (id : SessionId) (n d duration : ℕ) (asked : List Asked) (history : List Entry) → 0 < n
     → All (λ q. IsLawful id q.task q.answer) asked → All (λ e. IsMember n e.client) history → OwnCalls id n d duration asked history
-    → EndsWith duration history → IsLegal (length (cpus_of id d)) id.limit history
+    → EndsWith duration history → IsLegal (length (cpu_set_of id d)) id.limit history
     → All (λ q. IsByCap id d q.task q.answer) asked
 by_cap id n d duration asked history some lawful members own ends legal =
     let most = cap_in id d in
-    let start = opened (length (cpus_of id d)) id.limit in
+    let start = empty_domain (length (cpu_set_of id d)) id.limit in
     let few = others_most id n d duration asked history lawful members own in
     let none : sum_of start.tasks ≡ 0 = refl in
     let all = history_capped most duration start history (refl, omega (arith, none)) few ends legal in
@@ -199,7 +199,7 @@ none_advanced client = elim (eqb client 1) as (λ b. cond (b && ltb 0 0) no_tick
 pub by_cap_alone : (id : SessionId) (n d : ℕ) (asked : List Asked) (history : List Entry) → 0 < n
     → All (λ q. IsLawful id q.task q.answer) asked → All (λ e. IsMember n e.client) history
     → ((i : ℕ) → i < n → own_entries (i + 1) history ≡ entries_from (i + 1) 0 (made_in id d (own_asked n i asked)))
-    → IsLegal (length (cpus_of id d)) id.limit history
+    → IsLegal (length (cpu_set_of id d)) id.limit history
     → All (λ q. IsByCap id d q.task q.answer) asked
 by_cap_alone id n d asked history some lawful members own legal =
     by_cap id n d 0 asked history some lawful members

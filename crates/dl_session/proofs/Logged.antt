@@ -10,7 +10,7 @@ use Rattle.domain_run.specs.declared.call.Call.{Call}
 use Rattle.domain_run.specs.declared.call.Call.TheVariants.{Admit, Regrade, Wake, Leave, Advance, Limit, Depart, Arrive}
 use Rattle.domain_run.specs.declared.call.Reply.TheVariants.{Admitted}
 use Rattle.domain_run.specs.declared.happened.Happened.{Happened}
-use Rattle.domain_run.specs.Domain.{Domain, opened}
+use Rattle.domain_run.specs.Domain.{Domain, empty_domain}
 use Rattle.domain_run.specs.Passing.{without_switches}
 use Rattle.domain_run.specs.Calls.{task_of, leave_reply, depart_reply, reply_to, is_refusal, after_call}
 use Rattle.domain_run.specs.Happened.{told_by_ticks, told_by_granted, told_by_call, told_by_calls}
@@ -23,7 +23,7 @@ use Rattle.calls_text.specs.Histories.{calls_of}
 use Rattle.calls_text.specs.Histories.{AreTold}
 use Rattle.run_figures.specs.Accounting.{AccountingView}
 use Rattle.calls_trace.specs.Told.{domain_of}
-use Rattle.calls_trace.specs.Heard.{AreHeard}
+use Rattle.calls_trace.specs.Heard.{AreAccountings}
 use Rattle.session.specs.declared.refusal.Refusal.{Refusal}
 use Rattle.session.specs.SessionId.{SessionId, IsDomainIndex}
 use Rattle.session.specs.declared.report.Finished.{Finished}
@@ -31,7 +31,7 @@ use Rattle.session.specs.declared.report.Wanted.{Wanted}
 use Rattle.session.specs.declared.report.Wanted.TheVariants as wants
 use Rattle.session.specs.Report.{IsHistoryOf}
 use Rattle.session.specs.RunEnd.{IsLeftAs, IsLogOf, told_at_end}
-use Rattle.dl_session.specs.InOrder.{is_admitted}
+use Rattle.dl_session.specs.InOrder.{is_admitted_reply}
 use Rattle.dl_session.specs.ScenarioAnswers.{AnswersScenario}
 use Rattle.dl_session.specs.private.Running.{AreLeftAs}
 use Rattle.dl_session.proofs.OrderRuns.{is_verdict, admitted_is, LegalFrom}
@@ -69,7 +69,7 @@ verdict_tells d c verdict =
       | inl refused ↦ ap (λ (b : Bool). cond b [] (told_by_granted d c)) refused
       | inr granted ↦
           ap (λ (b : Bool). cond b [] (told_by_granted d c)) granted
-          ∙ granted_tells d c (admitted_is (reply_to d c) (admitted_else (is_admitted (reply_to d c)) (is_refusal (reply_to d c)) granted verdict))
+          ∙ granted_tells d c (admitted_is (reply_to d c) (admitted_else (is_admitted_reply (reply_to d c)) (is_refusal (reply_to d c)) granted verdict))
     ]
 
 verdicts_tell : (d : Domain) (entries : List Entry) → All (λ e. is_verdict e.reply ≡ true) entries → LegalFrom d entries → told_by_calls d (calls_of entries) ≡ []
@@ -103,7 +103,7 @@ nothing_before : (n : ℕ) → ltb 0 n ≡ false → n ≡ 0
 nothing_before zero e = refl
 nothing_before (suc n) e = absurd (let some : ltb 0 (suc n) ≡ true = lt-ltb 0 (suc n) (omega arith) in cc)
 
-end_tells : (b : Bool) (duration cpus limit : ℕ) (entries : List Entry) (parts : IsSplit (opened cpus limit) duration entries) → ltb 0 duration ≡ b
+end_tells : (b : Bool) (duration cpus limit : ℕ) (entries : List Entry) (parts : IsSplit (empty_domain cpus limit) duration entries) → ltb 0 duration ≡ b
     → told_by_calls (run_of cpus limit (calls_of parts.before)) (last_calls duration) ≡ told_at_end duration cpus limit entries
 end_tells true duration cpus limit entries parts some =
     let before = parts.before in
@@ -120,10 +120,10 @@ end_tells false duration cpus limit entries parts none =
     ∙ ap (λ (n : ℕ). told_at_end n cpus limit entries) (sym zero_is)
 
 -- the calls of a history tell what so many ticks at its end tell
-pub history_tells : (duration cpus limit : ℕ) (entries : List Entry) → IsSplit (opened cpus limit) duration entries
-    → told_by_calls (opened cpus limit) (calls_of entries) ≡ told_at_end duration cpus limit entries
+pub history_tells : (duration cpus limit : ℕ) (entries : List Entry) → IsSplit (empty_domain cpus limit) duration entries
+    → told_by_calls (empty_domain cpus limit) (calls_of entries) ≡ told_at_end duration cpus limit entries
 history_tells duration cpus limit entries parts =
-    let start = opened cpus limit in
+    let start = empty_domain cpus limit in
     let front = calls_of parts.before in
     let last = last_calls duration in
     ap (told_by_calls start) parts.calls
@@ -164,7 +164,7 @@ pub are_heard : (id : SessionId) (clients : ℕ) (tasks : List TaskSpecView) (du
     → ((d : ℕ) (x : SectionView) → IsDomainIndex id d → IsHistoryOf id d [] (get_or histories d x))
     → AnswersScenario id clients tasks duration (map (λ h. h.entries) histories) refused
     → ((d : ℕ) (s : SectionView) (x : AccountingView) → d < length histories → get_or heard d x ≡ heard_with (get_or histories d s) (told_at_end duration (get_or histories d s).cpus (get_or histories d s).limit (get_or histories d s).entries))
-    → AreHeard histories heard
+    → AreAccountings histories heard
 are_heard id clients tasks duration histories refused heard count legal answers each d s x inside =
     let place : d < length id.cpu_sets = omega (arith, inside, count) in
     let h = get_or histories d s in

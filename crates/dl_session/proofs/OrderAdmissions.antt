@@ -13,7 +13,7 @@ use Rattle.domain_run.specs.declared.call.Reply.TheVariants.{Admitted, Woken, Do
 use Rattle.domain_run.specs.Conditions.{is_waiting}
 use Rattle.domain_run.specs.Domain.{Domain}
 use Rattle.domain_run.specs.Tick.{sum_of}
-use Rattle.domain_run.specs.Calls.{admit_reply, new_task, with_number, listed, task_of, word_reply, regrade_reply, wake_reply, leave_reply, set_reply, depart_reply, reply_to, is_refusal, after_call}
+use Rattle.domain_run.specs.Calls.{admit_reply, new_task, with_number, with_task_listed, task_of, word_reply, regrade_reply, wake_reply, leave_reply, set_reply, depart_reply, reply_to, is_refusal, after_call}
 use Rattle.domain_run.proofs.CallerLemmas.{with_number_contains, sum_push, IsGranted, granted_is}
 use Rattle.call_book.specs.Book.{AdmissionView, admission}
 use Rattle.calls_trace.specs.Replay.{with_name, named_by, names_after}
@@ -68,7 +68,7 @@ abbrev pub task_from : Domain → AdmissionView → Task
 task_from d a = new_task d a.number a.name a.params a.delay a.script
 
 abbrev pub with_admitted : Domain → AdmissionView → Domain
-with_admitted d a = listed d (task_from d a)
+with_admitted d a = with_task_listed d (task_from d a)
 
 admits : (d : Domain) (a : AdmissionView) → IsGranted d a.number a.params → reply_to d (admission a) ≡ Admitted
 admits d a g =

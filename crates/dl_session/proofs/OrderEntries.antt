@@ -10,10 +10,10 @@ use Rattle.domain_run.specs.declared.call.Reply.TheVariants.{Done}
 use Rattle.calls_text.specs.declared.section.Entry.{Entry}
 use Rattle.call_book.specs.Book.{IsMember, own_entries}
 use Rattle.session.specs.SessionId.{SessionId}
-use Rattle.session.specs.Asks.{Asked, Made, call_of, domain_of, made_at, made_in, entries_from}
+use Rattle.session.specs.Asks.{Asked, Made, admit_call, domain_with_cpus, made_at, made_in, entries_from}
 use Rattle.session.specs.Admissions.{own_asked}
 use Rattle.session.specs.RunEnd.{advance_of}
-use Rattle.dl_session.specs.InOrder.{is_admitted}
+use Rattle.dl_session.specs.InOrder.{is_admitted_reply}
 use Rattle.domain_run.proofs.CallerLemmas.{Reordered, chain, turned, mapped, filtered, filter_mapped}
 use Rattle.domain_run.proofs.CallerLemmas.{gathered, gather, gathered_both}
 use Rattle.dl_session.proofs.OrderRuns.{was_admitted, granted_calls}
@@ -45,23 +45,23 @@ own_is clients i (e ∷ entries) members =
 
 -- the calls among these that were granted
 abbrev pub made_calls : List Made → List Call
-made_calls made = map (λ m. m.call) (filter (λ m. is_admitted m.reply) made)
+made_calls made = map (λ m. m.call) (filter (λ m. is_admitted_reply m.reply) made)
 
 pub granted_entries : (client seq : ℕ) (made : List Made) → granted_calls (entries_from client seq made) ≡ made_calls made
 granted_entries client seq [] = refl
 granted_entries client seq (m ∷ made) =
     let e : Entry = record { client = client; seq = seq; call = m.call; reply = Some m.reply } in
     let behind = filter (λ (x : Entry). was_admitted x.reply) (entries_from client (seq + 1) made) in
-    let left = filter (λ (x : Made). is_admitted x.reply) made in
-    elim (is_admitted m.reply) as (λ b. map (λ (x : Entry). x.call) (cond b (e ∷ behind) behind) ≡ map (λ (x : Made). x.call) (cond b (m ∷ left) left)) [
+    let left = filter (λ (x : Made). is_admitted_reply x.reply) made in
+    elim (is_admitted_reply m.reply) as (λ b. map (λ (x : Entry). x.call) (cond b (e ∷ behind) behind) ≡ map (λ (x : Made). x.call) (cond b (m ∷ left) left)) [
       | true ↦ ap (λ (cs : List Call). m.call ∷ cs) (granted_entries client (seq + 1) made)
       | false ↦ granted_entries client (seq + 1) made
     ]
 
 made_calls_both : (xs ys : List Made) → made_calls (xs ++ ys) ≡ made_calls xs ++ made_calls ys
 made_calls_both xs ys =
-    ap (map (λ (m : Made). m.call)) (filter-append (λ (m : Made). is_admitted m.reply) xs ys)
-    ∙ map-append (λ (m : Made). m.call) (filter (λ (m : Made). is_admitted m.reply) xs) (filter (λ (m : Made). is_admitted m.reply) ys)
+    ap (map (λ (m : Made). m.call)) (filter-append (λ (m : Made). is_admitted_reply m.reply) xs ys)
+    ∙ map-append (λ (m : Made). m.call) (filter (λ (m : Made). is_admitted_reply m.reply) xs) (filter (λ (m : Made). is_admitted_reply m.reply) ys)
 
 pub granted_both : (xs ys : List Entry) → granted_calls (xs ++ ys) ≡ granted_calls xs ++ granted_calls ys
 granted_both xs ys =
@@ -77,7 +77,7 @@ advance_apart made duration client =
     made_calls_both made (advance_of duration client) ∙ ap (λ (cs : List Call). made_calls made ++ cs) (no_advance duration client) ∙ append-nil (made_calls made)
 
 made_both : (id : SessionId) (d : ℕ) (xs ys : List Asked) → made_in id d (xs ++ ys) ≡ made_in id d xs ++ made_in id d ys
-made_both id d xs ys = filter_map-append (λ (q : Asked). made_at d (domain_of id.cpu_sets q.task.cpus) (call_of q.task) q.answer) xs ys
+made_both id d xs ys = filter_map-append (λ (q : Asked). made_at d (domain_with_cpus id.cpu_sets q.task.cpus) (admit_call q.task) q.answer) xs ys
 
 -- the calls granted in a domain
 abbrev pub calls_in : SessionId → ℕ → List Asked → List Call
@@ -88,8 +88,8 @@ calls_both id d xs ys = ap made_calls (made_both id d xs ys) ∙ made_calls_both
 
 calls_reordered : (id : SessionId) (d : ℕ) (xs ys : List Asked) → Reordered xs ys → Reordered (calls_in id d xs) (calls_in id d ys)
 calls_reordered id d xs ys r =
-    let h : Asked → Option Made = λ q. made_at d (domain_of id.cpu_sets q.task.cpus) (call_of q.task) q.answer in
-    let test : Made → Bool = λ m. is_admitted m.reply in
+    let h : Asked → Option Made = λ q. made_at d (domain_with_cpus id.cpu_sets q.task.cpus) (admit_call q.task) q.answer in
+    let test : Made → Bool = λ m. is_admitted_reply m.reply in
     mapped (λ (m : Made). m.call) (filter test (made_in id d xs)) (filter test (made_in id d ys)) (filtered test (made_in id d xs) (made_in id d ys) (filter_mapped h xs ys r))
 
 granted_reordered : (xs ys : List Entry) → Reordered xs ys → Reordered (granted_calls xs) (granted_calls ys)

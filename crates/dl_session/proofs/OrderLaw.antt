@@ -3,21 +3,21 @@ use Rattle.std.proofs.Common.{◌≡◌, ℕ, suc, ◌+◌, ◌<◌, List, [], �
 use Rattle.std.specs.Prelude.{All}
 use Rattle.std.proofs.lemmas.List.{map-append, get_or-map, length-map}
 use Rattle.domain_run.specs.declared.call.Call.{Call}
-use Rattle.domain_run.specs.Domain.{opened}
+use Rattle.domain_run.specs.Domain.{empty_domain}
 use Rattle.domain_run.specs.Switch.{Switch}
 use Rattle.domain_run.specs.Run.{run_of}
 use Rattle.rtapp_scenario.specs.ScenarioView.{TaskSpecView}
 use Rattle.calls_text.specs.SectionView.{SectionView}
 use Rattle.calls_text.specs.declared.section.Entry.{Entry}
 use Rattle.call_book.specs.Book.{IsMember, own_entries}
-use Rattle.switch_text.specs.Trace.{RunView, trace_of}
+use Rattle.switch_text.specs.Trace.{SwitchesView, trace_of}
 use Rattle.session.specs.declared.refusal.Refusal.{Refusal}
-use Rattle.session.specs.SessionId.{SessionId, IsDomainIndex, cpus_of}
+use Rattle.session.specs.SessionId.{SessionId, IsDomainIndex, cpu_set_of}
 use Rattle.session.specs.Asks.{Asked, Made, made_in, entries_from}
 use Rattle.dl_session.specs.ScenarioAnswers.{AnswersScenario, history_of}
 use Rattle.session.specs.RunEnd.{EndsWith, advance_of}
 use Rattle.session.specs.Admissions.{own_asked}
-use Rattle.calls_trace.specs.Replay.{calls_of, names_of, no_names, run_view, runs_from, trace_of_sections}
+use Rattle.calls_trace.specs.Replay.{calls_in_section, names_of, no_names, run_view, runs_from, trace_of_sections}
 use Rattle.session.specs.Report.{IsHistoryOf}
 use Rattle.dl_session.specs.InOrder.{granted_in, section_in_order, sections_from, sections_in_order}
 use Rattle.dl_session.proofs.OrderRuns.{opened_listing}
@@ -31,7 +31,7 @@ entry_calls : (client seq : ℕ) (made : List Made) → map (λ (e : Entry). e.c
 entry_calls client seq [] = refl
 entry_calls client seq (m ∷ made) = ap (λ (cs : List Call). m.call ∷ cs) (entry_calls client (seq + 1) made)
 
-section_calls : (id : SessionId) (asked : List Asked) (duration d : ℕ) (cpus : List ℕ) → calls_of (section_in_order id asked duration d cpus) ≡ calls_in id d asked ++ last_calls duration
+section_calls : (id : SessionId) (asked : List Asked) (duration d : ℕ) (cpus : List ℕ) → calls_in_section (section_in_order id asked duration d cpus) ≡ calls_in id d asked ++ last_calls duration
 section_calls id asked duration d cpus =
     entry_calls 1 0 (granted_in id d asked ++ advance_of duration 1) ∙ map-append (λ (m : Made). m.call) (granted_in id d asked) (advance_of duration 1)
 
@@ -40,21 +40,21 @@ pub record AreSameRuns (s t : SectionView) : Type 0 where
   pub cpus : s.cpus ≡ t.cpus
   pub view : (base : ℕ) → run_view base s ≡ run_view base t
 
-same_runs : (s t : SectionView) → s.cpus ≡ t.cpus → s.limit ≡ t.limit → ShowSame (opened s.cpus s.limit) (calls_of s) (calls_of t) → AreSameRuns s t
+same_runs : (s t : SectionView) → s.cpus ≡ t.cpus → s.limit ≡ t.limit → ShowSame (empty_domain s.cpus s.limit) (calls_in_section s) (calls_in_section t) → AreSameRuns s t
 same_runs s t cpus limit shows =
-    let named : names_of (opened s.cpus s.limit) (calls_of s) no_names ≡ names_of (opened t.cpus t.limit) (calls_of t) no_names =
+    let named : names_of (empty_domain s.cpus s.limit) (calls_in_section s) no_names ≡ names_of (empty_domain t.cpus t.limit) (calls_in_section t) no_names =
     shows.named no_names
-    ∙ ap (λ (n : ℕ). names_of (opened n s.limit) (calls_of t) no_names) cpus
-    ∙ ap (λ (n : ℕ). names_of (opened t.cpus n) (calls_of t) no_names) limit in
-    let switches : (run_of s.cpus s.limit (calls_of s)).switches ≡ (run_of t.cpus t.limit (calls_of t)).switches =
+    ∙ ap (λ (n : ℕ). names_of (empty_domain n s.limit) (calls_in_section t) no_names) cpus
+    ∙ ap (λ (n : ℕ). names_of (empty_domain t.cpus n) (calls_in_section t) no_names) limit in
+    let switches : (run_of s.cpus s.limit (calls_in_section s)).switches ≡ (run_of t.cpus t.limit (calls_in_section t)).switches =
     shows.switches
-    ∙ ap (λ (n : ℕ). (run_of n s.limit (calls_of t)).switches) cpus
-    ∙ ap (λ (n : ℕ). (run_of t.cpus n (calls_of t)).switches) limit in
+    ∙ ap (λ (n : ℕ). (run_of n s.limit (calls_in_section t)).switches) cpus
+    ∙ ap (λ (n : ℕ). (run_of t.cpus n (calls_in_section t)).switches) limit in
     record {
       cpus = cpus;
       view = λ base.
-          ap (λ (names : ℕ → List ℕ). record { base = base; names = names; switches = (run_of s.cpus s.limit (calls_of s)).switches }) named
-          ∙ ap (λ (all : List Switch). record { base = base; names = names_of (opened t.cpus t.limit) (calls_of t) no_names; switches = all }) switches;
+          ap (λ (names : ℕ → List ℕ). record { base = base; names = names; switches = (run_of s.cpus s.limit (calls_in_section s)).switches }) named
+          ∙ ap (λ (all : List Switch). record { base = base; names = names_of (empty_domain t.cpus t.limit) (calls_in_section t) no_names; switches = all }) switches;
     }
 
 -- ---- all domains
@@ -77,8 +77,8 @@ runs_same id asked duration d base (cpus ∷ sets) (h ∷ hs) count each =
     let within : suc j < length (cpus ∷ sets) = omega (arith, inside) in
     subst (λ (n : ℕ). AreSameRuns (get_or hs j x) (section_in_order id asked duration n (get_or sets j []))) place (each (suc j) x within)) in
     let next = sections_from id asked duration (d + 1) sets in
-    ap (λ (r : RunView). r ∷ runs_from (base + h.cpus) hs) (first.view base)
-    ∙ ap (λ (rs : List RunView). run_view base (section_in_order id asked duration d cpus) ∷ rs) (rest ∙ ap (λ (n : ℕ). runs_from (base + n) next) first.cpus)
+    ap (λ (r : SwitchesView). r ∷ runs_from (base + h.cpus) hs) (first.view base)
+    ∙ ap (λ (rs : List SwitchesView). run_view base (section_in_order id asked duration d cpus) ∷ rs) (rest ∙ ap (λ (n : ℕ). runs_from (base + n) next) first.cpus)
 
 -- ---- the law
 
@@ -88,7 +88,7 @@ pub split_of : (id : SessionId) (clients : ℕ) (tasks : List TaskSpecView) (dur
     → ((d : ℕ) (x : SectionView) → IsDomainIndex id d → IsHistoryOf id d [] (get_or histories d x))
     → AnswersScenario id clients tasks duration (map (λ h. h.entries) histories) refused
     → (j : ℕ) (x : SectionView) → j < length id.cpu_sets
-    → IsSplit (opened (get_or histories j x).cpus (get_or histories j x).limit) duration (get_or histories j x).entries
+    → IsSplit (empty_domain (get_or histories j x).cpus (get_or histories j x).limit) duration (get_or histories j x).entries
 split_of id clients tasks duration histories refused count legal answers j x inside =
     let h = get_or histories j x in
     let within : j < length histories = omega (arith, inside, count) in
@@ -96,7 +96,7 @@ split_of id clients tasks duration histories refused count legal answers j x ins
     let entries : history_of (map (λ (s : SectionView). s.entries) histories) j ≡ h.entries = get_or-map (λ (s : SectionView). s.entries) histories j x [] within in
     let members = subst (λ (es : List Entry). All (λ e. IsMember clients e.client) es) entries (answers.members j there) in
     let own = λ (i : ℕ) (below : i < clients). subst (λ (es : List Entry). own_entries (i + 1) es ≡ entries_from (i + 1) 0 (made_in id j (own_asked clients i answers.asked) ++ advance_of duration (i + 1))) entries (answers.entries j i there below) in
-    split (opened h.cpus h.limit) duration h.entries (others_most id clients j duration answers.asked h.entries answers.lawful members own) (subst (EndsWith duration) entries (answers.ends j there)) (legal j x inside).legal
+    split (empty_domain h.cpus h.limit) duration h.entries (others_most id clients j duration answers.asked h.entries answers.lawful members own) (subst (EndsWith duration) entries (answers.ends j there)) (legal j x inside).legal
 
 pub in_order : (id : SessionId) (clients : ℕ) (tasks : List TaskSpecView) (duration : ℕ) (histories : List SectionView) (refused : List (ℕ × Refusal)) → 0 < clients
     → length histories ≡ length id.cpu_sets
@@ -116,12 +116,12 @@ in_order id clients tasks duration histories refused some count legal answers =
         let entries : history_of (map (λ (s : SectionView). s.entries) histories) j ≡ h.entries = get_or-map (λ (s : SectionView). s.entries) histories j x [] within in
         let members = subst (λ (es : List Entry). All (λ e. IsMember clients e.client) es) entries (answers.members j there) in
         let own = λ (i : ℕ) (below : i < clients). subst (λ (es : List Entry). own_entries (i + 1) es ≡ entries_from (i + 1) 0 (made_in id j (own_asked clients i asked) ++ advance_of duration (i + 1))) entries (answers.entries j i there below) in
-        let start = opened h.cpus h.limit in
+        let start = empty_domain h.cpus h.limit in
         let parts = split_of id clients tasks duration histories refused count legal answers j x inside in
         let order = granted_are id clients j duration asked h.entries some members own in
-        let section = section_in_order id asked duration j (cpus_of id j) in
-        let shows : ShowSame start (calls_of h) (calls_of section) =
-        subst (ShowSame start (calls_of h)) (sym (section_calls id asked duration j (cpus_of id j)))
+        let section = section_in_order id asked duration j (cpu_set_of id j) in
+        let shows : ShowSame start (calls_in_section h) (calls_in_section section) =
+        subst (ShowSame start (calls_in_section h)) (sym (section_calls id asked duration j (cpu_set_of id j)))
         (shows_same start duration h.entries (calls_in id j asked) (opened_listing h.cpus h.limit) parts order) in
         let place : j ≡ 0 + j = omega arith in
         subst (λ (n : ℕ). AreSameRuns h (section_in_order id asked duration n (get_or id.cpu_sets j []))) place (same_runs h section is.cpus is.limit shows)

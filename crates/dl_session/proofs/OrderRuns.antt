@@ -9,7 +9,7 @@ use Rattle.domain_run.specs.declared.task.Task.{Task}
 use Rattle.domain_run.specs.declared.call.Call.{Call}
 use Rattle.domain_run.specs.declared.call.Reply.{Reply}
 use Rattle.domain_run.specs.declared.call.Reply.TheVariants.{Admitted, Changed, Woken, Left, Done, Set, Departed, Full, Twice, Busy, NotListed, NotWaiting}
-use Rattle.domain_run.specs.Domain.{Domain, opened}
+use Rattle.domain_run.specs.Domain.{Domain, empty_domain}
 use Rattle.domain_run.specs.Calls.{with_number, reply_to, is_refusal, after_call}
 use Rattle.domain_run.specs.Run.{after_calls, replies_to}
 use Rattle.domain_run.proofs.CallerLemmas.{with_number_contains, granted_is}
@@ -19,7 +19,7 @@ use Rattle.calls_text.specs.declared.section.Entry.{Entry}
 use Rattle.call_book.specs.Book.{AdmissionView, admission}
 use Rattle.calls_text.specs.Histories.{calls_of}
 use Rattle.calls_trace.specs.Replay.{named_by, names_after, names_of}
-use Rattle.dl_session.specs.InOrder.{is_admitted}
+use Rattle.dl_session.specs.InOrder.{is_admitted_reply}
 use Rattle.domain_run.proofs.CallerLemmas.{Reordered, ends, next, swaps, chain}
 use Rattle.domain_run.proofs.CallerLemmas.{Alike}
 use Rattle.dl_session.proofs.OrderAdmissions.{alike_itself, alike_more, task_from, with_admitted, admitted_as, named_as, as_reply, as_after, is_admission, two_calls, alike_call}
@@ -90,7 +90,7 @@ pub record IsListing (d : Domain) : Type 0 where
   pub numbered : AreNumbered d.tasks
   pub known : All (λ t. IsTrue (list_any (λ n. eqb n t.number) d.used)) d.tasks
 
-pub opened_listing : (cpus limit : ℕ) → IsListing (opened cpus limit)
+pub opened_listing : (cpus limit : ℕ) → IsListing (empty_domain cpus limit)
 opened_listing cpus limit = record {
   numbered = λ i j d less within. absurd (omega (arith, within));
   known = All-nil (λ (t : Task). IsTrue (list_any (λ n. eqb n t.number) []));
@@ -125,12 +125,12 @@ listing_run d (c ∷ cs) is all = listing_run (after_call d c) cs (listing_call 
 
 abbrev pub was_admitted : Option Reply → Bool
 was_admitted None = false
-was_admitted (Some r) = is_admitted r
+was_admitted (Some r) = is_admitted_reply r
 
 -- an admission's reply: it was admitted, or refused
 abbrev pub is_verdict : Option Reply → Bool
 is_verdict None = false
-is_verdict (Some r) = is_admitted r || is_refusal r
+is_verdict (Some r) = is_admitted_reply r || is_refusal r
 
 -- the calls of a history that were admitted
 abbrev pub granted_calls : List Entry → List Call
@@ -161,7 +161,7 @@ refused_more d c cs gs refused rest =
           ∙ ap (names_of d gs) (ap (λ b. cond b names (named_by c names)) refused);
     }
 
-pub admitted_is : (r : Reply) → is_admitted r ≡ true → r ≡ Admitted
+pub admitted_is : (r : Reply) → is_admitted_reply r ≡ true → r ≡ Admitted
 admitted_is Admitted e = refl
 admitted_is Changed e = absurd cc
 admitted_is Woken e = absurd cc
@@ -192,5 +192,5 @@ granted_run d (e ∷ entries) verdicts legal =
     let left = filter (λ (x : Entry). was_admitted x.reply) entries in
     elim (was_admitted e.reply) as (λ b. was_admitted e.reply ≡ b → RunsAs d (e.call ∷ calls_of entries) (map (λ x. x.call) (cond b (e ∷ left) left))) [
       | true ↦ λ holds. granted_more d e.call (calls_of entries) (granted_calls entries) (admitted_is (reply_to d e.call) (ap was_admitted (sym first) ∙ holds)) rest
-      | false ↦ λ fails. refused_more d e.call (calls_of entries) (granted_calls entries) (refused_else (is_admitted (reply_to d e.call)) (is_refusal (reply_to d e.call)) (ap was_admitted (sym first) ∙ fails) verdict) rest
+      | false ↦ λ fails. refused_more d e.call (calls_of entries) (granted_calls entries) (refused_else (is_admitted_reply (reply_to d e.call)) (is_refusal (reply_to d e.call)) (ap was_admitted (sym first) ∙ fails) verdict) rest
     ] refl

@@ -11,7 +11,7 @@ use Rattle.rtapp_scenario.specs.ScenarioView.{TaskSpecView}
 use Rattle.calls_text.specs.declared.section.Entry.{Entry}
 use Rattle.call_book.specs.Book.{IsMember}
 use Rattle.session.specs.SessionId.{SessionId}
-use Rattle.session.specs.Asks.{Answer, IsLawful, Asked, Made, call_of, domain_of, made_at, made_in, entries_from}
+use Rattle.session.specs.Asks.{Answer, IsLawful, Asked, Made, admit_call, domain_with_cpus, made_at, made_in, entries_from}
 use Rattle.session.specs.Admissions.{is_own, own_asked}
 use Rattle.session.specs.RunEnd.{advance_of}
 use Rattle.domain_run.proofs.CallerLemmas.{filtered, same_length}
@@ -61,11 +61,11 @@ none_made true ms = refl
 none_made false ms = refl
 
 one_lawful : (id : SessionId) (t : TaskSpecView) (answer : Answer) (o : Option ℕ) (d : ℕ) (ms : List Made) → IsLawful id t answer
-    → others_made (cons_option (made_at d o (call_of t) answer) ms) ≡ others_made ms
+    → others_made (cons_option (made_at d o (admit_call t) answer) ms) ≡ others_made ms
 one_lawful id t answer None d ms lawful = refl
 one_lawful id t (Err refusal) (Some place) d ms lawful = none_made (eqb place d) ms
-one_lawful id t (Ok Admitted) (Some place) d ms lawful = verdict_or_none (eqb place d) (call_of t) Admitted ms refl
-one_lawful id t (Ok (Busy s)) (Some place) d ms lawful = verdict_or_none (eqb place d) (call_of t) (Busy s) ms refl
+one_lawful id t (Ok Admitted) (Some place) d ms lawful = verdict_or_none (eqb place d) (admit_call t) Admitted ms refl
+one_lawful id t (Ok (Busy s)) (Some place) d ms lawful = verdict_or_none (eqb place d) (admit_call t) (Busy s) ms refl
 one_lawful id t (Ok Changed) (Some place) d ms lawful = absurd lawful
 one_lawful id t (Ok Woken) (Some place) d ms lawful = absurd lawful
 one_lawful id t (Ok Left) (Some place) d ms lawful = absurd lawful
@@ -80,7 +80,7 @@ one_lawful id t (Ok NotWaiting) (Some place) d ms lawful = absurd lawful
 all_lawful : (id : SessionId) (d : ℕ) (asked : List Asked) → All (λ q. IsLawful id q.task q.answer) asked → others_made (made_in id d asked) ≡ 0
 all_lawful id d [] lawful = refl
 all_lawful id d (q ∷ asked) lawful =
-    one_lawful id q.task q.answer (domain_of id.cpu_sets q.task.cpus) d (made_in id d asked) (All-head (λ (x : Asked). IsLawful id x.task x.answer) q asked lawful)
+    one_lawful id q.task q.answer (domain_with_cpus id.cpu_sets q.task.cpus) d (made_in id d asked) (All-head (λ (x : Asked). IsLawful id x.task x.answer) q asked lawful)
     ∙ all_lawful id d asked (All-tail (λ (x : Asked). IsLawful id x.task x.answer) q asked lawful)
 
 -- one advance, where there is one at all

@@ -23,7 +23,7 @@ use Rattle.session.specs.declared.report.Report.{Report}
 use Rattle.session.specs.declared.report.Finished.{Finished}
 use Rattle.session.specs.declared.report.Wanted.{Wanted}
 use Rattle.session.specs.SessionId.{SessionId, IsDomainIndex}
-use Rattle.session.specs.Asks.{ClientView, pass_in}
+use Rattle.session.specs.Asks.{ClientView, client_pass_in}
 use Rattle.session.specs.Admissions.{AreNew, AllAsked}
 use Rattle.session.specs.Report.{IsHistoryOf}
 use Rattle.run_options.specs.Options.{AreOptions}
@@ -31,14 +31,14 @@ use Rattle.session.specs.Options.{IsSessionOf}
 use Rattle.dl_session.specs.ScenarioAnswers.{AnswersScenario}
 use Rattle.dl_session.specs.FullBook.{IsFullDomain}
 use Rattle.calls_trace.specs.Answer.{Streams, IsInput, NothingWritten}
-use Rattle.dl_session.specs.RunAnswer.{IsJson, IsScenario, flagged, IsRun, printed, IsRunAnswer, IsRunFault}
+use Rattle.dl_session.specs.RunAnswer.{IsJson, IsScenario, with_reclaim, IsRun, printed_text, IsRunAnswer, IsRunFault}
 use Rattle.calls_trace.specs.declared.fault.TraceFault.{TraceFault}
 use Rattle.calls_trace.specs.declared.fault.TraceFault.TheVariants as traces
 use Rattle.calls_trace.specs.Written.{IsWritten, IsUnwritten}
-use Rattle.session.specs.RunEnd.{IsFirst, IsFinished, IsFullWith, IsStopped}
+use Rattle.session.specs.RunEnd.{FirstIsOne, IsFinished, IsFullWith, IsRunStopped}
 use Rattle.session.specs.declared.fault.EndFault.{EndFault}
 use Rattle.session.specs.declared.fault.EndFault.TheVariants as ends
-use Rattle.dl_session.specs.Upward.{of_end, of_trace}
+use Rattle.dl_session.specs.Upward.{of_end, from_trace}
 use Rattle.dl_session.specs.private.Running.{IsJsonTold, IsScenarioTold, IsRan, IsOrMemory, IsHalted}
 use Rattle.dl_session.proofs.ScenarioLaw.{answers_all, answers_tasks}
 use Rattle.dl_session.proofs.OrderLaw.{in_order}
@@ -61,13 +61,13 @@ faulted s o faults.Start this unwritten reads writes f told = f told
 faulted s o faults.Full this unwritten reads writes f told = f told
 
 pub json_faulted : (s : Streams) (o : Options) (text : List ℕ) (found : JsonFault) (e : SessionFault)
-    → IsInput s text → json.IsFault text found.kind found.at → NothingWritten s → HasNoFault s.reader → HasNoFault s.writer → IsJsonTold found e → IsRunFault s o e
+    → IsInput s text → json.IsJsonFault text found.kind found.at → NothingWritten s → HasNoFault s.reader → HasNoFault s.writer → IsJsonTold found e → IsRunFault s o e
 json_faulted s o text found e input first unwritten reads writes told =
     faulted s o e (λ e. (e ≡ faults.Json found) × (found.kind ≢ kinds.Memory)) unwritten reads writes
     (λ h. subst (IsRunFault s o) (sym h.0) (record { text = text; input = input; not_memory = h.1; first = first; unwritten = unwritten; reads = reads; writes = writes })) told
 
 pub scenario_faulted : (s : Streams) (o : Options) (value : Json) (found : ScenarioFault) (e : SessionFault)
-    → IsJson s value → profile.IsFault (parsed value) found → NothingWritten s → HasNoFault s.reader → HasNoFault s.writer → IsScenarioTold found e → IsRunFault s o e
+    → IsJson s value → profile.IsScenarioFault (parsed value) found → NothingWritten s → HasNoFault s.reader → HasNoFault s.writer → IsScenarioTold found e → IsRunFault s o e
 scenario_faulted s o value found e is first unwritten reads writes told =
     faulted s o e (λ e. (e ≡ faults.Scenario found) × (found ≢ scenario_faults.Memory)) unwritten reads writes
     (λ h. subst (IsRunFault s o) (sym h.0) (record { value = value; json = is; not_memory = h.1; first = first; unwritten = unwritten; reads = reads; writes = writes })) told
@@ -88,12 +88,12 @@ by_nobody id d cs h is = record {
   numbered = is.numbered;
   members = is.members;
   spelled = is.spelled;
-  own = All-nil (λ (c : ClientView). pass_in c d ≡ own_entries c.number h.entries);
+  own = All-nil (λ (c : ClientView). client_pass_in c d ≡ own_entries c.number h.entries);
 }
 
 -- the first client has the number 1
 pub first_is : (id : SessionId) (tasks : List TaskSpecView) (cs es : List ClientView) (refused : List (ℕ × Refusal))
-    → 0 < length cs → AreNew id cs → AllAsked id tasks cs es refused → IsFirst es
+    → 0 < length cs → AreNew id cs → AllAsked id tasks cs es refused → FirstIsOne es
 first_is id tasks cs es refused some new asked x = (asked.each 0 x some).made.number ∙ (new.each 0 x some).numbered
 
 -- what the parts of a run left, with the refusals in the report
@@ -142,16 +142,16 @@ full_domain id tasks duration cs es refused some new asked met = (
 )
 
 abbrev pub ran_answers : (o : Options) (scenario : ScenarioView) (duration : ℕ) (wanted : Wanted) (given tasks : List TaskSpecView) (id : SessionId) (f : Finished)
-    → record { duration_us = duration; tasks = given } ≡ scenario → tasks ≡ map (flagged o.reclaim) given → IsSessionOf o id → IsRan id tasks duration wanted f
-    → AnswersScenario id o.clients (map (flagged o.reclaim) scenario.tasks) scenario.duration_us (map (λ h. h.entries) f.report.histories.items) f.report.refused.items
+    → record { duration_us = duration; tasks = given } ≡ scenario → tasks ≡ map (with_reclaim o.reclaim) given → IsSessionOf o id → IsRan id tasks duration wanted f
+    → AnswersScenario id o.clients (map (with_reclaim o.reclaim) scenario.tasks) scenario.duration_us (map (λ h. h.entries) f.report.histories.items) f.report.refused.items
 ran_answers o scenario duration wanted given tasks id f view same session ran =
     let hs = map (λ h. h.entries) f.report.histories.items in
-    subst (λ (x : ScenarioView). AnswersScenario id o.clients (map (flagged o.reclaim) x.tasks) x.duration_us hs f.report.refused.items) view
+    subst (λ (x : ScenarioView). AnswersScenario id o.clients (map (with_reclaim o.reclaim) x.tasks) x.duration_us hs f.report.refused.items) view
     (subst (λ (ts : List TaskSpecView). AnswersScenario id o.clients ts duration hs f.report.refused.items) same
     (subst (λ (n : ℕ). AnswersScenario id n tasks duration hs f.report.refused.items) session.clients ran.answers))
 
 abbrev pub is_run : (s : Streams) (o : Options) (scenario : ScenarioView) (duration : ℕ) (wanted : Wanted) (given tasks : List TaskSpecView) (id : SessionId) (f : Finished)
-    → AreOptions o → IsScenario s scenario → record { duration_us = duration; tasks = given } ≡ scenario → tasks ≡ map (flagged o.reclaim) given → IsSessionOf o id → IsRan id tasks duration wanted f
+    → AreOptions o → IsScenario s scenario → record { duration_us = duration; tasks = given } ≡ scenario → tasks ≡ map (with_reclaim o.reclaim) given → IsSessionOf o id → IsRan id tasks duration wanted f
     → IsRun s o f.report.histories.items f.report.refused.items
 is_run s o scenario duration wanted given tasks id f options input view same session ran = record {
   scenario = scenario;
@@ -168,44 +168,44 @@ is_run s o scenario duration wanted given tasks id f options input view same ses
     same = same_trace f.report.histories.items;
   };
   answers = ran_answers o scenario duration wanted given tasks id f view same session ran;
-  in_order = in_order id o.clients (map (flagged o.reclaim) scenario.tasks) scenario.duration_us f.report.histories.items f.report.refused.items options.a_client ran.left.count ran.left.histories
+  in_order = in_order id o.clients (map (with_reclaim o.reclaim) scenario.tasks) scenario.duration_us f.report.histories.items f.report.refused.items options.a_client ran.left.count ran.left.histories
       (ran_answers o scenario duration wanted given tasks id f view same session ran);
 }
 
 -- the text of the run was written
 pub run_answered : (s : Streams) (o : Options) (scenario : ScenarioView) (duration : ℕ) (wanted : Wanted) (given tasks : List TaskSpecView) (id : SessionId) (f : Finished) (histories : List SectionView)
-    → AreOptions o → IsScenario s scenario → record { duration_us = duration; tasks = given } ≡ scenario → tasks ≡ map (flagged o.reclaim) given → IsSessionOf o id → IsRan id tasks duration wanted f
-    → histories ≡ f.report.histories.items → HasNoFault s.reader → IsWritten s.writer (printed o.print histories) → IsRunAnswer s o f.report
+    → AreOptions o → IsScenario s scenario → record { duration_us = duration; tasks = given } ≡ scenario → tasks ≡ map (with_reclaim o.reclaim) given → IsSessionOf o id → IsRan id tasks duration wanted f
+    → histories ≡ f.report.histories.items → HasNoFault s.reader → IsWritten s.writer (printed_text o.print histories) → IsRunAnswer s o f.report
 run_answered s o scenario duration wanted given tasks id f histories options input view same session ran written_are reads written = record {
   run = is_run s o scenario duration wanted given tasks id f options input view same session ran;
   left = ran.left;
-  written = subst (λ (hs : List SectionView). Appends s.writer.before.bytes s.writer.after.bytes (printed o.print hs)) written_are written.taken;
+  written = subst (λ (hs : List SectionView). Appends s.writer.before.bytes s.writer.after.bytes (printed_text o.print hs)) written_are written.taken;
   reads = reads;
   writes = written.writes;
 }
 
 -- the last step found a fault
 pub run_faulted : (s : Streams) (o : Options) (histories written : List SectionView) (refused : List (ℕ × Refusal)) (e : TraceFault)
-    → IsRun s o histories refused → written ≡ histories → HasNoFault s.reader → IsUnwritten s.writer (printed o.print written) e → IsRunFault s o (of_trace e)
+    → IsRun s o histories refused → written ≡ histories → HasNoFault s.reader → IsUnwritten s.writer (printed_text o.print written) e → IsRunFault s o (from_trace e)
 run_faulted s o histories written refused (traces.Write n) run same reads unwritten = record {
   histories = histories;
   refused = refused;
   run = run;
-  taken = subst (λ (hs : List SectionView). TakesFront s.writer.before.bytes s.writer.after.bytes (printed o.print hs) n) same unwritten.taken;
+  taken = subst (λ (hs : List SectionView). TakesFront s.writer.before.bytes s.writer.after.bytes (printed_text o.print hs) n) same unwritten.taken;
   reads = reads;
   writes = unwritten.writes;
 }
-run_faulted s o histories written refused traces.Memory run same reads unwritten = record { unwritten = unwritten.kept; reads = reads; writes = unwritten.writes }
+run_faulted s o histories written refused traces.Memory run same reads unwritten = record { unwritten = unwritten.kept; reads = reads; writes = unwritten.no_fault }
 
 -- why the end was not made, as a run tells it
-pub halted : (P Q : Type 0) (e : EndFault) (f : SessionFault) → (P → Q) → IsStopped P e → f ≡ of_end e → IsHalted Q f
+pub halted : (P Q : Type 0) (e : EndFault) (f : SessionFault) → (P → Q) → IsRunStopped P e → f ≡ of_end e → IsHalted Q f
 halted P Q ends.Full f make met is = subst (IsHalted Q) (sym is) (make met)
 halted P Q ends.Memory f make met is = subst (IsHalted Q) (sym is) tt
 
 -- a client's thread was not started, or a run had no room for an advance, or no memory
 pub run_halted : (s : Streams) (o : Options) (scenario : ScenarioView) (duration : ℕ) (given tasks : List TaskSpecView)
     (id : SessionId) (e : SessionFault) → IsScenario s scenario → record { duration_us = duration; tasks = given } ≡ scenario
-    → tasks ≡ map (flagged o.reclaim) given → IsSessionOf o id → NothingWritten s → HasNoFault s.reader → HasNoFault s.writer
+    → tasks ≡ map (with_reclaim o.reclaim) given → IsSessionOf o id → NothingWritten s → HasNoFault s.reader → HasNoFault s.writer
     → IsHalted ((0 < duration) × IsFullDomain id id.clients tasks) e → IsRunFault s o e
 run_halted s o scenario duration given tasks id faults.Start input view same session unwritten reads writes met =
     record { scenario = scenario; input = input; unwritten = unwritten; reads = reads; writes = writes }
@@ -218,7 +218,7 @@ run_halted s o scenario duration given tasks id faults.Full input view same sess
   id = id;
   session = session;
   full =
-      subst (λ (x : ScenarioView). IsFullDomain id o.clients (map (flagged o.reclaim) x.tasks)) view
+      subst (λ (x : ScenarioView). IsFullDomain id o.clients (map (with_reclaim o.reclaim) x.tasks)) view
       (subst (λ (ts : List TaskSpecView). IsFullDomain id o.clients ts) same
       (subst (λ (n : ℕ). IsFullDomain id n tasks) session.clients met.1));
   unwritten = unwritten;

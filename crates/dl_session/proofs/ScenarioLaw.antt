@@ -8,8 +8,8 @@ use Rattle.calls_text.specs.declared.section.Entry.{Entry}
 use Rattle.call_book.specs.Book.{own_entries}
 use Rattle.calls_text.specs.Histories.{IsLegal}
 use Rattle.session.specs.declared.refusal.Refusal.{Refusal}
-use Rattle.session.specs.SessionId.{SessionId, IsDomainIndex, cpus_of}
-use Rattle.session.specs.Asks.{ClientView, Asked, Made, Makes, pass_in, made_in, entries_from}
+use Rattle.session.specs.SessionId.{SessionId, IsDomainIndex, cpu_set_of}
+use Rattle.session.specs.Asks.{ClientView, Asked, Made, Makes, client_pass_in, made_in, entries_from}
 use Rattle.session.specs.Clients.{IsNew}
 use Rattle.session.specs.Admissions.{AreNew, AllAsked}
 use Rattle.session.specs.Report.{IsHistoryOf}
@@ -17,7 +17,7 @@ use Rattle.dl_session.specs.ScenarioAnswers.{AnswersScenario, history_of}
 use Rattle.session.specs.RunEnd.{EndsWith, advance_of}
 use Rattle.session.specs.Admissions.{own_asked}
 use Rattle.dl_session.specs.FullBook.{AnswersTasks}
-use Rattle.dl_session.specs.RunAnswer.{flagged}
+use Rattle.dl_session.specs.RunAnswer.{with_reclaim}
 use Rattle.dl_session.proofs.ByCap.{by_cap, by_cap_alone}
 use Rattle.session.specs.RunEnd.{HaveAdvanced}
 
@@ -44,22 +44,22 @@ empty_pass zero d = refl
 empty_pass (suc n) zero = refl
 empty_pass (suc n) (suc d) = empty_pass n d
 
-pass_of_new : (id : SessionId) (number : ℕ) (c : ClientView) (d : ℕ) → IsNew id number c → pass_in c d ≡ []
+pass_of_new : (id : SessionId) (number : ℕ) (c : ClientView) (d : ℕ) → IsNew id number c → client_pass_in c d ≡ []
 pass_of_new id number c d new = ap (λ (ps : List (List Entry)). get_or ps d []) new.passes ∙ empty_pass (length id.cpu_sets) d
 
 -- what it makes when it has entered nothing
-first_made : (c e : ClientView) (made : ℕ → List Made) (d number : ℕ) → Makes c e made → d < length c.passes → pass_in c d ≡ [] → c.number ≡ number
-    → pass_in e d ≡ entries_from number 0 (made d)
+first_made : (c e : ClientView) (made : ℕ → List Made) (d number : ℕ) → Makes c e made → d < length c.passes → client_pass_in c d ≡ [] → c.number ≡ number
+    → client_pass_in e d ≡ entries_from number 0 (made d)
 first_made c e made d number makes inside empty is =
     makes.passes d inside
     ∙ ap (λ (es : List Entry). es ++ entries_from c.number (length es) (made d)) empty
     ∙ ap (λ (n : ℕ). entries_from n 0 (made d)) is
 
-then_made : (e f : ClientView) (more : ℕ → List Made) (made : List Made) (d number : ℕ) → Makes e f more → d < length e.passes → pass_in e d ≡ entries_from number 0 made → e.number ≡ number
-    → pass_in f d ≡ entries_from number 0 (made ++ more d)
+then_made : (e f : ClientView) (more : ℕ → List Made) (made : List Made) (d number : ℕ) → Makes e f more → d < length e.passes → client_pass_in e d ≡ entries_from number 0 made → e.number ≡ number
+    → client_pass_in f d ≡ entries_from number 0 (made ++ more d)
 then_made e f more made d number makes inside was is =
     makes.passes d inside
-    ∙ ap (λ (n : ℕ). pass_in e d ++ entries_from n (length (pass_in e d)) (more d)) is
+    ∙ ap (λ (n : ℕ). client_pass_in e d ++ entries_from n (length (client_pass_in e d)) (more d)) is
     ∙ ap (λ (es : List Entry). es ++ entries_from number (length es) (more d)) was
     ∙ ap (λ (n : ℕ). entries_from number 0 made ++ entries_from number n (more d)) (length_entries number 0 made)
     ∙ ap (λ (n : ℕ). entries_from number 0 made ++ entries_from number n (more d)) (omega arith)
@@ -80,7 +80,7 @@ no_client = record { number = 0; passes = []; hand = None }
 record HasAsked (id : SessionId) (asked : List Asked) (n i : ℕ) (e : ClientView) : Type 0 where
   pub number : e.number ≡ i + 1
   pub domains : length e.passes ≡ length id.cpu_sets
-  pub passes : (d : ℕ) → IsDomainIndex id d → pass_in e d ≡ entries_from (i + 1) 0 (made_in id d (own_asked n i asked))
+  pub passes : (d : ℕ) → IsDomainIndex id d → client_pass_in e d ≡ entries_from (i + 1) 0 (made_in id d (own_asked n i asked))
 
 has_asked : (id : SessionId) (tasks : List TaskSpecView) (cs es : List ClientView) (refused : List (ℕ × Refusal)) (new : AreNew id cs) (all : AllAsked id tasks cs es refused) (i : ℕ)
     → i < id.clients → HasAsked id all.asked id.clients i (get_or es i no_client)
@@ -101,12 +101,12 @@ has_asked id tasks cs es refused new all i below =
 
 -- a client's entries in a history that shows what the clients have entered
 shown_own : (d i : ℕ) (history : List Entry) (fs : List ClientView) → i < length fs → (get_or fs i no_client).number ≡ i + 1
-    → All (λ (c : ClientView). pass_in c d ≡ own_entries c.number history) fs → own_entries (i + 1) history ≡ pass_in (get_or fs i no_client) d
+    → All (λ (c : ClientView). client_pass_in c d ≡ own_entries c.number history) fs → own_entries (i + 1) history ≡ client_pass_in (get_or fs i no_client) d
 shown_own d i history fs inside number own =
-    sym (ap (λ (n : ℕ). own_entries n history) number) ∙ sym (All-get_or (λ (c : ClientView). pass_in c d ≡ own_entries c.number history) fs i no_client inside own)
+    sym (ap (λ (n : ℕ). own_entries n history) number) ∙ sym (All-get_or (λ (c : ClientView). client_pass_in c d ≡ own_entries c.number history) fs i no_client inside own)
 
 -- legal by the CPUs and the limit of the session
-legal_of : (id : SessionId) (d : ℕ) (h : SectionView) (cs : List ClientView) → IsHistoryOf id d cs h → IsLegal (length (cpus_of id d)) id.limit h.entries
+legal_of : (id : SessionId) (d : ℕ) (h : SectionView) (cs : List ClientView) → IsHistoryOf id d cs h → IsLegal (length (cpu_set_of id d)) id.limit h.entries
 legal_of id d h cs is =
     subst (λ (n : ℕ). IsLegal n id.limit h.entries) is.cpus (subst (λ (n : ℕ). IsLegal h.cpus n h.entries) is.limit is.legal)
 
@@ -167,6 +167,6 @@ answers_tasks id tasks cs es refused d h some new asked place is = record {
 
 -- ---- flags
 
-pub unflagged : (ts : List TaskSpecView) → map (flagged false) ts ≡ ts
+pub unflagged : (ts : List TaskSpecView) → map (with_reclaim false) ts ≡ ts
 unflagged [] = refl
 unflagged (t ∷ ts) = ap (λ (us : List TaskSpecView). t ∷ us) (unflagged ts)

@@ -5,9 +5,9 @@ use Rattle.calls_trace.specs.declared.fault.ReplayFault.{ReplayFault}
 use Rattle.calls_trace.specs.declared.fault.ReplayFault.TheVariants.{Calls, Read, Write, Memory}
 use Rattle.calls_trace.specs.Answer as replays
 use Rattle.dl_session.specs.Upward.{of_replay}
-use Rattle.dl_session.specs.Answer.{IsFaultBy}
+use Rattle.dl_session.specs.Answer.{IsSessionFaultBy}
 
-pub told : (text : List SectionView → List ℕ) (s : replays.Streams) (e : ReplayFault) → replays.IsFaultBy text s e → IsFaultBy text s (of_replay e)
+pub told : (text : List SectionView → List ℕ) (s : replays.Streams) (e : ReplayFault) → replays.IsReplayFaultBy text s e → IsSessionFaultBy text s (of_replay e)
 told text s (Calls n) met = met
 told text s Read met = met
 told text s (Write n) met = met

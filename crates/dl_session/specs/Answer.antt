@@ -7,15 +7,15 @@ use Rattle.calls_trace.specs.Replay.{trace_of_sections}
 use Rattle.calls_trace.specs.Answer.{Streams, IsRefused, IsUnread, IsCutOff, IsOutOfMemory}
 
 -- a fault is what was met, where this text was to be written
-abbrev pub IsFaultBy : (List SectionView → List ℕ) → Streams → SessionFault → Type 0
-IsFaultBy text s (Calls n) = IsRefused s n
-IsFaultBy text s Read = IsUnread s
-IsFaultBy text s (Write written) = IsCutOff text s written
-IsFaultBy text s Memory = IsOutOfMemory s
-IsFaultBy text s (Json fault) = ⊥
-IsFaultBy text s (Scenario fault) = ⊥
-IsFaultBy text s Start = ⊥
-IsFaultBy text s Full = ⊥
+abbrev pub IsSessionFaultBy : (List SectionView → List ℕ) → Streams → SessionFault → Type 0
+IsSessionFaultBy text s (Calls n) = IsRefused s n
+IsSessionFaultBy text s Read = IsUnread s
+IsSessionFaultBy text s (Write written) = IsCutOff text s written
+IsSessionFaultBy text s Memory = IsOutOfMemory s
+IsSessionFaultBy text s (Json fault) = ⊥
+IsSessionFaultBy text s (Scenario fault) = ⊥
+IsSessionFaultBy text s Start = ⊥
+IsSessionFaultBy text s Full = ⊥
 
-abbrev pub IsFaultOf : Streams → SessionFault → Type 0
-IsFaultOf = IsFaultBy trace_of_sections
+abbrev pub IsSessionFault : Streams → SessionFault → Type 0
+IsSessionFault = IsSessionFaultBy trace_of_sections

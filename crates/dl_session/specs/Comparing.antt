@@ -10,17 +10,17 @@ use Rattle.dl_session.specs.declared.comparing.TraceNames.{TraceNames}
 use Rattle.dl_session.specs.declared.comparing.ComparisonEnding.{ComparisonEnding}
 use Rattle.dl_session.specs.declared.comparing.ComparisonEnding.TheVariants.{Done, BothStdin, NotOpened, Fault}
 
-abbrev pub name_of : TraceNames → Input → List ℕ
-name_of names Model = names.model.now
-name_of names Recorded = names.recorded.now
+abbrev pub input_name : TraceNames → Input → List ℕ
+input_name names Model = names.model.now
+input_name names Recorded = names.recorded.now
 
 -- the text of a fault: one line, without the program's name and the LF
 abbrev pub compare_text : CompareFault → TraceNames → List ℕ
 compare_text (BadLine input line) names =
-    codes "trace line " ++ (decimal line ++ (codes " in " ++ one_line (name_of names input)))
-compare_text (NoSwitch input) names = codes "no switch in " ++ one_line (name_of names input)
-compare_text (Read input) names = codes "read failed in " ++ one_line (name_of names input)
-compare_text (Endless input) names = codes "read failed in " ++ one_line (name_of names input)
+    codes "trace line " ++ (decimal line ++ (codes " in " ++ one_line (input_name names input)))
+compare_text (NoSwitch input) names = codes "no switch in " ++ one_line (input_name names input)
+compare_text (Read input) names = codes "read failed in " ++ one_line (input_name names input)
+compare_text (Endless input) names = codes "read failed in " ++ one_line (input_name names input)
 compare_text (Write written) names = codes "write failed after " ++ decimal written
 compare_text Memory names = codes "out of memory"
 

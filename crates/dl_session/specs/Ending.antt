@@ -15,13 +15,14 @@ abbrev pub as_line : List ℕ → List ℕ
 as_line text = text ++ (10 ∷ [])
 
 -- the line of a refused task
-abbrev pub task_line : ℕ × Refusal → List ℕ
-task_line refused = as_line (refused_line (record { number = refused.0; refusal = refused.1 }))
+abbrev pub refused_task_line : ℕ × Refusal → List ℕ
+refused_task_line refused =
+    as_line (refused_line (record { number = refused.0; refusal = refused.1 }))
 
 -- what is said on standard error: a line for each refused task in their order, or the one line of
 -- the fault
 abbrev pub ending_text : Ending → List ℕ
-ending_text (ends.Done refused) = flat_map task_line refused.now
+ending_text (ends.Done refused) = flat_map refused_task_line refused.now
 ending_text (ends.Fault fault) = as_line (codes "dlsim: " ++ fault_text fault.now)
 ending_text (ends.Words fault) = as_line (codes "dlsim: " ++ words_text fault)
 

@@ -9,13 +9,13 @@ use Rattle.session.specs.Asks.{Asked, Made, made_in, entries_from}
 use Rattle.session.specs.RunEnd.{advance_of}
 
 -- the reply that grants an admission
-abbrev pub is_admitted : Reply → Bool
-is_admitted replies.Admitted = true
-is_admitted _ = false
+abbrev pub is_admitted_reply : Reply → Bool
+is_admitted_reply replies.Admitted = true
+is_admitted_reply _ = false
 
 -- the calls that were granted in a domain, in the order of tasks
 abbrev pub granted_in : SessionId → ℕ → List Asked → List Made
-granted_in id d asked = filter (λ m. is_admitted m.reply) (made_in id d asked)
+granted_in id d asked = filter (λ m. is_admitted_reply m.reply) (made_in id d asked)
 
 -- the domain whose admitted tasks client 1 entered in their order, and which it then advanced
 abbrev pub section_in_order : SessionId → List Asked → ℕ → ℕ → List ℕ → SectionView

@@ -4,7 +4,7 @@ use Rattle.std.specs.Char.{encode_utf8}
 use Rattle.std.specs.Fmt.{digit_glyph}
 use Rattle.std.specs.List.{flat_map}
 use Rattle.std.specs.Str.{chars}
-use Rattle.json_order.specs.Fault.{number_of}
+use Rattle.json_order.specs.Fault.{kind_number}
 use Rattle.rtapp_scenario.specs.Told.{fault_number}
 use Rattle.rtapp_scenario.specs.declared.fault.ScenarioFault.{ScenarioFault}
 use Rattle.rtapp_scenario.specs.declared.fault.ScenarioFault.TheVariants.{NoTasks, Duration, Unsupported, Value, Name, Policy, TooMany, Idle, Memory}
@@ -15,15 +15,15 @@ use Rattle.session.specs.RefusalText.{refusal_text}
 
 -- a character of a key: a control character as \u00 and its two digits, so that the line stays one
 -- line; any other as it is
-abbrev pub shown : ℕ → List ℕ
-shown c =
+abbrev pub shown_character : ℕ → List ℕ
+shown_character c =
     if nat_lt c 32 || c == 127
     then codes "\\u00" ++ (digit_glyph false (c / 16) ∷ digit_glyph false (c % 16) ∷ [])
     else encode_utf8 c
 
 -- the key to mend, on one line
 abbrev pub one_line : List ℕ → List ℕ
-one_line key = flat_map shown (chars key)
+one_line key = flat_map shown_character (chars key)
 
 -- behind the number of a scenario's fault
 abbrev pub key_shown : ScenarioFault → List ℕ
@@ -44,7 +44,7 @@ scenario_text fault = codes "scenario " ++ (decimal (fault_number fault) ++ key_
 -- the text of a fault: one line, without the program's name and the LF
 abbrev pub fault_text : SessionFault → List ℕ
 fault_text (faults.Json fault) =
-    codes "json " ++ (decimal (number_of fault.kind) ++ (codes " at " ++ decimal fault.at))
+    codes "json " ++ (decimal (kind_number fault.kind) ++ (codes " at " ++ decimal fault.at))
 fault_text (faults.Scenario fault) = scenario_text fault
 fault_text (faults.Calls n) = codes "calls 30 line " ++ decimal n
 fault_text faults.Read = codes "read failed"

@@ -14,7 +14,7 @@ use Rattle.rtapp_scenario.specs.declared.fault.ScenarioFault.TheVariants as scen
 use Rattle.calls_text.specs.SectionView.{SectionView}
 use Rattle.calls_text.specs.Spelling.{spelling}
 use Rattle.calls_text.specs.Limits.{AreRead}
-use Rattle.calls_text.specs.RoundTrip.{unanswered}
+use Rattle.calls_text.specs.RoundTrip.{without_replies}
 use Rattle.counted_io.specs.Sides.{HasNoFault, HasOneFault}
 use Rattle.counted_io.specs.Faults.{TakesFront}
 use Rattle.dl_session.specs.declared.fault.SessionFault.{SessionFault}
@@ -52,16 +52,16 @@ pub record IsScenario (s : Streams) (scenario : ScenarioView) : Type 0 where
 
 -- a task as it is admitted: with SCHED_FLAG_RECLAIM (2) where the options ask for it
 -- (sched_setattr(2))
-abbrev pub flagged : Bool → TaskSpecView → TaskSpecView
-flagged reclaim t = if reclaim then record t { attr = record t.attr { flags = 2 } } else t
+abbrev pub with_reclaim : Bool → TaskSpecView → TaskSpecView
+with_reclaim reclaim t = if reclaim then record t { attr = record t.attr { flags = 2 } } else t
 
 -- ---- the run
 
 -- the calls text of histories is read again, as the same calls, and its replay writes the same
 -- trace
 pub record AreReplayed (histories : List SectionView) : Type 0 where
-  pub read : AreRead (map unanswered histories)
-  pub same : trace_of_sections (map unanswered histories) ≡ trace_of_sections histories
+  pub read : AreRead (map without_replies histories)
+  pub same : trace_of_sections (map without_replies histories) ≡ trace_of_sections histories
 
 -- the session has the domains and clients of the options; each domain's history is legal and was
 -- made by its clients; their calls text can be replayed; histories and refusals answer the
@@ -78,7 +78,7 @@ pub record IsRun (s : Streams) (o : Options) (histories : List SectionView)
       → IsHistoryOf id d [] (slice_index_or histories d x)
   pub replayed : AreReplayed histories
   pub answers : AnswersScenario id o.clients
-      (map (flagged o.reclaim) scenario.tasks) scenario.duration_us
+      (map (with_reclaim o.reclaim) scenario.tasks) scenario.duration_us
       (map (λ h. h.entries) histories) refused
   pub in_order : trace_of_sections histories
       ≡ trace_of_sections (sections_in_order id answers.asked scenario.duration_us)
@@ -86,14 +86,14 @@ pub record IsRun (s : Streams) (o : Options) (histories : List SectionView)
 -- what is written of histories: the trace of their run, their calls text, their calls with the
 -- replies, the trace with what happens, the jobs or the figures of what happens, or a part of their
 -- run as a chart
-abbrev pub printed : Print → List SectionView → List ℕ
-printed prints.Trace histories = trace_of_sections histories
-printed prints.Calls histories = spelling histories
-printed prints.Replies histories = replies_of histories
-printed prints.Events histories = events_of_sections histories
-printed prints.Jobs histories = jobs_of_sections histories
-printed prints.Summary histories = summary_of_sections histories
-printed (prints.Chart span) histories = chart_of_sections span histories
+abbrev pub printed_text : Print → List SectionView → List ℕ
+printed_text prints.Trace histories = trace_of_sections histories
+printed_text prints.Calls histories = spelling histories
+printed_text prints.Replies histories = replies_of histories
+printed_text prints.Events histories = events_of_sections histories
+printed_text prints.Jobs histories = jobs_of_sections histories
+printed_text prints.Summary histories = summary_of_sections histories
+printed_text (prints.Chart span) histories = chart_of_sections span histories
 
 -- ---- what is answered
 
@@ -103,7 +103,7 @@ pub record IsRunAnswer (s : Streams) (o : Options) (r : Report) : Type 0 where
   pub run : IsRun s o r.histories.items r.refused.items
   pub left : IsLeft run.id [] r
   pub written : Appends s.writer.before.bytes s.writer.after.bytes
-      (printed o.print r.histories.items)
+      (printed_text o.print r.histories.items)
   pub reads : HasNoFault s.reader
   pub writes : HasNoFault s.writer
 
@@ -114,7 +114,7 @@ pub record IsNoJson (s : Streams) (fault : JsonFault) : Type 0 where
   pub text : List ℕ
   pub input : IsInput s text
   pub not_memory : fault.kind ≢ kinds.Memory
-  pub first : json.IsFault text fault.kind fault.at
+  pub first : json.IsJsonFault text fault.kind fault.at
   pub unwritten : NothingWritten s
   pub reads : HasNoFault s.reader
   pub writes : HasNoFault s.writer
@@ -124,7 +124,7 @@ pub record IsNoScenario (s : Streams) (fault : ScenarioFault) : Type 0 where
   pub value : Json
   pub json : IsJson s value
   pub not_memory : fault ≢ scenario_faults.Memory
-  pub first : profile.IsFault (parsed value) fault
+  pub first : profile.IsScenarioFault (parsed value) fault
   pub unwritten : NothingWritten s
   pub reads : HasNoFault s.reader
   pub writes : HasNoFault s.writer
@@ -138,7 +138,7 @@ pub record LacksRoomToAdvance (s : Streams) (o : Options) : Type 0 where
   pub advances : 0 < scenario.duration_us
   pub id : SessionId
   pub session : IsSessionOf o id
-  pub full : IsFullDomain id o.clients (map (flagged o.reclaim) scenario.tasks)
+  pub full : IsFullDomain id o.clients (map (with_reclaim o.reclaim) scenario.tasks)
   pub unwritten : NothingWritten s
   pub reads : HasNoFault s.reader
   pub writes : HasNoFault s.writer
@@ -157,7 +157,7 @@ pub record IsRunCutOff (s : Streams) (o : Options) (written : ℕ) : Type 0 wher
   pub refused : List (ℕ × Refusal)
   pub run : IsRun s o histories refused
   pub taken : TakesFront s.writer.before.bytes s.writer.after.bytes
-      (printed o.print histories) written
+      (printed_text o.print histories) written
   pub reads : HasNoFault s.reader
   pub writes : HasOneFault s.writer
 

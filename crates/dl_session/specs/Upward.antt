@@ -28,9 +28,9 @@ of_replay (replays.Write written) = faults.Write written
 of_replay replays.Memory = faults.Memory
 
 -- why a trace was not written
-abbrev pub of_trace : TraceFault → SessionFault
-of_trace (traces.Write written) = faults.Write written
-of_trace traces.Memory = faults.Memory
+abbrev pub from_trace : TraceFault → SessionFault
+from_trace (traces.Write written) = faults.Write written
+from_trace traces.Memory = faults.Memory
 
 -- why nobody, or not everybody, could ask: a growth was refused, or a thread was not started
 abbrev pub IsUnasked : SessionFault → Type 0

@@ -3,7 +3,7 @@
 ghost use Rattle.std.specs.Prelude.{◌≡◌, ◌++◌};
 ghost use Rattle.std.specs.Fmt.{WritesOnOk};
 ghost use Rattle.dl_session.specs.Lines.{one_line};
-ghost use Rattle.dl_session.specs.Comparing.{name_of, compare_status, compare_text, comparison_status, IsEndOfComparison};
+ghost use Rattle.dl_session.specs.Comparing.{input_name, compare_status, compare_text, comparison_status, IsEndOfComparison};
 
 use crate::fault::write_one_line;
 use compare_report::{CompareFault, Input};
@@ -19,7 +19,7 @@ pub struct TraceNames<'a> {
 impl<'a> TraceNames<'a> {
     /// The name of one of the two.
     fn of(&self, input: Input) -> &'a str
-        ensures { result.now ≡ name_of self.now input }
+        ensures { result.now ≡ input_name self.now input }
     {
         match input {
             Input::Model => self.model,

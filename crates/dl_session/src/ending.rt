@@ -1,7 +1,7 @@
 ghost use Rattle.std.specs.Prelude.{◌≡◌};
 ghost use Rattle.std.specs.Fmt.{WritesOnOk};
 ghost use Rattle.std.specs.List.{flat_map};
-ghost use Rattle.dl_session.specs.Ending.{task_line, IsEndOfRun, IsEndOfReplay, ending_status};
+ghost use Rattle.dl_session.specs.Ending.{refused_task_line, IsEndOfRun, IsEndOfReplay, ending_status};
 
 use crate::fault::{RefusedLine, SessionFault};
 use run_options::WordsFault;
@@ -60,7 +60,8 @@ fn write_refused<W: fmt::Write>(
     f: &mut fmt::Formatter<W>,
     refused: &[(u32, Refusal)],
 ) -> fmt::Result
-    ensures { WritesOnOk W.write_str_gives f.old result (flat_map task_line refused.now) f.new }
+    ensures { WritesOnOk W.write_str_gives f.old result (flat_map refused_task_line refused.now)
+        f.new }
 {
     for (number, refusal) in refused.iter() {
         let line = RefusedLine {

@@ -1,6 +1,6 @@
 ghost use Rattle.std.specs.Prelude.{◌≡◌};
 ghost use Rattle.std.specs.Fmt.{WritesOnOk};
-ghost use Rattle.dl_session.specs.Lines.{shown, one_line, scenario_text};
+ghost use Rattle.dl_session.specs.Lines.{shown_character, one_line, scenario_text};
 ghost use Rattle.dl_session.specs.Status.{exit_status};
 
 use calls_trace::{ReplayFault, TraceFault};
@@ -85,9 +85,9 @@ impl From<EndFault> for SessionFault {
 
 impl From<TraceFault> for SessionFault {
     ghost use Rattle.std.specs.Prelude.{◌≡◌};
-    ghost use Rattle.dl_session.specs.Upward.{of_trace};
+    ghost use Rattle.dl_session.specs.Upward.{from_trace};
 
-    ghost from_gives = { λ found fault. fault ≡ of_trace found };
+    ghost from_gives = { λ found fault. fault ≡ from_trace found };
 
     fn from(found: TraceFault) -> SessionFault {
         match found {
@@ -117,7 +117,7 @@ impl SessionFault {
 /// Writes a character of a key: a control character (below 0x20, or 0x7f) as `\u00` and its two
 /// digits, so that the line stays one line, and any other as it is.
 fn write_shown<W: fmt::Write>(f: &mut fmt::Formatter<W>, c: char) -> fmt::Result
-    ensures { WritesOnOk W.write_str_gives f.old result (shown c) f.new }
+    ensures { WritesOnOk W.write_str_gives f.old result (shown_character c) f.new }
 {
     let code = u32::from(c);
     if code < 0x20 || code == 0x7f {

@@ -6,7 +6,7 @@ ghost use Rattle.calls_text.specs.Spelling.{spelling};
 ghost use Rattle.calls_text.specs.Histories.{AreLegal};
 ghost use Rattle.counted_io.specs.Sides.{faults_of, side};
 ghost use Rattle.calls_trace.specs.Written.{IsWritten, IsUnwritten};
-ghost use Rattle.dl_session.specs.RunAnswer.{printed};
+ghost use Rattle.dl_session.specs.RunAnswer.{printed_text};
 ghost use Rattle.dl_session.specs.private.Printing as printing;
 ghost use Rattle.dl_session.specs.private.Running.{AreLeftAs};
 
@@ -102,9 +102,9 @@ pub(crate) fn write_run<W: Write>(
         heard.now }
     requires faults { faults_of writer.old < 2 ^ 63 }
     ensures ok { OnOk result
-        (IsWritten (side W.contents writer.old writer.new) (printed print histories.now)) }
+        (IsWritten (side W.contents writer.old writer.new) (printed_text print histories.now)) }
     ensures err { IfErr result
-        (IsUnwritten (side W.contents writer.old writer.new) (printed print histories.now)) }
+        (IsUnwritten (side W.contents writer.old writer.new) (printed_text print histories.now)) }
 {
     match source_of(print) {
         Source::Histories => write_histories(alloc, histories, writer),

@@ -2,8 +2,8 @@
 
 ghost use Rattle.std.specs.Prelude.{◌<◌, ◌^◌, OnOk, IfErr};
 ghost use Rattle.counted_io.specs.Sides.{faults_of, side};
-ghost use Rattle.calls_trace.specs.Answer.{streams, IsAnswered, IsAnsweredBy, replayed};
-ghost use Rattle.dl_session.specs.Answer.{IsFaultBy, IsFaultOf};
+ghost use Rattle.calls_trace.specs.Answer.{streams, IsAnswered, IsAnsweredBy, replayed_text};
+ghost use Rattle.dl_session.specs.Answer.{IsSessionFaultBy, IsSessionFault};
 
 use crate::fault::SessionFault;
 use calls_trace::ReplayPrint;
@@ -35,10 +35,10 @@ pub fn replay_as<R: Read, W: Write>(
     requires reader { faults_of reader.old < 2 ^ 63 }
     requires writer { faults_of writer.old < 2 ^ 63 }
     ensures ok { OnOk result
-        (IsAnsweredBy (replayed print) (streams (side R.remaining reader.old reader.new)
+        (IsAnsweredBy (replayed_text print) (streams (side R.remaining reader.old reader.new)
         (side W.contents writer.old writer.new))) }
     ensures err { IfErr result
-        (IsFaultBy (replayed print) (streams (side R.remaining reader.old reader.new)
+        (IsSessionFaultBy (replayed_text print) (streams (side R.remaining reader.old reader.new)
         (side W.contents writer.old writer.new))) }
 {
     match calls_trace::replay_as(alloc, reader, writer, print) {
@@ -68,7 +68,7 @@ pub fn replay<R: Read, W: Write>(
         (IsAnswered (streams (side R.remaining reader.old reader.new)
         (side W.contents writer.old writer.new))) }
     ensures err { IfErr result
-        (IsFaultOf (streams (side R.remaining reader.old reader.new)
+        (IsSessionFault (streams (side R.remaining reader.old reader.new)
         (side W.contents writer.old writer.new))) }
 {
     replay_as(alloc, reader, writer, ReplayPrint::Trace)

@@ -7,7 +7,7 @@ ghost use Rattle.run_options.specs.Options.{AreOptions};
 ghost use Rattle.session.specs.Admissions.{AreNew};
 ghost use Rattle.calls_trace.specs.Answer.{streams, NothingWritten};
 ghost use Rattle.dl_session.specs.FullBook.{IsFullDomain};
-ghost use Rattle.dl_session.specs.RunAnswer.{flagged, IsScenario, IsRunAnswer, IsRunFault};
+ghost use Rattle.dl_session.specs.RunAnswer.{with_reclaim, IsScenario, IsRunAnswer, IsRunFault};
 ghost use Rattle.dl_session.specs.private.Running.{IsJsonTold, IsScenarioTold, IsRan, IsHalted};
 
 use crate::admitting::admit_all;
@@ -75,7 +75,7 @@ fn read_scenario<R: Read>(alloc: Global, reader: &mut Counted<R>) -> Result<Scen
 /// Sets the flag of reclaiming on all tasks, where it is asked for (sched_setattr(2),
 /// SCHED_FLAG_RECLAIM).
 fn flag_all(tasks: &mut Vec<TaskSpec>, reclaim: bool)
-    ensures { tasks.new.items ≡ map (flagged reclaim) tasks.old.items }
+    ensures { tasks.new.items ≡ map (with_reclaim reclaim) tasks.old.items }
 {
     if !reclaim {
         return;

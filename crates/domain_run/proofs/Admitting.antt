@@ -16,7 +16,7 @@ use Rattle.grub_rules.specs.declared.share.Share.{Share}
 use Rattle.domain_run.specs.declared.task.Task.{Task}
 use Rattle.domain_run.specs.Domain.{Domain}
 use Rattle.domain_run.specs.Tick.{share_of, shares, sum_of}
-use Rattle.domain_run.specs.Calls.{new_task, with_number, listed, admit_reply}
+use Rattle.domain_run.specs.Calls.{new_task, with_number, with_task_listed, admit_reply}
 use Rattle.domain_run.specs.declared.call.Reply.TheVariants.{Admitted, Full, Twice, Busy}
 use Rattle.domain_run.specs.Sound.{IsSound, IsSteady, IsDomain}
 use Rattle.domain_run.proofs.Tracing.{listed_traced}
@@ -54,7 +54,7 @@ new_sound d number name params delay script early short = record {
 pub sum_push : (tasks : List Task) (t : Task) → sum_of (tasks ++ t ∷ []) ≡ sum_of tasks + t.params.bw
 sum_push tasks t = ap (sum_by (λ (s : Share). s.bw)) (map-append share_of tasks (t ∷ [])) ∙ sum_by-append (λ (s : Share). s.bw) (shares tasks) (share_of t ∷ []) ∙ ap (λ n. sum_of tasks + n) (omega arith)
 
-pub listed_is : (d : Domain) (number : ℕ) (name : List ℕ) (params : ParamsView) (delay : ℕ) (script : ScriptView) → IsSteady d → delay ≤ 1000000000 → length d.tasks < 256 → list_any (λ n. eqb n number) d.used ≡ false → sum_of d.tasks + params.bw ≤ cap d.cpus d.limit → IsSteady (listed d (new_task d number name params delay script))
+pub listed_is : (d : Domain) (number : ℕ) (name : List ℕ) (params : ParamsView) (delay : ℕ) (script : ScriptView) → IsSteady d → delay ≤ 1000000000 → length d.tasks < 256 → list_any (λ n. eqb n number) d.used ≡ false → sum_of d.tasks + params.bw ≤ cap d.cpus d.limit → IsSteady (with_task_listed d (new_task d number name params delay script))
 listed_is d number name params delay script is short room fresh fits =
     let t = new_task d number name params delay script in
     record {
@@ -92,20 +92,20 @@ granted_is d number params e =
 
 -- the lists of the code are those of the domain with the task
 pub listed_as : (d e : Domain) (number : ℕ) (name : List ℕ) (params : ParamsView) (delay : ℕ) (script : ScriptView) (t : Task) (tasks : List Task) (used : List ℕ) → d ≡ e → t ≡ new_task d number name params delay script → tasks ≡ d.tasks ++ t ∷ [] → used ≡ with_number number d.used
-    → record d { tasks = tasks; used = used } ≡ listed e (new_task e number name params delay script)
+    → record d { tasks = tasks; used = used } ≡ with_task_listed e (new_task e number name params delay script)
 listed_as d e number name params delay script t tasks used same task-is tasks-are used-are =
     let made : List Task → List ℕ → Domain = λ ts us. record d { tasks = ts; used = us } in
     ap (λ ts. made ts used) (tasks-are ∙ ap (λ x. d.tasks ++ x ∷ []) task-is)
     ∙ ap (made (d.tasks ++ new_task d number name params delay script ∷ [])) used-are
-    ∙ ap (λ x. listed x (new_task x number name params delay script)) same
+    ∙ ap (λ x. with_task_listed x (new_task x number name params delay script)) same
 
-pub list_keeps : (d e : Domain) (number : ℕ) (name : List ℕ) (params : ParamsView) (delay : ℕ) (script : ScriptView) → d ≡ e → IsDomain d → delay ≤ 1000000000 → admit_reply e number params ≡ Admitted → IsDomain (listed e (new_task e number name params delay script))
+pub list_keeps : (d e : Domain) (number : ℕ) (name : List ℕ) (params : ParamsView) (delay : ℕ) (script : ScriptView) → d ≡ e → IsDomain d → delay ≤ 1000000000 → admit_reply e number params ≡ Admitted → IsDomain (with_task_listed e (new_task e number name params delay script))
 list_keeps d e number name params delay script same is short granted =
     let g = granted_is e number params granted in
     let is_e : IsDomain e = subst IsDomain same is in
     record {
       steady = listed_is e number name params delay script is_e.steady short g.room g.fresh g.fits;
-      traced = listed_traced e (listed e (new_task e number name params delay script)) refl refl refl refl (λ n h. with_number_contains number n e.used ∙ or_right (eqb number n) (list_any (λ m. eqb m n) e.used) h) is_e.traced;
+      traced = listed_traced e (with_task_listed e (new_task e number name params delay script)) refl refl refl refl (λ n h. with_number_contains number n e.used ∙ or_right (eqb number n) (list_any (λ m. eqb m n) e.used) h) is_e.traced;
     }
 
 -- what the list needs of a new task

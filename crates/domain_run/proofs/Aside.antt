@@ -11,26 +11,26 @@ use Rattle.grub_rules.specs.Lag as lag
 use Rattle.due_times.specs.declared.seats.Seat.{Seat}
 use Rattle.task_script.specs.declared.script.Segment.{Segment}
 use Rattle.task_script.specs.declared.script.Segment.TheVariants.{Run as RunFor, Until, Wait as WaitFor, End}
-use Rattle.task_script.specs.script.Segments.{asked}
+use Rattle.task_script.specs.script.Segments.{next_segment}
 use Rattle.domain_run.specs.declared.task.Task.{Task}
 use Rattle.domain_run.specs.declared.task.Condition.{Condition}
 use Rattle.domain_run.specs.declared.task.Condition.TheVariants.{Blocked, Waiting, Leaving}
 use Rattle.domain_run.specs.Conditions.{is_contending, is_leaving}
 use Rattle.domain_run.specs.Parts.{with_last_cpu, running_on, stopped, went_on, goes_on}
 use Rattle.domain_run.specs.private.Paying.{ran_until}
-use Rattle.domain_run.specs.private.Roster.{bared, IsSeated, leapt, LastsIf}
-use Rattle.domain_run.specs.private.Dozing.{with_lag, with_lags, awake, passed_bare, leapt_bare, IsBare, IsPlain, MayDoze}
-use Rattle.domain_run.specs.private.Waiting.{seat_of, owed, Waits, WaitsIf, AllWait, passed_by, passed}
+use Rattle.domain_run.specs.private.Roster.{without_zero_lag, IsSeated, leapt, LastsIf}
+use Rattle.domain_run.specs.private.Dozing.{with_lag, with_lags, awake, passed_bare, leapt_bare, IsBare, IsWithoutLag, MayDoze}
+use Rattle.domain_run.specs.private.Waiting.{seat_of_task, owed, Waits, WaitsIf, AllWait, passed_by, time_passed}
 use Rattle.edf_pick.specs.Places.{Places}
 use Rattle.domain_run.specs.Domain.{Domain}
 use Rattle.domain_run.specs.Jump.{under_way, ticks_to_event}
-use Rattle.domain_run.specs.Tick.{share_of, shares, sum_of, begun, ticked, ticks}
+use Rattle.domain_run.specs.Tick.{share_of, shares, sum_of, with_tick_begun, ticked, ticks}
 use Rattle.grub_rules.specs.declared.share.Share.{Share}
 use Rattle.std.proofs.lemmas.List.Sums.{sum_by-cons}
 use Rattle.due_times.specs.Timers.{least}
 use Rattle.domain_run.specs.private.Timers.{due_of}
 use Rattle.domain_run.proofs.Due.{still_each}
-use Rattle.domain_run.specs.Sound.{IsApart, IsSound, IsAdmitted, IsDomain}
+use Rattle.domain_run.specs.Sound.{HasNoTaskTwice, IsSound, IsAdmitted, IsDomain}
 use Rattle.domain_run.proofs.Keeping.{Same}
 use Rattle.domain_run.proofs.Leaping.{leapt_one}
 use Rattle.domain_run.proofs.Leapt.{same_leapt}
@@ -46,8 +46,8 @@ use Rattle.domain_run.proofs.Dozing.{doze_back, lists_same, either_lag, lag_cont
 
 -- ---- A TASK THAT STOPS with a zero-lag time has it again
 
-kept_none : (past : ℕ) (u : Task) → u.zero_lag ≡ None → with_lag past u.zero_lag (bared u) ≡ u
-kept_none past u none = ap (λ o. with_lag past o (bared u)) none ∙ (λ i. record u { zero_lag = (sym none) i })
+kept_none : (past : ℕ) (u : Task) → u.zero_lag ≡ None → with_lag past u.zero_lag (without_zero_lag u) ≡ u
+kept_none past u none = ap (λ o. with_lag past o (without_zero_lag u)) none ∙ (λ i. record u { zero_lag = (sym none) i })
 
 -- the time with which a task stops is ahead
 stop_lag : (past time : ℕ) (p : ParamsView) (s : Server) (P : Option ℕ → Type 0) → past ≤ time → P None → ((z : ℕ) → nat_le z past ≡ false → P (Some z)) → P (lag.zero_lag p time s)
@@ -64,20 +64,20 @@ stop_lag past time p s P order none some = elim s.deadline as (λ o. P (lag.lag_
         by_past true f = absurd (let h : z ≤ time = omega (arith, order, leb-true z past f) in let g : true ≡ false = sym (le-leb z time h) ∙ e in cc)
         by_past false f = f
 
-stop_back : (past time : ℕ) (k : Condition) (u : Task) → past ≤ time → is_contending k ≡ false → with_lag past (stopped time k u).zero_lag (bared (stopped time k u)) ≡ stopped time k u
+stop_back : (past time : ℕ) (k : Condition) (u : Task) → past ≤ time → is_contending k ≡ false → with_lag past (stopped time k u).zero_lag (without_zero_lag (stopped time k u)) ≡ stopped time k u
 stop_back past time k u order resting = stop_lag past time u.params u.server (λ o. with_lag past o (record u { condition = k; zero_lag = None }) ≡ record u { condition = k; zero_lag = o }) order refl (λ z ahead.
     ap (λ b. cond (b || nat_le z past) (record u { condition = k; zero_lag = None }) (record u { condition = k; zero_lag = Some z })) resting
     ∙ ap (λ b. cond b (record u { condition = k; zero_lag = None }) (record u { condition = k; zero_lag = Some z })) ahead)
 
-pub lag_back : (past time ticks : ℕ) (left : ℤ) (x : Task) → past ≤ time → x.zero_lag ≡ None → with_lag past (ran_until time ticks left x).zero_lag (bared (ran_until time ticks left x)) ≡ ran_until time ticks left x
+pub lag_back : (past time ticks : ℕ) (left : ℤ) (x : Task) → past ≤ time → x.zero_lag ≡ None → with_lag past (ran_until time ticks left x).zero_lag (without_zero_lag (ran_until time ticks left x)) ≡ ran_until time ticks left x
 lag_back past time ticks left x order none =
     let y : Task = record x { server = record x.server { left = left }; work = x.work - ticks } in
-    elim (eqb y.work 0) as (λ b. with_lag past (cond b (goes_on time y (asked y.cursor time)) (running_on y)).zero_lag (bared (cond b (goes_on time y (asked y.cursor time)) (running_on y))) ≡ cond b (goes_on time y (asked y.cursor time)) (running_on y)) [
-      | true ↦ went_back (asked y.cursor time).segment (record y { cursor = (asked y.cursor time).cursor }) none
+    elim (eqb y.work 0) as (λ b. with_lag past (cond b (goes_on time y (next_segment y.cursor time)) (running_on y)).zero_lag (without_zero_lag (cond b (goes_on time y (next_segment y.cursor time)) (running_on y))) ≡ cond b (goes_on time y (next_segment y.cursor time)) (running_on y)) [
+      | true ↦ went_back (next_segment y.cursor time).segment (record y { cursor = (next_segment y.cursor time).cursor }) none
       | false ↦ kept_none past (running_on y) none
     ]
   where
-    went_back : (s : Segment) (u : Task) → u.zero_lag ≡ None → with_lag past (went_on time s u).zero_lag (bared (went_on time s u)) ≡ went_on time s u
+    went_back : (s : Segment) (u : Task) → u.zero_lag ≡ None → with_lag past (went_on time s u).zero_lag (without_zero_lag (went_on time s u)) ≡ went_on time s u
     went_back (RunFor n) u e = kept_none past (running_on (record u { work = n })) e
     went_back (Until w) u e = stop_back past time (Blocked w) u order refl
     went_back WaitFor u e = stop_back past time Waiting u order refl
@@ -92,18 +92,18 @@ set_lags past (o ∷ lags) (u ∷ tasks) (suc p) l t h g = ap (λ ts. with_lag p
 -- ---- ONE CPU, whose seat is left
 
 module _ (time k cpu : ℕ) (seats : List (Option Seat)) (tasks : List Task) (s : Seat) (there : get_or seats cpu None ≡ Some s) where
-  bare_twice : (seats : List (Option Seat)) (ts : List Task) → map (passed_bare time k seats) ts ≡ map bared (map (passed time k seats) ts)
-  bare_twice seats ts = sym (map_twice bared (passed time k seats) (passed_bare time k seats) ts (λ i d h. refl))
+  bare_twice : (seats : List (Option Seat)) (ts : List Task) → map (passed_bare time k seats) ts ≡ map without_zero_lag (map (time_passed time k seats) ts)
+  bare_twice seats ts = sym (map_twice without_zero_lag (time_passed time k seats) (passed_bare time k seats) ts (λ i d h. refl))
 
   -- no listed task sits there
   pub orphan_bare : All (λ t. t.number ≡ s.number → t.cpu ≡ cpu → ⊥) tasks → map (passed_bare time k (set seats cpu None)) tasks ≡ map (passed_bare time k seats) tasks
-  orphan_bare none = bare_twice (set seats cpu None) tasks ∙ ap (map bared) (orphan_passes time k cpu seats tasks s there none) ∙ sym (bare_twice seats tasks)
+  orphan_bare none = bare_twice (set seats cpu None) tasks ∙ ap (map without_zero_lag) (orphan_passes time k cpu seats tasks s there none) ∙ sym (bare_twice seats tasks)
 
-  pub orphan_lags : (past : ℕ) (lags : List (Option ℕ)) → All (λ t. t.number ≡ s.number → t.cpu ≡ cpu → ⊥) tasks → map (passed time k (set seats cpu None)) (with_lags past lags tasks) ≡ map (passed time k seats) (with_lags past lags tasks)
+  pub orphan_lags : (past : ℕ) (lags : List (Option ℕ)) → All (λ t. t.number ≡ s.number → t.cpu ≡ cpu → ⊥) tasks → map (time_passed time k (set seats cpu None)) (with_lags past lags tasks) ≡ map (time_passed time k seats) (with_lags past lags tasks)
   orphan_lags past lags none = orphan_passes time k cpu seats (with_lags past lags tasks) s there (lags_all (λ t. t.number ≡ s.number → t.cpu ≡ cpu → ⊥) past lags tasks (λ i d h l. either_lag (λ u. u.number ≡ s.number → u.cpu ≡ cpu → ⊥) past l (get_or tasks i d) (none i d h) (λ z. none i d h)))
 
   module _ (p : ℕ) (x : Task) (inside : p < length tasks) (read : x ≡ get_or tasks p x) (number : x.number ≡ s.number) (home : x.cpu ≡ cpu) (numbered : AllPairs (λ a b. a.number ≢ b.number) tasks) where
-    sits_there : seat_of seats x ≡ Some s
+    sits_there : seat_of_task seats x ≡ Some s
     sits_there = ap (λ c. seat_by x.number (get_or seats c None)) home ∙ ap (seat_by x.number) there ∙ ap (λ b. cond b (Some s) None) (eq-eqb s.number x.number (sym number))
 
     apart : (i : ℕ) (d : Task) → i < length tasks → i ≢ p → (get_or tasks i d).number ≢ s.number
@@ -112,21 +112,21 @@ module _ (time k cpu : ℕ) (seats : List (Option Seat)) (tasks : List Task) (s 
     is_there : (d : Task) → get_or tasks p d ≡ x
     is_there d = sym (read ∙ get_or_default tasks p x d inside)
 
-    pub finished_bare : (y : Task) → y.cpu ≡ x.cpu → y ≡ ran_until time k (x.server.left -ℤ pos (s.rate * k)) x → map (passed_bare time k (set seats cpu None)) (set tasks p (bared y)) ≡ map (passed_bare time k seats) tasks
+    pub finished_bare : (y : Task) → y.cpu ≡ x.cpu → y ≡ ran_until time k (x.server.left -ℤ pos (s.rate * k)) x → map (passed_bare time k (set seats cpu None)) (set tasks p (without_zero_lag y)) ≡ map (passed_bare time k seats) tasks
     finished_bare y stays is =
-        map_set_to (passed_bare time k (set seats cpu None)) (passed_bare time k seats) tasks p (bared y)
-        (λ i d h other. ap (λ o. bared (passed_by time k o (get_or tasks i d))) (same_stranger seats cpu s (get_or tasks i d) there (apart i d h other)))
+        map_set_to (passed_bare time k (set seats cpu None)) (passed_bare time k seats) tasks p (without_zero_lag y)
+        (λ i d h other. ap (λ o. without_zero_lag (passed_by time k o (get_or tasks i d))) (same_stranger seats cpu s (get_or tasks i d) there (apart i d h other)))
         (λ d.
-        ap (λ o. bared (passed_by time k o (bared y))) (nobody_here seats cpu (bared y) (stays ∙ home))
-        ∙ ap bared is
-        ∙ sym (ap (passed_bare time k seats) (is_there d) ∙ ap (λ o. bared (passed_by time k o x)) sits_there))
+        ap (λ o. without_zero_lag (passed_by time k o (without_zero_lag y))) (nobody_here seats cpu (without_zero_lag y) (stays ∙ home))
+        ∙ ap without_zero_lag is
+        ∙ sym (ap (passed_bare time k seats) (is_there d) ∙ ap (λ o. without_zero_lag (passed_by time k o x)) sits_there))
 
-    pub finished_lags : (past : ℕ) (lags : List (Option ℕ)) (y : Task) → past ≤ time → p < length lags → x.zero_lag ≡ None → is_contending x.condition ≡ true → y.cpu ≡ x.cpu → y ≡ ran_until time k (x.server.left -ℤ pos (s.rate * k)) x → map (passed time k (set seats cpu None)) (with_lags past (set lags p y.zero_lag) (set tasks p (bared y))) ≡ map (passed time k seats) (with_lags past lags tasks)
+    pub finished_lags : (past : ℕ) (lags : List (Option ℕ)) (y : Task) → past ≤ time → p < length lags → x.zero_lag ≡ None → is_contending x.condition ≡ true → y.cpu ≡ x.cpu → y ≡ ran_until time k (x.server.left -ℤ pos (s.rate * k)) x → map (time_passed time k (set seats cpu None)) (with_lags past (set lags p y.zero_lag) (set tasks p (without_zero_lag y))) ≡ map (time_passed time k seats) (with_lags past lags tasks)
     finished_lags past lags y order wide none contends stays is =
-        let back : with_lag past y.zero_lag (bared y) ≡ y = subst (λ u. with_lag past u.zero_lag (bared u) ≡ u) (sym is) (lag_back past time k (x.server.left -ℤ pos (s.rate * k)) x order none) in
+        let back : with_lag past y.zero_lag (without_zero_lag y) ≡ y = subst (λ u. with_lag past u.zero_lag (without_zero_lag u) ≡ u) (sym is) (lag_back past time k (x.server.left -ℤ pos (s.rate * k)) x order none) in
         let many = length_lags past lags tasks in
-        ap (map (passed time k (set seats cpu None))) (set_lags past lags tasks p y.zero_lag (bared y) wide inside ∙ ap (set (with_lags past lags tasks) p) back)
-        ∙ map_set_to (passed time k (set seats cpu None)) (passed time k seats) (with_lags past lags tasks) p y
+        ap (map (time_passed time k (set seats cpu None))) (set_lags past lags tasks p y.zero_lag (without_zero_lag y) wide inside ∙ ap (set (with_lags past lags tasks) p) back)
+        ∙ map_set_to (time_passed time k (set seats cpu None)) (time_passed time k seats) (with_lags past lags tasks) p y
         (λ i d h other.
         let within : i < length tasks = omega (arith, h, many) in
         let seen = read_lags past lags tasks i d within in
@@ -135,18 +135,18 @@ module _ (time k cpu : ℕ) (seats : List (Option Seat)) (tasks : List Task) (s 
         (λ d.
         ap (λ o. passed_by time k o y) (nobody_here seats cpu y (stays ∙ home))
         ∙ is
-        ∙ sym (ap (passed time k seats) (read_lags past lags tasks p d inside ∙ ap (with_lag past (get_or lags p None)) (is_there d) ∙ lag_contending past (get_or lags p None) x contends) ∙ ap (λ o. passed_by time k o x) sits_there))
+        ∙ sym (ap (time_passed time k seats) (read_lags past lags tasks p d inside ∙ ap (with_lag past (get_or lags p None)) (is_there d) ∙ lag_contending past (get_or lags p None) x contends) ∙ ap (λ o. passed_by time k o x) sits_there))
 
 -- ---- NONE ENDS
 
-module _ (upto time k : ℕ) (seats : List (Option Seat)) (items : List Task) (ahead : (t : Task) → IfSome (seat_of seats t) (λ s. IsAhead upto s × (upto + k < s.end))) (waits : AllWait seats items) where
-  one_lag : (past : ℕ) (lag : Option ℕ) (x : Task) → WaitsIf seats x → passed time k seats (with_lag past lag (owed upto seats x)) ≡ with_lag past lag (passed time k seats (owed upto seats x))
-  one_lag past lag x wait = by_seat (seat_of seats x) refl wait
+module _ (upto time k : ℕ) (seats : List (Option Seat)) (items : List Task) (ahead : (t : Task) → IfSome (seat_of_task seats t) (λ s. IsAhead upto s × (upto + k < s.end))) (waits : AllWait seats items) where
+  one_lag : (past : ℕ) (lag : Option ℕ) (x : Task) → WaitsIf seats x → time_passed time k seats (with_lag past lag (owed upto seats x)) ≡ with_lag past lag (time_passed time k seats (owed upto seats x))
+  one_lag past lag x wait = by_seat (seat_of_task seats x) refl wait
     where
-      same_seat : seat_of seats (with_lag past lag (owed upto seats x)) ≡ seat_of seats x
-      same_seat = either_lag (λ u. seat_of seats u ≡ seat_of seats x) past lag (owed upto seats x) (seat_seen upto seats x) (λ z. seat_seen upto seats x)
+      same_seat : seat_of_task seats (with_lag past lag (owed upto seats x)) ≡ seat_of_task seats x
+      same_seat = either_lag (λ u. seat_of_task seats u ≡ seat_of_task seats x) past lag (owed upto seats x) (seat_seen upto seats x) (λ z. seat_seen upto seats x)
 
-      by_seat : (o : Option Seat) → seat_of seats x ≡ o → IfSome o (λ s. Waits s x) → passed time k seats (with_lag past lag (owed upto seats x)) ≡ with_lag past lag (passed time k seats (owed upto seats x))
+      by_seat : (o : Option Seat) → seat_of_task seats x ≡ o → IfSome o (λ s. Waits s x) → time_passed time k seats (with_lag past lag (owed upto seats x)) ≡ with_lag past lag (time_passed time k seats (owed upto seats x))
       by_seat None e w =
           ap (λ o. passed_by time k o (with_lag past lag (owed upto seats x))) (same_seat ∙ e)
           ∙ ap (with_lag past lag) (sym (ap (λ o. passed_by time k o (owed upto seats x)) (seat_seen upto seats x ∙ e)))
@@ -154,45 +154,45 @@ module _ (upto time k : ℕ) (seats : List (Option Seat)) (items : List Task) (a
           let ready : is_contending x.condition ≡ true = ap is_contending (is_Ready x.condition w.ready) in
           let before : is_contending (owed upto seats x).condition ≡ true = ap is_contending (alike_owed upto seats x).condition ∙ ready in
           let after : is_contending (owed (upto + k) seats x).condition ≡ true = ap is_contending (alike_owed (upto + k) seats x).condition ∙ ready in
-          let made = pass_one upto time k seats x (seat_of seats x) refl (ahead x) wait in
-          ap (passed time k seats) (lag_contending past lag (owed upto seats x) before)
+          let made = pass_one upto time k seats x (seat_of_task seats x) refl (ahead x) wait in
+          ap (time_passed time k seats) (lag_contending past lag (owed upto seats x) before)
           ∙ made
           ∙ sym (lag_contending past lag (owed (upto + k) seats x) after)
           ∙ ap (with_lag past lag) (sym made)
 
-  pub pass_lags : (past : ℕ) (lags : List (Option ℕ)) → with_lags past lags (map (owed (upto + k) seats) items) ≡ map (passed time k seats) (with_lags past lags (map (owed upto seats) items))
+  pub pass_lags : (past : ℕ) (lags : List (Option ℕ)) → with_lags past lags (map (owed (upto + k) seats) items) ≡ map (time_passed time k seats) (with_lags past lags (map (owed upto seats) items))
   pass_lags past lags =
       ap (with_lags past lags) (pass_view upto time k seats items ahead waits)
-      ∙ sym (lags_map (passed time k seats) (passed time k seats) past past lags (map (owed upto seats) items) (All-map (λ t. (lag : Option ℕ) → passed time k seats (with_lag past lag t) ≡ with_lag past lag (passed time k seats t)) (owed upto seats) items (λ i d h lag. one_lag past lag (get_or items i d) (waits i d h))))
+      ∙ sym (lags_map (time_passed time k seats) (time_passed time k seats) past past lags (map (owed upto seats) items) (All-map (λ t. (lag : Option ℕ) → time_passed time k seats (with_lag past lag t) ≡ with_lag past lag (time_passed time k seats t)) (owed upto seats) items (λ i d h lag. one_lag past lag (get_or items i d) (waits i d h))))
 
   pub pass_bare : All IsBare (map (owed upto seats) items) → map (owed (upto + k) seats) items ≡ map (passed_bare time k seats) (map (owed upto seats) items)
   pass_bare bare =
       let many : length (map (owed upto seats) items) ≡ length items = simp length-map in
-      let same = map_itself bared (map (owed (upto + k) seats) items) (All-map (λ t. bared t ≡ t) (owed (upto + k) seats) items (λ i d h.
+      let same = map_itself without_zero_lag (map (owed (upto + k) seats) items) (All-map (λ t. without_zero_lag t ≡ t) (owed (upto + k) seats) items (λ i d h.
       let x = get_or items i d in
       let none : x.zero_lag ≡ None = sym (alike_owed upto seats x).zero_lag ∙ ap (λ (t : Task). t.zero_lag) (sym (get_or-map (owed upto seats) items i d d h)) ∙ (bare i d (omega (arith, h, many))).lag in
       let after : (owed (upto + k) seats x).zero_lag ≡ None = (alike_owed (upto + k) seats x).zero_lag ∙ none in
       λ j. record (owed (upto + k) seats x) { zero_lag = (sym after) j })) in
       sym same
-      ∙ ap (map bared) (pass_view upto time k seats items ahead waits)
-      ∙ map_twice bared (passed time k seats) (passed_bare time k seats) (map (owed upto seats) items) (λ i d h. refl)
+      ∙ ap (map without_zero_lag) (pass_view upto time k seats items ahead waits)
+      ∙ map_twice without_zero_lag (time_passed time k seats) (passed_bare time k seats) (map (owed upto seats) items) (λ i d h. refl)
 
 -- ---- A LEAP
 
-pub leapt_lags : (past time k : ℕ) (places : Places) (cpus limit : ℕ) (tasks : List Task) (seats : List (Option Seat)) (lags : List (Option ℕ)) → IsApart places → All (λ t. with_last_cpu places t ≡ t) tasks → All (IsSeated places cpus limit tasks seats) tasks → map (passed time k seats) (with_lags past lags tasks) ≡ map (leapt time k places cpus limit tasks) (with_lags past lags tasks)
-leapt_lags past time k places cpus limit tasks seats lags apart homed right = map_alike (passed time k seats) (leapt time k places cpus limit tasks) (with_lags past lags tasks)
-    (lags_all (λ u. passed time k seats u ≡ leapt time k places cpus limit tasks u) past lags tasks (λ i d h lag.
+pub leapt_lags : (past time k : ℕ) (places : Places) (cpus limit : ℕ) (tasks : List Task) (seats : List (Option Seat)) (lags : List (Option ℕ)) → HasNoTaskTwice places → All (λ t. with_last_cpu places t ≡ t) tasks → All (IsSeated places cpus limit tasks seats) tasks → map (time_passed time k seats) (with_lags past lags tasks) ≡ map (leapt time k places cpus limit tasks) (with_lags past lags tasks)
+leapt_lags past time k places cpus limit tasks seats lags apart homed right = map_alike (time_passed time k seats) (leapt time k places cpus limit tasks) (with_lags past lags tasks)
+    (lags_all (λ u. time_passed time k seats u ≡ leapt time k places cpus limit tasks u) past lags tasks (λ i d h lag.
     let t = get_or tasks i d in
     leapt_one time k places cpus limit tasks seats (with_lag past lag t) apart (home_with places past lag t ∙ ap (with_lag past lag) (homed i d h)) (either_lag (λ u. IsSeated places cpus limit tasks seats u) past lag t (right i d h) (λ z. right i d h))))
 
 -- of a domain under way, it is so many ticks with the zero-lag times
-pub leap_lags_is : (e : Domain) (before after : List (Option ℕ)) (k time : ℕ) (tasks : List Task) → 0 < k → k ≤ ticks_to_event (under_way e) → time ≡ (under_way e).time + (k - 1) → All IsPlain e.tasks
+pub leap_lags_is : (e : Domain) (before after : List (Option ℕ)) (k time : ℕ) (tasks : List Task) → 0 < k → k ≤ ticks_to_event (under_way e) → time ≡ (under_way e).time + (k - 1) → All IsWithoutLag e.tasks
     → All (LastsIf k (under_way e).curr (under_way e).cpus (under_way e).limit (under_way e).tasks) (under_way e).tasks
     → with_lags (time - 1) after tasks ≡ map (leapt time k (under_way e).curr (under_way e).cpus (under_way e).limit (under_way e).tasks) (with_lags (time - 1) before (under_way e).tasks)
     → awake after (record (under_way e) { time = time; tasks = tasks }) ≡ ticks k (awake before e)
 leap_lags_is e before after k time tasks some quiet time-is plain lasts tasks-are =
     let u = under_way e in
-    let b = begun e in
+    let b = with_tick_begun e in
     let at : time ≡ e.time + k = omega (arith, time-is, some) in
     let past : time - 1 ≡ e.time + (k - 1) = omega (arith, time-is, some) in
     let runs : All (RunsIf b k) b.tasks = λ i x h stand. let r = lasts i x h stand in record { ready = is_Ready (get_or b.tasks i x).condition r.ready; worked = r.worked; lasted = r.lasted } in
@@ -248,22 +248,22 @@ domain_lags e past lags tasks is made =
     number lag t = either_lag (λ u. u.number ≡ t.number) past lag t refl (λ z. refl)
 
 -- with what was put aside each is as before
-pub back_all : (time : ℕ) (lags : List (Option ℕ)) (tasks : List Task) → All (MayDoze time) tasks → ((i : ℕ) (d : Task) → i < length tasks → get_or lags i None ≡ (get_or tasks i d).zero_lag) → with_lags time lags (map bared tasks) ≡ tasks
+pub back_all : (time : ℕ) (lags : List (Option ℕ)) (tasks : List Task) → All (MayDoze time) tasks → ((i : ℕ) (d : Task) → i < length tasks → get_or lags i None ≡ (get_or tasks i d).zero_lag) → with_lags time lags (map without_zero_lag tasks) ≡ tasks
 back_all time lags tasks may are =
-    let len : length (map bared tasks) ≡ length tasks = simp length-map in
-    lists_same (with_lags time lags (map bared tasks)) tasks (length_lags time lags (map bared tasks) ∙ len) (λ i d h.
-    read_lags time lags (map bared tasks) i d (omega (arith, h, len))
-    ∙ (λ j. with_lag time (are i d h j) (get_or-map bared tasks i d d h j))
+    let len : length (map without_zero_lag tasks) ≡ length tasks = simp length-map in
+    lists_same (with_lags time lags (map without_zero_lag tasks)) tasks (length_lags time lags (map without_zero_lag tasks) ∙ len) (λ i d h.
+    read_lags time lags (map without_zero_lag tasks) i d (omega (arith, h, len))
+    ∙ (λ j. with_lag time (are i d h j) (get_or-map without_zero_lag tasks i d d h j))
     ∙ doze_back time (get_or tasks i d) (may i d h))
 
-pub doze_bare : (time : ℕ) (tasks : List Task) → All (MayDoze time) tasks → All IsBare (map bared tasks)
-doze_bare time tasks may = All-map IsBare bared tasks (λ i d h. record { lag = refl; fixed = (may i d h).fixed })
+pub doze_bare : (time : ℕ) (tasks : List Task) → All (MayDoze time) tasks → All IsBare (map without_zero_lag tasks)
+doze_bare time tasks may = All-map IsBare without_zero_lag tasks (λ i d h. record { lag = refl; fixed = (may i d h).fixed })
 
-pub same_bared : (t : Task) → Same t (bared t)
+pub same_bared : (t : Task) → Same t (without_zero_lag t)
 same_bared t = record { number = refl; params = refl; cpu = refl }
 
 -- none is due at once, so none has ended
-pub all_plain : (tasks : List Task) → All IsBare tasks → 0 < least (map due_of tasks) → All IsPlain tasks
+pub all_plain : (tasks : List Task) → All IsBare tasks → 0 < least (map due_of tasks) → All IsWithoutLag tasks
 all_plain tasks bare later i d h =
     let t = get_or tasks i d in
     let b = bare i d h in

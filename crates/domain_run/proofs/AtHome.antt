@@ -8,8 +8,8 @@ use Rattle.std.proofs.lemmas.List.Folds.{Any-from_list_any}
 use Rattle.edf_pick.specs.Places.{Places, is_task, stands}
 use Rattle.domain_run.specs.declared.task.Task.{Task}
 use Rattle.domain_run.specs.Parts.{with_cpu, with_last_cpu}
-use Rattle.domain_run.specs.Sound.{occupant, IsApart}
-use Rattle.domain_run.specs.private.Index.{IsAt}
+use Rattle.domain_run.specs.Sound.{occupant, HasNoTaskTwice}
+use Rattle.domain_run.specs.private.Index.{IsListedAt}
 use Rattle.domain_run.specs.private.RunQueue.{AreHomed}
 use Rattle.domain_run.proofs.Placing.{homed_nowhere, homed_number, position_at, found_at, stands_at, task_there}
 use Rattle.domain_run.proofs.Tracing.{AreStanding}
@@ -36,7 +36,7 @@ homed_stranger places used t all fresh = homed_nowhere places t (not_there (stan
     not_there false e = refl
 
 -- a listed task stands on the CPU to which it belongs, or on none
-pub position_of : (places : Places) (t : Task) (n : ℕ) → IsApart places → t.number ≡ n → with_last_cpu places t ≡ t → position (is_task n) places ≡ cond (is_task n (occupant places t.cpu)) (Some t.cpu) None
+pub position_of : (places : Places) (t : Task) (n : ℕ) → HasNoTaskTwice places → t.number ≡ n → with_last_cpu places t ≡ t → position (is_task n) places ≡ cond (is_task n (occupant places t.cpu)) (Some t.cpu) None
 position_of places t n apart number homed = by_stand (is_task n (occupant places t.cpu)) refl
   where
     by_position : (o : Option ℕ) → position (is_task n) places ≡ o → is_task n (occupant places t.cpu) ≡ false → position (is_task n) places ≡ None
@@ -50,6 +50,6 @@ position_of places t n apart number homed = by_stand (is_task n (occupant places
     by_stand true is = position_at places t.cpu n apart (task_there n (occupant places t.cpu) is)
     by_stand false is = by_position (position (is_task n) places) refl is
 
-pub listed_at : (places : Places) (tasks : List Task) (n p : ℕ) (t : Task) → IsApart places → AreHomed places tasks → IsAt tasks n p → ((d : Task) → t ≡ get_or tasks p d) → position (is_task n) places ≡ cond (is_task n (occupant places t.cpu)) (Some t.cpu) None
+pub listed_at : (places : Places) (tasks : List Task) (n p : ℕ) (t : Task) → HasNoTaskTwice places → AreHomed places tasks → IsListedAt tasks n p → ((d : Task) → t ≡ get_or tasks p d) → position (is_task n) places ≡ cond (is_task n (occupant places t.cpu)) (Some t.cpu) None
 listed_at places tasks n p t apart homed at is =
     position_of places t n apart (ap (λ (u : Task). u.number) (is t) ∙ at.is t) (subst (λ (u : Task). with_last_cpu places u ≡ u) (sym (is t)) (homed p t at.within))

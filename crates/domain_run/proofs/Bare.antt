@@ -6,7 +6,7 @@ use Rattle.due_times.specs.declared.seats.Seat.{Seat}
 use Rattle.domain_run.specs.declared.run_queue.RunQueue.{RunQueue}
 use Rattle.domain_run.specs.private.RunQueue.{IsCounted}
 use Rattle.due_times.specs.Seats.{seat_by}
-use Rattle.domain_run.specs.private.Waiting.{owed, owed_by, seat_of, left_of}
+use Rattle.domain_run.specs.private.Waiting.{owed, owed_by, seat_of_task, seats_without}
 use Rattle.domain_run.proofs.Counting.{home_at}
 use Rattle.domain_run.proofs.Waiting.{alike_owed, counted_unlike, read_owed, left_here}
 
@@ -20,11 +20,11 @@ module _ (upto : ℕ) (seats : List (Option Seat)) (items : List Task) (p : ℕ)
       let inside : p < length (map (owed upto seats) items) = omega (arith, h, many) in
       read_owed upto seats items p x h read ∙ get_or_default (map (owed upto seats) items) p (owed upto seats x) d inside
 
-  pub bare_at : ((d : Task) → seat_of seats (get_or (map (owed upto seats) items) p d) ≡ None) → (d : Task) → x ≡ get_or (map (owed upto seats) items) p d
+  pub bare_at : ((d : Task) → seat_of_task seats (get_or (map (owed upto seats) items) p d) ≡ None) → (d : Task) → x ≡ get_or (map (owed upto seats) items) p d
   bare_at free d =
       let a = alike_owed upto seats x in
-      let own : seat_of seats x ≡ seat_of seats (owed upto seats x) = λ i. seat_by (sym a.number i) (get_or seats (sym a.cpu i) None) in
-      let none : seat_of seats x ≡ None = own ∙ ap (seat_of seats) (seen_at x) ∙ free x in
+      let own : seat_of_task seats x ≡ seat_of_task seats (owed upto seats x) = λ i. seat_by (sym a.number i) (get_or seats (sym a.cpu i) None) in
+      let none : seat_of_task seats x ≡ None = own ∙ ap (seat_of_task seats) (seen_at x) ∙ free x in
       sym (ap (λ o. owed_by upto o x) none) ∙ seen_at d
 
   -- where it belongs to a CPU on which nobody sits
@@ -40,5 +40,5 @@ module _ (upto : ℕ) (seats : List (Option Seat)) (items : List Task) (p : ℕ)
   home_seen cpus queue counted = subst (λ (t : Task). t.cpu < cpus) (sym read) (home_at cpus queue items p x h (counted_unlike (owed upto seats) (alike_owed upto seats) cpus queue items counted))
 
 -- who has left its seat sits nowhere
-pub left_free : (t : Task) (seats : List (Option Seat)) → seat_of (left_of t seats) t ≡ None
+pub left_free : (t : Task) (seats : List (Option Seat)) → seat_of_task (seats_without t seats) t ≡ None
 left_free t seats = left_here t.cpu t.number seats

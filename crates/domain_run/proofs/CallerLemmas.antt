@@ -21,10 +21,10 @@ use Rattle.domain_run.specs.Conditions.{is_contending, is_leaving}
 use Rattle.domain_run.specs.Parts.{stopped}
 use Rattle.domain_run.specs.Domain.{Domain}
 use Rattle.domain_run.specs.Tick.{share_of, shares, sum_of, ticked, ticks}
-use Rattle.domain_run.specs.Calls.{admit_reply, new_task, listed, task_of, of_number, changed, regraded, regrade_reply, wake_reply, released, leave_reply, ended, limit_reply, with_limit, depart_reply, is_other, departed, reply_to, is_refusal, granted, after_call}
+use Rattle.domain_run.specs.Calls.{admit_reply, new_task, with_task_listed, task_of, of_number, with_task_changed, with_new_params, regrade_reply, wake_reply, blocked_until, leave_reply, ended_at, limit_reply, with_limit, depart_reply, is_other, after_departure, reply_to, is_refusal, after_granted, after_call}
 use Rattle.domain_run.specs.Views.{view_of, view_in, name_in}
 use Rattle.domain_run.specs.Busy.{LacksRoomFor, LacksRoomToChange}
-use Rattle.domain_run.specs.Keys.{key_of, keys, has_task, listed_keys, AreKept, with_bw}
+use Rattle.domain_run.specs.Keys.{key_of, keys, has_task, listed_keys, AreKept, key_with_bw}
 use Rattle.domain_run.proofs.KeptKeys as kept
 -- passed on to callers who run the definitions in another order
 pub use Rattle.domain_run.proofs.Admitting.{with_number_contains, sum_push, IsGranted, granted_is}
@@ -131,47 +131,47 @@ one_bw ks number a b apart one two =
 -- ---- what each call does to the keys
 
 pub refused_keeps : (d : Domain) (c : Call) → IsTrue (is_refusal (reply_to d c)) → after_call d c ≡ d
-refused_keeps d c refused = ap (λ b. cond b d (granted d c)) refused
+refused_keeps d c refused = ap (λ b. cond b d (after_granted d c)) refused
 
 pub admitted_keys : (d : Domain) (number : ℕ) (name : List ℕ) (params : ParamsView) (delay : ℕ) (script : ScriptView) → reply_to d (Admit number name params delay script) ≡ Admitted
     → keys (after_call d (Admit number name params delay script)).tasks ≡ keys d.tasks ++ (number, params.bw) ∷ []
 admitted_keys d number name params delay script e =
     let t = new_task d number name params delay script in
-    ap (λ r. keys (cond (is_refusal r) d (listed d t)).tasks) e ∙ map-append key_of d.tasks (t ∷ [])
+    ap (λ r. keys (cond (is_refusal r) d (with_task_listed d t)).tasks) e ∙ map-append key_of d.tasks (t ∷ [])
 
-key_regraded : (number : ℕ) (p : ParamsView) (t : Task) → key_of (of_number number (regraded p) t) ≡ with_bw number p.bw (key_of t)
+key_regraded : (number : ℕ) (p : ParamsView) (t : Task) → key_of (of_number number (with_new_params p) t) ≡ key_with_bw number p.bw (key_of t)
 key_regraded number p t =
-    elim (eqb t.number number) as (λ b. key_of (cond b (regraded p t) t) ≡ cond b (t.number, p.bw) (key_of t)) [ true ↦ refl | false ↦ refl ]
+    elim (eqb t.number number) as (λ b. key_of (cond b (with_new_params p t) t) ≡ cond b (t.number, p.bw) (key_of t)) [ true ↦ refl | false ↦ refl ]
 
-keys_regraded : (number : ℕ) (p : ParamsView) (tasks : List Task) → keys (map (of_number number (regraded p)) tasks) ≡ map (with_bw number p.bw) (keys tasks)
+keys_regraded : (number : ℕ) (p : ParamsView) (tasks : List Task) → keys (map (of_number number (with_new_params p)) tasks) ≡ map (key_with_bw number p.bw) (keys tasks)
 keys_regraded number p [] = refl
 keys_regraded number p (t ∷ tasks) =
-    ap (λ k. k ∷ keys (map (of_number number (regraded p)) tasks)) (key_regraded number p t) ∙ ap (λ ks. with_bw number p.bw (key_of t) ∷ ks) (keys_regraded number p tasks)
+    ap (λ k. k ∷ keys (map (of_number number (with_new_params p)) tasks)) (key_regraded number p t) ∙ ap (λ ks. key_with_bw number p.bw (key_of t) ∷ ks) (keys_regraded number p tasks)
 
 pub regraded_keys : (d : Domain) (number : ℕ) (p : ParamsView) (word : Option ℕ) → reply_to d (Regrade number p word) ≡ Changed
-    → keys (after_call d (Regrade number p word)).tasks ≡ map (with_bw number p.bw) (keys d.tasks)
+    → keys (after_call d (Regrade number p word)).tasks ≡ map (key_with_bw number p.bw) (keys d.tasks)
 regraded_keys d number p word e =
-    ap (λ r. keys (cond (is_refusal r) d (changed d number (regraded p))).tasks) e ∙ keys_regraded number p d.tasks
+    ap (λ r. keys (cond (is_refusal r) d (with_task_changed d number (with_new_params p))).tasks) e ∙ keys_regraded number p d.tasks
 
 -- a key in the place of one, where numbers are apart: what a list kept beside the tasks does
-keys_absent : (number bw : ℕ) (ks : List (ℕ × ℕ)) → All (λ k. number ≢ k.0) ks → map (with_bw number bw) ks ≡ ks
+keys_absent : (number bw : ℕ) (ks : List (ℕ × ℕ)) → All (λ k. number ≢ k.0) ks → map (key_with_bw number bw) ks ≡ ks
 keys_absent number bw [] all = refl
 keys_absent number bw (k ∷ ks) all =
     let other : eqb k.0 number ≡ false = ne_eqb k.0 number (λ e. all zero k (omega arith) (sym e)) in
     let rest : All (λ l. number ≢ l.0) ks = λ i d h. all (suc i) d (omega arith) in
-    ap (λ b. cond b (k.0, bw) k ∷ map (with_bw number bw) ks) other ∙ ap (λ ls. k ∷ ls) (keys_absent number bw ks rest)
+    ap (λ b. cond b (k.0, bw) k ∷ map (key_with_bw number bw) ks) other ∙ ap (λ ls. k ∷ ls) (keys_absent number bw ks rest)
 
-pub with_bw_at : (number bw : ℕ) (ks : List (ℕ × ℕ)) (i : ℕ) (d : ℕ × ℕ) → AllPairs (λ k l. k.0 ≢ l.0) ks → i < length ks → (get_or ks i d).0 ≡ number → map (with_bw number bw) ks ≡ set ks i (number, bw)
+pub with_bw_at : (number bw : ℕ) (ks : List (ℕ × ℕ)) (i : ℕ) (d : ℕ × ℕ) → AllPairs (λ k l. k.0 ≢ l.0) ks → i < length ks → (get_or ks i d).0 ≡ number → map (key_with_bw number bw) ks ≡ set ks i (number, bw)
 with_bw_at number bw [] i d apart within at = absurd (omega (arith, within))
 with_bw_at number bw (k ∷ ks) zero d apart within at =
     let others : All (λ l. number ≢ l.0) ks = λ j e h same. apart zero (suc j) e (omega arith) (omega arith) (at ∙ same) in
-    let here : with_bw number bw k ≡ (number, bw) = ap (λ b. cond b (k.0, bw) k) (eq-eqb k.0 number at) ∙ ap (λ n. (n, bw)) at in
-    ap (λ l. l ∷ map (with_bw number bw) ks) here ∙ ap (λ ls. (number, bw) ∷ ls) (keys_absent number bw ks others)
+    let here : key_with_bw number bw k ≡ (number, bw) = ap (λ b. cond b (k.0, bw) k) (eq-eqb k.0 number at) ∙ ap (λ n. (n, bw)) at in
+    ap (λ l. l ∷ map (key_with_bw number bw) ks) here ∙ ap (λ ls. (number, bw) ∷ ls) (keys_absent number bw ks others)
 with_bw_at number bw (k ∷ ks) (suc i) d apart within at =
     let rest : AllPairs (λ l m. l.0 ≢ m.0) ks = λ j n e less inside. apart (suc j) (suc n) e (omega arith) (omega arith) in
     let there : i < length ks = omega arith in
     let other : eqb k.0 number ≡ false = ne_eqb k.0 number (λ e. apart zero (suc i) d (omega arith) (omega arith) (e ∙ sym at)) in
-    ap (λ b. cond b (k.0, bw) k ∷ map (with_bw number bw) ks) other ∙ ap (λ ls. k ∷ ls) (with_bw_at number bw ks i d rest there at)
+    ap (λ b. cond b (k.0, bw) k ∷ map (key_with_bw number bw) ks) other ∙ ap (λ ls. k ∷ ls) (with_bw_at number bw ks i d rest there at)
 
 -- the keys of a domain have numbers apart
 pub keys_apart : (tasks : List Task) → kept.AreNumbered tasks → AllPairs (λ k l. k.0 ≢ l.0) (keys tasks)
@@ -185,7 +185,7 @@ either_keys : (b : Bool) (d e : Domain) → keys e.tasks ≡ keys d.tasks → ke
 either_keys true d e same = refl
 either_keys false d e same = same
 
-keys_changed : (d : Domain) (number : ℕ) (f : Task → Task) → ((t : Task) → (f t).number ≡ t.number) → ((t : Task) → (f t).params ≡ t.params) → keys (changed d number f).tasks ≡ keys d.tasks
+keys_changed : (d : Domain) (number : ℕ) (f : Task → Task) → ((t : Task) → (f t).number ≡ t.number) → ((t : Task) → (f t).params ≡ t.params) → keys (with_task_changed d number f).tasks ≡ keys d.tasks
 keys_changed d number f same kept_params =
     kept.keys_map (of_number number f)
     (λ t. elim (eqb t.number number) as (λ b. (cond b (f t) t).number ≡ t.number) [ true ↦ same t | false ↦ refl ])
@@ -194,14 +194,14 @@ keys_changed d number f same kept_params =
 
 -- a wake keeps the keys, whatever the reply
 pub wake_keys : (d : Domain) (number : ℕ) → keys (after_call d (Wake number)).tasks ≡ keys d.tasks
-wake_keys d number = either_keys (is_refusal (wake_reply (task_of d number))) d (changed d number (released d.time)) (keys_changed d number (released d.time) (λ t. refl) (λ t. refl))
+wake_keys d number = either_keys (is_refusal (wake_reply (task_of d number))) d (with_task_changed d number (blocked_until d.time)) (keys_changed d number (blocked_until d.time) (λ t. refl) (λ t. refl))
 
 -- so does a leave: the task stays listed until a tick takes it off
 pub leave_keys : (d : Domain) (number : ℕ) → keys (after_call d (Leave number)).tasks ≡ keys d.tasks
 leave_keys d number =
-    let same : (t : Task) → ((ended d.time t).number ≡ t.number) × ((ended d.time t).params ≡ t.params) =
+    let same : (t : Task) → ((ended_at d.time t).number ≡ t.number) × ((ended_at d.time t).params ≡ t.params) =
     λ t. elim (is_contending t.condition) as (λ b. ((cond b (stopped d.time Leaving t) (record t { condition = Leaving })).number ≡ t.number) × ((cond b (stopped d.time Leaving t) (record t { condition = Leaving })).params ≡ t.params)) [ true ↦ (refl, refl) | false ↦ (refl, refl) ] in
-    either_keys (is_refusal (leave_reply (task_of d number))) d (changed d number (ended d.time)) (keys_changed d number (ended d.time) (λ t. (same t).0) (λ t. (same t).1))
+    either_keys (is_refusal (leave_reply (task_of d number))) d (with_task_changed d number (ended_at d.time)) (keys_changed d number (ended_at d.time) (λ t. (same t).0) (λ t. (same t).1))
 
 -- a depart takes the key of the number away
 keys_others : (number : ℕ) (tasks : List Task) → keys (filter (is_other number) tasks) ≡ filter (λ k. not (eqb k.0 number)) (keys tasks)
@@ -213,7 +213,7 @@ keys_others number (t ∷ tasks) =
 
 pub departed_keys : (d : Domain) (number : ℕ) → reply_to d (Depart number) ≡ Departed → keys (after_call d (Depart number)).tasks ≡ filter (λ k. not (eqb k.0 number)) (keys d.tasks)
 departed_keys d number e =
-    ap (λ r. keys (cond (is_refusal r) d (departed d number)).tasks) e ∙ keys_others number d.tasks
+    ap (λ r. keys (cond (is_refusal r) d (after_departure d number)).tasks) e ∙ keys_others number d.tasks
 
 -- an arrival is an admission without a delay
 pub arrived_keys : (d : Domain) (number : ℕ) (name : List ℕ) (params : ParamsView) (script : ScriptView) → reply_to d (Arrive number name params script) ≡ Admitted
@@ -238,14 +238,14 @@ either_time true d e same = omega arith
 either_time false d e same = omega (arith, same)
 
 pub call_time : (d : Domain) (c : Call) → (after_call d c).time ≡ d.time + ticks_of c
-call_time d (Admit number name params delay script) = either_time (is_refusal (admit_reply d number params)) d (granted d (Admit number name params delay script)) refl
-call_time d (Regrade number params word) = either_time (is_refusal (regrade_reply d params word (task_of d number))) d (granted d (Regrade number params word)) refl
-call_time d (Wake number) = either_time (is_refusal (wake_reply (task_of d number))) d (granted d (Wake number)) refl
-call_time d (Leave number) = either_time (is_refusal (leave_reply (task_of d number))) d (granted d (Leave number)) refl
+call_time d (Admit number name params delay script) = either_time (is_refusal (admit_reply d number params)) d (after_granted d (Admit number name params delay script)) refl
+call_time d (Regrade number params word) = either_time (is_refusal (regrade_reply d params word (task_of d number))) d (after_granted d (Regrade number params word)) refl
+call_time d (Wake number) = either_time (is_refusal (wake_reply (task_of d number))) d (after_granted d (Wake number)) refl
+call_time d (Leave number) = either_time (is_refusal (leave_reply (task_of d number))) d (after_granted d (Leave number)) refl
 call_time d (Advance n) = ticks_time n d
-call_time d (Limit limit word) = either_time (is_refusal (limit_reply d limit word)) d (granted d (Limit limit word)) refl
-call_time d (Depart number) = either_time (is_refusal (depart_reply (task_of d number))) d (departed d number) refl
-call_time d (Arrive number name params script) = either_time (is_refusal (admit_reply d number params)) d (granted d (Arrive number name params script)) refl
+call_time d (Limit limit word) = either_time (is_refusal (limit_reply d limit word)) d (after_granted d (Limit limit word)) refl
+call_time d (Depart number) = either_time (is_refusal (depart_reply (task_of d number))) d (after_departure d number) refl
+call_time d (Arrive number name params script) = either_time (is_refusal (admit_reply d number params)) d (after_granted d (Arrive number name params script)) refl
 
 -- the same CPUs and the same limit, and so the same cap
 pub record SameMachine (d e : Domain) : Type 0 where
@@ -262,14 +262,14 @@ sets_limit (Limit limit word) = true
 sets_limit c = false
 
 pub call_machine : (d : Domain) (c : Call) → sets_limit c ≡ false → SameMachine d (after_call d c)
-call_machine d (Admit number name params delay script) is = either_machine (is_refusal (admit_reply d number params)) d (granted d (Admit number name params delay script)) (record { cpus = refl; limit = refl })
-call_machine d (Regrade number params word) is = either_machine (is_refusal (regrade_reply d params word (task_of d number))) d (granted d (Regrade number params word)) (record { cpus = refl; limit = refl })
-call_machine d (Wake number) is = either_machine (is_refusal (wake_reply (task_of d number))) d (granted d (Wake number)) (record { cpus = refl; limit = refl })
-call_machine d (Leave number) is = either_machine (is_refusal (leave_reply (task_of d number))) d (granted d (Leave number)) (record { cpus = refl; limit = refl })
+call_machine d (Admit number name params delay script) is = either_machine (is_refusal (admit_reply d number params)) d (after_granted d (Admit number name params delay script)) (record { cpus = refl; limit = refl })
+call_machine d (Regrade number params word) is = either_machine (is_refusal (regrade_reply d params word (task_of d number))) d (after_granted d (Regrade number params word)) (record { cpus = refl; limit = refl })
+call_machine d (Wake number) is = either_machine (is_refusal (wake_reply (task_of d number))) d (after_granted d (Wake number)) (record { cpus = refl; limit = refl })
+call_machine d (Leave number) is = either_machine (is_refusal (leave_reply (task_of d number))) d (after_granted d (Leave number)) (record { cpus = refl; limit = refl })
 call_machine d (Advance n) is = record { cpus = ticks_cpus n d; limit = ticks_limit n d }
 call_machine d (Limit limit word) is = absurd cc
-call_machine d (Depart number) is = either_machine (is_refusal (depart_reply (task_of d number))) d (departed d number) (record { cpus = refl; limit = refl })
-call_machine d (Arrive number name params script) is = either_machine (is_refusal (admit_reply d number params)) d (granted d (Arrive number name params script)) (record { cpus = refl; limit = refl })
+call_machine d (Depart number) is = either_machine (is_refusal (depart_reply (task_of d number))) d (after_departure d number) (record { cpus = refl; limit = refl })
+call_machine d (Arrive number name params script) is = either_machine (is_refusal (admit_reply d number params)) d (after_granted d (Arrive number name params script)) (record { cpus = refl; limit = refl })
 
 either_cpus : (b : Bool) (d e : Domain) → e.cpus ≡ d.cpus → (cond b d e).cpus ≡ d.cpus
 either_cpus true d e same = refl
@@ -283,7 +283,7 @@ call_cpus d (Wake number) = (call_machine d (Wake number) refl).cpus
 call_cpus d (Leave number) = (call_machine d (Leave number) refl).cpus
 call_cpus d (Advance n) = ticks_cpus n d
 call_cpus d (Limit limit word) = either_cpus (is_refusal (limit_reply d limit word)) d (with_limit limit d) refl
-call_cpus d (Depart number) = either_cpus (is_refusal (depart_reply (task_of d number))) d (departed d number) refl
+call_cpus d (Depart number) = either_cpus (is_refusal (depart_reply (task_of d number))) d (after_departure d number) refl
 call_cpus d (Arrive number name params script) = (call_machine d (Arrive number name params script) refl).cpus
 
 either_tasks : (b : Bool) (d e : Domain) → e.tasks ≡ d.tasks → (cond b d e).tasks ≡ d.tasks
@@ -353,12 +353,12 @@ first_apart k front back number bw apart =
     all_between P (y ∷ xs) x ys all = all_between P xs x ys (λ j e h. all (suc j) e (omega arith))
 
 -- after a regrade: the one item of the number
-pub with_bw_between : (number old bw : ℕ) (front back : List (ℕ × ℕ)) → AllPairs (λ k l. k.0 ≢ l.0) (front ++ (number, old) ∷ back) → map (with_bw number bw) (front ++ (number, old) ∷ back) ≡ front ++ (number, bw) ∷ back
+pub with_bw_between : (number old bw : ℕ) (front back : List (ℕ × ℕ)) → AllPairs (λ k l. k.0 ≢ l.0) (front ++ (number, old) ∷ back) → map (key_with_bw number bw) (front ++ (number, old) ∷ back) ≡ front ++ (number, bw) ∷ back
 with_bw_between number old bw [] back apart = with_bw_at number bw ((number, old) ∷ back) 0 (number, old) apart (omega arith) refl
 with_bw_between number old bw (k ∷ front) back apart =
     let rest : AllPairs (λ l m. l.0 ≢ m.0) (front ++ (number, old) ∷ back) = λ j n e less inside. apart (suc j) (suc n) e (omega arith) (omega arith) in
     let other : eqb k.0 number ≡ false = ne_eqb k.0 number (first_apart k front back number old apart) in
-    ap (λ b. cond b (k.0, bw) k ∷ map (with_bw number bw) (front ++ (number, old) ∷ back)) other ∙ ap (λ ls. k ∷ ls) (with_bw_between number old bw front back rest)
+    ap (λ b. cond b (k.0, bw) k ∷ map (key_with_bw number bw) (front ++ (number, old) ∷ back)) other ∙ ap (λ ls. k ∷ ls) (with_bw_between number old bw front back rest)
 
 -- after a depart: all items but the one of the number
 others_stay : (number : ℕ) (ks : List (ℕ × ℕ)) → All (λ k. number ≢ k.0) ks → filter (λ k. not (eqb k.0 number)) ks ≡ ks

@@ -16,7 +16,7 @@ use Rattle.domain_run.specs.declared.call.Reply.TheVariants.{Changed, Woken, Bus
 use Rattle.domain_run.specs.Conditions.{is_leaving, is_waiting}
 use Rattle.domain_run.specs.Domain.{Domain}
 use Rattle.domain_run.specs.Tick.{share_of, shares, sum_of}
-use Rattle.domain_run.specs.Calls.{task_of, of_number, changed, regrade_reply, regraded, wake_reply, released, ended}
+use Rattle.domain_run.specs.Calls.{task_of, of_number, with_task_changed, regrade_reply, with_new_params, wake_reply, blocked_until, ended_at}
 use Rattle.domain_run.specs.Sound.{IsSound, IsTimed, IsSteady, IsDomain}
 use Rattle.domain_run.proofs.Keeping.{AllPairs-map, sum-map}
 use Rattle.domain_run.proofs.Tracing.{listed_traced}
@@ -81,16 +81,16 @@ only_one P number (u ∷ tasks) t differ e holds =
 sum_first : (t : Task) (tasks : List Task) → sum_of (t ∷ tasks) ≡ t.params.bw + sum_of tasks
 sum_first t tasks = sum_by-cons (λ (s : Share). s.bw) (share_of t) (shares tasks)
 
-sum_regraded : (number : ℕ) (p : ParamsView) (tasks : List Task) (t : Task) → Differ tasks → find (is_live number) tasks ≡ Some t → sum_of (map (of_number number (regraded p)) tasks) + t.params.bw ≡ sum_of tasks + p.bw
+sum_regraded : (number : ℕ) (p : ParamsView) (tasks : List Task) (t : Task) → Differ tasks → find (is_live number) tasks ≡ Some t → sum_of (map (of_number number (with_new_params p)) tasks) + t.params.bw ≡ sum_of tasks + p.bw
 sum_regraded number p [] t differ e = absurd cc
 sum_regraded number p (u ∷ tasks) t differ e =
-    let more = map (of_number number (regraded p)) tasks in
-    elim (eqb u.number number) as (λ b. eqb u.number number ≡ b → cond (b && not (is_leaving u.condition)) (Some u) (find (is_live number) tasks) ≡ Some t → sum_of (cond b (regraded p u) u ∷ more) + t.params.bw ≡ sum_of (u ∷ tasks) + p.bw) [
-      | true ↦ λ here found. let none = none_left number u tasks differ here in elim (not (is_leaving u.condition)) as (λ b. cond b (Some u) (find (is_live number) tasks) ≡ Some t → sum_of (regraded p u ∷ more) + t.params.bw ≡ sum_of (u ∷ tasks) + p.bw) [
+    let more = map (of_number number (with_new_params p)) tasks in
+    elim (eqb u.number number) as (λ b. eqb u.number number ≡ b → cond (b && not (is_leaving u.condition)) (Some u) (find (is_live number) tasks) ≡ Some t → sum_of (cond b (with_new_params p u) u ∷ more) + t.params.bw ≡ sum_of (u ∷ tasks) + p.bw) [
+      | true ↦ λ here found. let none = none_left number u tasks differ here in elim (not (is_leaving u.condition)) as (λ b. cond b (Some u) (find (is_live number) tasks) ≡ Some t → sum_of (with_new_params p u ∷ more) + t.params.bw ≡ sum_of (u ∷ tasks) + p.bw) [
         | true ↦ λ is. let same : u ≡ t = cc in
             let bw : u.params.bw ≡ t.params.bw = ap (λ x. x.params.bw) same in
-            let kept : sum_of more ≡ sum_of tasks = ap sum_of (map_none (regraded p) number tasks none) in
-            omega (arith, sum_first (regraded p u) more, sum_first u tasks, bw, kept)
+            let kept : sum_of more ≡ sum_of tasks = ap sum_of (map_none (with_new_params p) number tasks none) in
+            omega (arith, sum_first (with_new_params p u) more, sum_first u tasks, bw, kept)
         | false ↦ λ is. absurd (find_none number tasks t none is)
       ] found
       | false ↦ λ here found. let rest = sum_regraded number p tasks t (rest_differ u tasks differ) found in omega (arith, sum_first u more, sum_first u tasks, rest)
@@ -101,7 +101,7 @@ sum_kept f keeps number tasks = sum-map (of_number number f) (λ t. elim (eqb t.
 
 -- ---- each change keeps a task sound
 
-pub regraded_sound : (time : ℕ) (p : ParamsView) (t : Task) → IsSound time t → IsSound time (regraded p t)
+pub regraded_sound : (time : ℕ) (p : ParamsView) (t : Task) → IsSound time t → IsSound time (with_new_params p t)
 regraded_sound time p t h = record { served = h.served; spent = h.spent; lifted = h.lifted; dated = h.dated; busy = h.busy; timed = h.timed }
 
 waiting_timed : (time reference : ℕ) (c : Condition) → is_waiting c ≡ true → IsTimed time c reference → reference ≤ time
@@ -111,7 +111,7 @@ waiting_timed time reference (Blocked u) e h = absurd cc
 waiting_timed time reference Waiting e h = h
 waiting_timed time reference Leaving e h = absurd cc
 
-pub released_sound : (time : ℕ) (t : Task) → time ≤ 2 ^ 42 → is_waiting t.condition ≡ true → IsSound time t → IsSound time (released time t)
+pub released_sound : (time : ℕ) (t : Task) → time ≤ 2 ^ 42 → is_waiting t.condition ≡ true → IsSound time t → IsSound time (blocked_until time t)
 released_sound time t early e h =
     let behind = waiting_timed time t.cursor.reference t.condition e h.timed in
     record { served = h.served; spent = λ x. absurd cc; lifted = λ x. absurd cc; dated = λ x. absurd cc; busy = λ x. absurd cc; timed = (omega arith, omega arith) }
@@ -147,10 +147,10 @@ changed_steady d f change is within sound =
       apart = is.apart;
     }
 
-changed_is : (d : Domain) (number : ℕ) (f : Task → Task) → IsChange f → IsDomain d → sum_of (map (of_number number f) d.tasks) ≤ cap d.cpus d.limit → All (IsSound d.time) (map (of_number number f) d.tasks) → IsDomain (changed d number f)
+changed_is : (d : Domain) (number : ℕ) (f : Task → Task) → IsChange f → IsDomain d → sum_of (map (of_number number f) d.tasks) ≤ cap d.cpus d.limit → All (IsSound d.time) (map (of_number number f) d.tasks) → IsDomain (with_task_changed d number f)
 changed_is d number f change is within sound = record {
   steady = changed_steady d (of_number number f) (one_change number f change) is.steady within sound;
-  traced = listed_traced d (changed d number f) refl refl refl refl (λ n h. h) is.traced;
+  traced = listed_traced d (with_task_changed d number f) refl refl refl refl (λ n h. h) is.traced;
 }
 
 not_busy : (b : Bool) (s : ℕ) → cond b (Busy s) Changed ≡ Changed → b ≡ false
@@ -161,11 +161,11 @@ may_change : (d : Domain) (p : ParamsView) (o : Option Task) → regrade_reply d
 may_change d p None e = absurd cc
 may_change d p (Some t) e = (t, refl, ltb-false (cap d.cpus d.limit) (sum_of d.tasks - t.params.bw + p.bw) (not_busy (ltb (cap d.cpus d.limit) (sum_of d.tasks - t.params.bw + p.bw)) (sum_of d.tasks) e))
 
-pub regrade_keeps : (d : Domain) (number : ℕ) (p : ParamsView) → IsDomain d → regrade_reply d p None (task_of d number) ≡ Changed → All (IsSound d.time) (map (of_number number (regraded p)) d.tasks) → IsDomain (changed d number (regraded p))
+pub regrade_keeps : (d : Domain) (number : ℕ) (p : ParamsView) → IsDomain d → regrade_reply d p None (task_of d number) ≡ Changed → All (IsSound d.time) (map (of_number number (with_new_params p)) d.tasks) → IsDomain (with_task_changed d number (with_new_params p))
 regrade_keeps d number p is reply sound =
     let g = may_change d p (task_of d number) reply in
     let sum = sum_regraded number p d.tasks g.0 is.steady.numbered g.1 in
-    changed_is d number (regraded p) (record { number = λ t. refl; cpu = λ t. refl }) is (omega (arith, sum, g.2)) sound
+    changed_is d number (with_new_params p) (record { number = λ t. refl; cpu = λ t. refl }) is (omega (arith, sum, g.2)) sound
 
 woken_waits : (o : Option Task) → wake_reply o ≡ Woken → (t : Task) × (o ≡ Some t) × (is_waiting t.condition ≡ true)
 woken_waits None e = absurd cc
@@ -177,13 +177,13 @@ woken_may d number is reply =
     let g = woken_waits (task_of d number) reply in
     only_one (λ t. IsTrue (is_waiting t.condition) × (d.time ≤ 2 ^ 42)) number d.tasks g.0 is.numbered g.1 (g.2, is.early)
 
-pub wake_keeps : (d : Domain) (number : ℕ) → IsDomain d → All (IsSound d.time) (map (of_number number (released d.time)) d.tasks) → IsDomain (changed d number (released d.time))
+pub wake_keeps : (d : Domain) (number : ℕ) → IsDomain d → All (IsSound d.time) (map (of_number number (blocked_until d.time)) d.tasks) → IsDomain (with_task_changed d number (blocked_until d.time))
 wake_keeps d number is sound =
-    changed_is d number (released d.time) (record { number = λ t. refl; cpu = λ t. refl }) is (rw (sum_kept (released d.time) (λ t. refl) number d.tasks) is.steady.within) sound
+    changed_is d number (blocked_until d.time) (record { number = λ t. refl; cpu = λ t. refl }) is (rw (sum_kept (blocked_until d.time) (λ t. refl) number d.tasks) is.steady.within) sound
 
-pub ended_change : (time : ℕ) → IsChange (ended time)
+pub ended_change : (time : ℕ) → IsChange (ended_at time)
 ended_change time = record { number = λ t. (ended_same time t).number; cpu = λ t. (ended_same time t).cpu }
 
-pub leave_keeps : (d : Domain) (number : ℕ) → IsDomain d → All (IsSound d.time) (map (of_number number (ended d.time)) d.tasks) → IsDomain (changed d number (ended d.time))
+pub leave_keeps : (d : Domain) (number : ℕ) → IsDomain d → All (IsSound d.time) (map (of_number number (ended_at d.time)) d.tasks) → IsDomain (with_task_changed d number (ended_at d.time))
 leave_keeps d number is sound =
-    changed_is d number (ended d.time) (ended_change d.time) is (rw (sum_kept (ended d.time) (λ t. (ended_same d.time t).params) number d.tasks) is.steady.within) sound
+    changed_is d number (ended_at d.time) (ended_change d.time) is (rw (sum_kept (ended_at d.time) (λ t. (ended_same d.time t).params) number d.tasks) is.steady.within) sound

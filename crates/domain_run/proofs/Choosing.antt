@@ -7,9 +7,9 @@ use Rattle.grub_rules.specs.Accounts.{AccountsView, AreAccounts, Exchanges, Hold
 use Rattle.grub_rules.proofs.CallerLemmas.{held_at, turned_at}
 use Rattle.edf_pick.specs.declared.candidate.Candidate.{Candidate}
 use Rattle.edf_pick.specs.declared.moves.Moved.{Moved}
-use Rattle.edf_pick.specs.Changes.{home_on, homed}
+use Rattle.edf_pick.specs.Changes.{home_on, with_home}
 use Rattle.edf_pick.specs.Choice.{is_before}
-use Rattle.edf_pick.specs.Order.{with_candidate, ordered}
+use Rattle.edf_pick.specs.Order.{with_candidate, by_deadline}
 use Rattle.edf_pick.specs.Places.{Places, is_task}
 use Rattle.domain_run.specs.declared.task.Task.{Task}
 use Rattle.domain_run.specs.declared.task.Condition.{Condition}
@@ -18,11 +18,11 @@ use Rattle.domain_run.specs.Conditions.{is_ready}
 use Rattle.domain_run.specs.Parts.{with_cpu, with_last_cpu}
 use Rattle.domain_run.specs.Tick.{share_of, shares, candidate_of, candidates}
 use Rattle.domain_run.specs.Sound.{occupant}
-use Rattle.domain_run.specs.private.Choosing.{AreCounted, IsHome, homed_by}
-use Rattle.domain_run.specs.private.Index.{IsAt}
+use Rattle.domain_run.specs.private.Choosing.{AreCounted, IsHome, task_homed_by}
+use Rattle.domain_run.specs.private.Index.{IsListedAt}
 use Rattle.domain_run.specs.private.Roster.{homed_here}
 use Rattle.domain_run.specs.private.RunQueue.{IsRoster, IsCounted}
-use Rattle.due_times.specs.Seats.{SeatsView, left}
+use Rattle.due_times.specs.Seats.{SeatsView, without_seat}
 use Rattle.domain_run.specs.private.Timers.{due_of}
 use Rattle.domain_run.specs.private.Waiting.{owed, owed_all, WaitsIf, AllWait}
 use Rattle.domain_run.proofs.AtHome.{homed_placed}
@@ -34,17 +34,17 @@ use Rattle.domain_run.proofs.Waiting.{alike_owed, numbered_unlike, read_owed, le
 
 -- ---- THE ORDER
 
-before_homed : (places : Places) (a c : Candidate) → is_before (homed places a) (homed places c) ≡ is_before a c
+before_homed : (places : Places) (a c : Candidate) → is_before (with_home places a) (with_home places c) ≡ is_before a c
 before_homed places a c =
-    elim (position (is_task a.number) places) as (λ o. is_before (home_on a o) (homed places c) ≡ is_before a c) [
+    elim (position (is_task a.number) places) as (λ o. is_before (home_on a o) (with_home places c) ≡ is_before a c) [
       | None ↦ elim (position (is_task c.number) places) as (λ o. is_before a (home_on c o) ≡ is_before a c) [ None ↦ refl | Some k ↦ refl ]
       | Some j ↦ elim (position (is_task c.number) places) as (λ o. is_before (record a { home = j }) (home_on c o) ≡ is_before a c) [ None ↦ refl | Some k ↦ refl ]
     ]
 
-with_homed : (places : Places) (c : Candidate) (queue : List Candidate) → with_candidate (homed places c) (map (homed places) queue) ≡ map (homed places) (with_candidate c queue)
+with_homed : (places : Places) (c : Candidate) (queue : List Candidate) → with_candidate (with_home places c) (map (with_home places) queue) ≡ map (with_home places) (with_candidate c queue)
 with_homed places c [] = refl
 with_homed places c (a ∷ queue) =
-    let f = homed places in
+    let f = with_home places in
     let more = with_candidate (f c) (map f queue) in
     ap (λ b. cond b (f a ∷ more) (f c ∷ f a ∷ map f queue)) (before_homed places a c)
     ∙ elim (is_before a c) as (λ b. cond b (f a ∷ more) (f c ∷ f a ∷ map f queue) ≡ map f (cond b (a ∷ with_candidate c queue) (c ∷ a ∷ queue))) [
@@ -52,33 +52,33 @@ with_homed places c (a ∷ queue) =
       | false ↦ refl
     ]
 
-ordered_homed : (places : Places) (cs : List Candidate) → ordered (map (homed places) cs) ≡ map (homed places) (ordered cs)
+ordered_homed : (places : Places) (cs : List Candidate) → by_deadline (map (with_home places) cs) ≡ map (with_home places) (by_deadline cs)
 ordered_homed places [] = refl
-ordered_homed places (c ∷ cs) = ap (with_candidate (homed places c)) (ordered_homed places cs) ∙ with_homed places c (ordered cs)
+ordered_homed places (c ∷ cs) = ap (with_candidate (with_home places c)) (ordered_homed places cs) ∙ with_homed places c (by_deadline cs)
 
 condition_at : (o : Option ℕ) (t : Task) → (with_cpu o t).condition ≡ t.condition
 condition_at None t = refl
 condition_at (Some cpu) t = refl
 
-candidates_homed : (places : Places) (tasks : List Task) → candidates (map (with_last_cpu places) tasks) ≡ map (homed places) (candidates tasks)
+candidates_homed : (places : Places) (tasks : List Task) → candidates (map (with_last_cpu places) tasks) ≡ map (with_home places) (candidates tasks)
 candidates_homed places [] = refl
 candidates_homed places (t ∷ tasks) =
     let h = with_last_cpu places t in
     let o = position (is_task t.number) places in
     let now = filter (λ (x : Task). is_ready x.condition) (map (with_last_cpu places) tasks) in
     let was = filter (λ (x : Task). is_ready x.condition) tasks in
-    let more : map candidate_of now ≡ map (homed places) (map candidate_of was) = candidates_homed places tasks in
-    let one : candidate_of h ≡ homed places (candidate_of t) = elim o as (λ o. candidate_of (with_cpu o t) ≡ home_on (candidate_of t) o) [ None ↦ refl | Some cpu ↦ refl ] in
+    let more : map candidate_of now ≡ map (with_home places) (map candidate_of was) = candidates_homed places tasks in
+    let one : candidate_of h ≡ with_home places (candidate_of t) = elim o as (λ o. candidate_of (with_cpu o t) ≡ home_on (candidate_of t) o) [ None ↦ refl | Some cpu ↦ refl ] in
     ap (λ (c : Condition). map candidate_of (cond (is_ready c) (h ∷ now) now)) (condition_at o t)
-    ∙ elim (is_ready t.condition) as (λ b. map candidate_of (cond b (h ∷ now) now) ≡ map (homed places) (map candidate_of (cond b (t ∷ was) was))) [
+    ∙ elim (is_ready t.condition) as (λ b. map candidate_of (cond b (h ∷ now) now) ≡ map (with_home places) (map candidate_of (cond b (t ∷ was) was))) [
       | true ↦ (λ i. one i ∷ more i)
       | false ↦ more
     ]
 
 -- the order of the tasks with the CPUs on which they stand
-order_homed : (places : Places) (queue : List Candidate) (tasks : List Task) → queue ≡ ordered (candidates tasks) → map (homed places) queue ≡ ordered (candidates (map (with_last_cpu places) tasks))
+order_homed : (places : Places) (queue : List Candidate) (tasks : List Task) → queue ≡ by_deadline (candidates tasks) → map (with_home places) queue ≡ by_deadline (candidates (map (with_last_cpu places) tasks))
 order_homed places queue tasks is =
-    ap (map (homed places)) is ∙ sym (ordered_homed places (candidates tasks)) ∙ sym (ap ordered (candidates_homed places tasks))
+    ap (map (with_home places)) is ∙ sym (ordered_homed places (candidates tasks)) ∙ sym (ap by_deadline (candidates_homed places tasks))
 
 dues_homed : (places : Places) (tasks : List Task) → map due_of (map (with_last_cpu places) tasks) ≡ map due_of tasks
 dues_homed places [] = refl
@@ -91,7 +91,7 @@ dues_homed places (t ∷ tasks) =
 pub counted_homed : (cpus : ℕ) (old new : RunQueue) (was : SeatsView) (seats : SeatsView) (before items : List Task)
     → IsCounted cpus old (owed_all was before)
     → length new.accounts.all ≡ length old.accounts.all → AreCounted new.accounts seats items
-    → new.schedule.queue ≡ map (homed new.schedule.places) old.schedule.queue → new.timers ≡ old.timers
+    → new.schedule.queue ≡ map (with_home new.schedule.places) old.schedule.queue → new.timers ≡ old.timers
     → owed_all seats items ≡ map (with_last_cpu new.schedule.places) (owed_all was before)
     → IsCounted cpus new (owed_all seats items)
 counted_homed cpus old new was seats before items is wide counts queue timers tasks =
@@ -100,7 +100,7 @@ counted_homed cpus old new was seats before items is wide counts queue timers ta
       wide = wide ∙ is.wide;
       counts = record {
         sums = counts.sums;
-        order = queue ∙ order_homed places old.schedule.queue (owed_all was before) is.counts.order ∙ sym (ap (λ (ts : List Task). ordered (candidates ts)) tasks);
+        order = queue ∙ order_homed places old.schedule.queue (owed_all was before) is.counts.order ∙ sym (ap (λ (ts : List Task). by_deadline (candidates ts)) tasks);
         due = timers ∙ is.counts.due ∙ sym (dues_homed places (owed_all was before)) ∙ sym (ap (λ (ts : List Task). map due_of ts) tasks);
       };
       roster = counts.roster;
@@ -125,12 +125,12 @@ module _ (accounts : AccountsView) (s : SeatsView) (tasks : List Task) (p : ℕ)
   pub start_held : Holds accounts (share_of (owed s.upto s.seats x))
   start_held = subst (λ (t : Task). Holds accounts (share_of t)) (sym read_seen) (held_at share_of accounts (owed_all s tasks) p seen within counts.sums)
 
-  module _ (cpu : ℕ) (new : AccountsView) (after : SeatsView) (y : Task) (there : cpu < length accounts.all) (is : y ≡ with_cpu (Some cpu) (owed s.upto s.seats x)) (are : after ≡ record s { seats = left cpu x.number (left x.cpu x.number s.seats) }) where
+  module _ (cpu : ℕ) (new : AccountsView) (after : SeatsView) (y : Task) (there : cpu < length accounts.all) (is : y ≡ with_cpu (Some cpu) (owed s.upto s.seats x)) (are : after ≡ record s { seats = without_seat cpu x.number (without_seat x.cpu x.number s.seats) }) where
     same : y.number ≡ x.number
     same = ap (λ (t : Task). t.number) is ∙ (alike_owed s.upto s.seats x).number
 
     left_are : after ≡ record s { seats = left_twice x y s.seats }
-    left_are = are ∙ ap (λ (c : ℕ). record s { seats = left c x.number (left x.cpu x.number s.seats) }) (sym (ap (λ (t : Task). t.cpu) is))
+    left_are = are ∙ ap (λ (c : ℕ). record s { seats = without_seat c x.number (without_seat x.cpu x.number s.seats) }) (sym (ap (λ (t : Task). t.cpu) is))
 
     numbered : AllPairs (λ a b. a.number ≢ b.number) tasks
     numbered = numbered_unlike (owed s.upto s.seats) (alike_owed s.upto s.seats) tasks counts.roster.numbered
@@ -150,7 +150,7 @@ module _ (accounts : AccountsView) (s : SeatsView) (tasks : List Task) (p : ℕ)
       waits = subst (λ (v : SeatsView). AllWait v.seats (set tasks p y)) (sym left_are) (turned_waits s.upto s.seats tasks p x y h read numbered same counts.waits);
     }
 
-    pub started_tasks : (number : ℕ) → IsAt (owed_all s tasks) number p → owed_all after (set tasks p y) ≡ map (homed_here (Some number) cpu) (owed_all s tasks)
+    pub started_tasks : (number : ℕ) → IsListedAt (owed_all s tasks) number p → owed_all after (set tasks p y) ≡ map (homed_here (Some number) cpu) (owed_all s tasks)
     started_tasks number at =
         view_is ∙ ap (λ (t : Task). set (owed_all s tasks) p t) (is ∙ ap (with_cpu (Some cpu)) read_seen)
         ∙ sym (map_at (with_cpu (Some cpu)) number (owed_all s tasks) p seen counts.roster.numbered at)
@@ -172,10 +172,10 @@ module _ (accounts : AccountsView) (s : SeatsView) (tasks : List Task) (p : ℕ)
     started_clock = ap (λ (v : SeatsView). v.upto) are
 
     pub started_wide : length after.seats ≡ length s.seats
-    started_wide = ap (λ (v : SeatsView). length v.seats) are ∙ length_left cpu x.number (left x.cpu x.number s.seats) ∙ length_left x.cpu x.number s.seats
+    started_wide = ap (λ (v : SeatsView). length v.seats) are ∙ length_left cpu x.number (without_seat x.cpu x.number s.seats) ∙ length_left x.cpu x.number s.seats
 
   -- where it belongs to the CPU already, nothing is to be done
-  pub stays_tasks : (cpu number : ℕ) → x.cpu ≡ cpu → IsAt (owed_all s tasks) number p → owed_all s tasks ≡ map (homed_here (Some number) cpu) (owed_all s tasks)
+  pub stays_tasks : (cpu number : ℕ) → x.cpu ≡ cpu → IsListedAt (owed_all s tasks) number p → owed_all s tasks ≡ map (homed_here (Some number) cpu) (owed_all s tasks)
   stays_tasks cpu number here at =
       let home : with_cpu (Some cpu) (get_or (owed_all s tasks) p seen) ≡ get_or (owed_all s tasks) p seen =
       ap (with_cpu (Some cpu)) (sym read_seen) ∙ ap (λ (c : ℕ). record seen { cpu = c }) (sym here ∙ sym (alike_owed s.upto s.seats x).cpu) ∙ read_seen in
@@ -186,12 +186,12 @@ module _ (accounts : AccountsView) (s : SeatsView) (tasks : List Task) (p : ℕ)
 abbrev pub nobody : Moved
 nobody = record { cpu = 0; before = None }
 
-pub homed_none : (places : Places) (tasks : List Task) → map (homed_by places []) tasks ≡ tasks
-homed_none places tasks = map_itself (homed_by places []) tasks (λ k d h. refl)
+pub homed_none : (places : Places) (tasks : List Task) → map (task_homed_by places []) tasks ≡ tasks
+homed_none places tasks = map_itself (task_homed_by places []) tasks (λ k d h. refl)
 
-pub homed_more : (places : Places) (moves : List Moved) (first now : List Task) (i : ℕ) (d : Moved) (o : Option ℕ) → i < length moves → now ≡ map (homed_by places (take i moves)) first → o ≡ occupant places (get_or moves i d).cpu
-    → map (homed_here o (get_or moves i d).cpu) now ≡ map (homed_by places (take (i + 1) moves)) first
+pub homed_more : (places : Places) (moves : List Moved) (first now : List Task) (i : ℕ) (d : Moved) (o : Option ℕ) → i < length moves → now ≡ map (task_homed_by places (take i moves)) first → o ≡ occupant places (get_or moves i d).cpu
+    → map (homed_here o (get_or moves i d).cpu) now ≡ map (task_homed_by places (take (i + 1) moves)) first
 homed_more places moves first now i d o h was is =
     ap (λ (x : Option ℕ). map (homed_here x (get_or moves i d).cpu) now) is
-    ∙ map_steps (homed_here (occupant places (get_or moves i d).cpu) (get_or moves i d).cpu) (homed_by places (take i moves)) (homed_by places (take (i + 1) moves)) first now was
+    ∙ map_steps (homed_here (occupant places (get_or moves i d).cpu) (get_or moves i d).cpu) (task_homed_by places (take i moves)) (task_homed_by places (take (i + 1) moves)) first now was
     (λ k e l. sym (fold_more (λ (u : Task) (m : Moved). homed_here (occupant places m.cpu) m.cpu u) (get_or first k e) moves i d h))

@@ -13,7 +13,7 @@ use Rattle.grub_rules.specs.Sums.{total_bw, uinact}
 use Rattle.grub_rules.specs.Accounts.{AccountsView, AreAccounts, Exchanges, inactive_at}
 use Rattle.grub_rules.proofs.CallerLemmas.{at, set_at, held_at, turned_at, joined_last}
 use Rattle.edf_pick.specs.declared.candidate.Candidate.{Candidate}
-use Rattle.edf_pick.specs.Order.{ordered}
+use Rattle.edf_pick.specs.Order.{by_deadline}
 use Rattle.edf_pick.specs.Schedule.{ScheduleView, IsAtHome}
 use Rattle.edf_pick.proofs.CallerLemmas.{IsNumbered, numbered_map, length_ordered, ordered_insert, ordered_remove, placed_ordered}
 use Rattle.domain_run.specs.declared.task.Task.{Task}
@@ -21,14 +21,14 @@ use Rattle.domain_run.specs.declared.run_queue.RunQueue.{RunQueue}
 use Rattle.domain_run.specs.Conditions.{is_ready, is_contending, is_leaving}
 use Rattle.domain_run.specs.Tick.{share_of, shares, candidate_of, candidates}
 use Rattle.domain_run.specs.private.Timers.{due_of}
-use Rattle.domain_run.specs.private.RunQueue.{ready_at, ready_of, candidate_at, share_on, standing_of, Counts, IsRoster, IsCounted, with_ready, without_ready, MayTurn, HasTurned, AreHomed}
+use Rattle.domain_run.specs.private.RunQueue.{ready_at, ready_of, candidate_at, share_on, standing_of, QueueCounts, IsRoster, IsCounted, with_ready, without_ready, MayTurn, HasTurned, AreHomed}
 use Rattle.edf_pick.specs.Places.{Places, placed}
 use Rattle.domain_run.specs.declared.task.Condition.{Condition}
 use Rattle.domain_run.specs.declared.task.Condition.TheVariants.{Ready, Throttled, Blocked, Waiting, Leaving}
 use Rattle.domain_run.specs.Parts.{is_listed, with_last_cpu}
-use Rattle.domain_run.specs.Calls.{ended}
+use Rattle.domain_run.specs.Calls.{ended_at}
 use Rattle.domain_run.proofs.Placing.{not_true}
-use Rattle.domain_run.specs.Sound.{IsApart}
+use Rattle.domain_run.specs.Sound.{HasNoTaskTwice}
 use Rattle.domain_run.proofs.Seating.{IsSeating, placed_is}
 use Rattle.domain_run.proofs.Keeping.{Same, same_either, length-filter_least}
 use Rattle.domain_run.proofs.Homes.{still_homed, is_at_home, ordered_others}
@@ -83,15 +83,15 @@ roster_set tasks i d y same short is = record {
 
 -- ---- the queue
 
-without_one : (o : Option Candidate) (xs ys : List Candidate) → IsNumbered (xs ++ (one o ++ ys)) → without_ready o (ordered (xs ++ (one o ++ ys))) ≡ ordered (xs ++ ys)
+without_one : (o : Option Candidate) (xs ys : List Candidate) → IsNumbered (xs ++ (one o ++ ys)) → without_ready o (by_deadline (xs ++ (one o ++ ys))) ≡ by_deadline (xs ++ ys)
 without_one None xs ys numbered = refl
 without_one (Some c) xs ys numbered = ordered_remove c xs ys numbered
 
-with_one : (o : Option Candidate) (xs ys : List Candidate) → IsNumbered (xs ++ (one o ++ ys)) → with_ready o (ordered (xs ++ ys)) ≡ ordered (xs ++ (one o ++ ys))
+with_one : (o : Option Candidate) (xs ys : List Candidate) → IsNumbered (xs ++ (one o ++ ys)) → with_ready o (by_deadline (xs ++ ys)) ≡ by_deadline (xs ++ (one o ++ ys))
 with_one None xs ys numbered = refl
 with_one (Some c) xs ys numbered = sym (ordered_insert c xs ys numbered)
 
-others_one : (o : Option Candidate) (xs ys : List Candidate) → IsNumbered (xs ++ (one o ++ ys)) → IfSome o (λ c. All (λ a. a.number ≢ c.number) (ordered (xs ++ ys)))
+others_one : (o : Option Candidate) (xs ys : List Candidate) → IsNumbered (xs ++ (one o ++ ys)) → IfSome o (λ c. All (λ a. a.number ≢ c.number) (by_deadline (xs ++ ys)))
 others_one None xs ys numbered = tt
 others_one (Some c) xs ys numbered = ordered_others c xs ys numbered
 
@@ -148,7 +148,7 @@ same_fit cpus t y same short home = record {
 }
 
 -- the same, after a call
-pub ended_same : (time : ℕ) (t : Task) → Same t (ended time t)
+pub ended_same : (time : ℕ) (t : Task) → Same t (ended_at time t)
 ended_same time t = same_either (is_contending t.condition) t _ _ (record { number = refl; params = refl; cpu = refl }) (record { number = refl; params = refl; cpu = refl })
 
 pub may_turn : (cpus : ℕ) (queue : RunQueue) (tasks : List Task) (i : ℕ) (d y : Task) → i < length tasks → IsFit cpus (get_or tasks i d) y → IsCounted cpus queue tasks → MayTurn i (get_or tasks i d).number (get_or tasks i d).cpu queue (standing_of (get_or tasks i d)) (standing_of y)
@@ -157,8 +157,8 @@ may_turn cpus queue tasks i d y h fit is =
     let s = split tasks i d y h fit.number is.roster in
     let front = take i tasks in
     let back = drop (i + 1) tasks in
-    let order = is.counts.order ∙ ap ordered s.was in
-    let rest : without_ready (ready_of (get_or tasks i d)) queue.schedule.queue ≡ ordered (candidates front ++ candidates back) = ap (without_ready (ready_of (get_or tasks i d))) order ∙ without_one (ready_of (get_or tasks i d)) (candidates front) (candidates back) s.numbered in
+    let order = is.counts.order ∙ ap by_deadline s.was in
+    let rest : without_ready (ready_of (get_or tasks i d)) queue.schedule.queue ≡ by_deadline (candidates front ++ candidates back) = ap (without_ready (ready_of (get_or tasks i d))) order ∙ without_one (ready_of (get_or tasks i d)) (candidates front) (candidates back) s.numbered in
     let timers : length (map due_of tasks) ≡ length tasks = simp length-map in
     let came = ready_same (get_or tasks i d) y fit.number fit.cpu in
     record {
@@ -166,7 +166,7 @@ may_turn cpus queue tasks i d y h fit is =
       held = held_at share_of queue.accounts tasks i d h is.counts.sums;
       fits = omega (arith, is.counts.sums.total, total_short tasks is.roster);
       room = rw rest (omega (arith, length_ordered (candidates front ++ candidates back), length-append (candidates front) (candidates back), candidates_few front, candidates_few back, s.one_less, is.roster.few));
-      numbered = rw rest (subst (λ o. IfSome o (λ c. All (λ a. a.number ≢ c.number) (ordered (candidates front ++ candidates back)))) came (others_one (ready_of y) (candidates front) (candidates back) s.turned));
+      numbered = rw rest (subst (λ o. IfSome o (λ c. All (λ a. a.number ≢ c.number) (by_deadline (candidates front ++ candidates back)))) came (others_one (ready_of y) (candidates front) (candidates back) s.turned));
       homed = subst (λ o. IfSome o (λ c. IsAtHome queue.schedule.places c)) came (homed_one queue.schedule.places y (still_homed queue.schedule.places (get_or tasks i d) y fit.number fit.cpu (is.homed i d h)));
     }
 
@@ -176,7 +176,7 @@ turned cpus queue new tasks i d y h fit has is =
     let s = split tasks i d y h fit.number is.roster in
     let front = take i tasks in
     let back = drop (i + 1) tasks in
-    let order = is.counts.order ∙ ap ordered s.was in
+    let order = is.counts.order ∙ ap by_deadline s.was in
     let came = ready_same t y fit.number fit.cpu in
     let sums : Exchanges queue.accounts new.accounts (share_of t ∷ []) (share_of y ∷ []) = subst (λ (n : ℕ). Exchanges queue.accounts new.accounts (share_of t ∷ []) (share_on n (standing_of y) ∷ [])) (sym fit.cpu) has.sums in
     let now : candidates (set tasks i y) ≡ candidates front ++ (one (ready_of y) ++ candidates back) = ap candidates (set_at tasks i y h) ∙ candidates_at front y back in
@@ -185,11 +185,11 @@ turned cpus queue new tasks i d y h fit has is =
       counts = record {
         sums = turned_at share_of queue.accounts new.accounts tasks i d y h (subst (λ n. y.cpu < n) (sym is.wide) fit.home) sums is.counts.sums;
         order = elim has.order [
-          | inl kept ↦ kept.1 ∙ order ∙ ap (λ o. ordered (candidates front ++ (one o ++ candidates back))) (ap (candidate_at t.number t.cpu) kept.0 ∙ sym came) ∙ sym (ap ordered now)
+          | inl kept ↦ kept.1 ∙ order ∙ ap (λ o. by_deadline (candidates front ++ (one o ++ candidates back))) (ap (candidate_at t.number t.cpu) kept.0 ∙ sym came) ∙ sym (ap by_deadline now)
           | inr e ↦ e ∙ ap (λ o. with_ready o (without_ready (ready_of t) queue.schedule.queue)) (sym came)
               ∙ ap (λ q. with_ready (ready_of y) (without_ready (ready_of t) q)) order
               ∙ ap (with_ready (ready_of y)) (without_one (ready_of t) (candidates front) (candidates back) s.numbered)
-              ∙ with_one (ready_of y) (candidates front) (candidates back) s.turned ∙ sym (ap ordered now)
+              ∙ with_one (ready_of y) (candidates front) (candidates back) s.turned ∙ sym (ap by_deadline now)
         ];
         due = elim has.due [
           | inl kept ↦ kept.1 ∙ is.counts.due ∙ sym (map-set_same due_of tasks i y d (sym kept.0))
@@ -234,7 +234,7 @@ candidates_listed (t ∷ tasks) =
 pub counted_listed : (cpus : ℕ) (queue new : RunQueue) (tasks : List Task) → length new.accounts.all ≡ length queue.accounts.all → new.schedule ≡ queue.schedule → new.timers ≡ map due_of (filter is_listed tasks) → AreAccounts new.accounts (shares (filter is_listed tasks)) → IsCounted cpus queue tasks → IsCounted cpus new (filter is_listed tasks)
 counted_listed cpus queue new tasks wide ready due sums is = record {
   wide = wide ∙ is.wide;
-  counts = record { sums = sums; order = ap (λ (v : ScheduleView). v.queue) ready ∙ is.counts.order ∙ sym (ap ordered (candidates_listed tasks)); due = due };
+  counts = record { sums = sums; order = ap (λ (v : ScheduleView). v.queue) ready ∙ is.counts.order ∙ sym (ap by_deadline (candidates_listed tasks)); due = due };
   roster = record {
     few = omega (arith, length-filter_least is_listed tasks, is.roster.few);
     short = All-filter is_listed (λ (t : Task). t.params.bw ≤ 2 ^ 26) tasks is.roster.short;
@@ -244,10 +244,10 @@ counted_listed cpus queue new tasks wide ready due sums is = record {
 }
 
 -- the placement over the queue is that of the list
-pub placed_counted : (n : ℕ) (ready : List Candidate) (tasks : List Task) (before : Places) → ready ≡ ordered (candidates tasks) → AllPairs (λ a b. a.number ≢ b.number) tasks → placed n ready before ≡ placed n (candidates tasks) before
+pub placed_counted : (n : ℕ) (ready : List Candidate) (tasks : List Task) (before : Places) → ready ≡ by_deadline (candidates tasks) → AllPairs (λ a b. a.number ≢ b.number) tasks → placed n ready before ≡ placed n (candidates tasks) before
 placed_counted n ready tasks before is numbered = ap (λ q. placed n q before) is ∙ placed_ordered n (candidates tasks) before (numbered_candidates tasks numbered)
 
-pub placed_seating : (ready : List Candidate) (tasks : List Task) (before new : Places) → ready ≡ ordered (candidates tasks) → AllPairs (λ a b. a.number ≢ b.number) tasks → IsApart before → new ≡ placed (length before) ready before → IsSeating (candidates tasks) (length before) new
+pub placed_seating : (ready : List Candidate) (tasks : List Task) (before new : Places) → ready ≡ by_deadline (candidates tasks) → AllPairs (λ a b. a.number ≢ b.number) tasks → HasNoTaskTwice before → new ≡ placed (length before) ready before → IsSeating (candidates tasks) (length before) new
 placed_seating ready tasks before new is numbered apart e =
     subst (IsSeating (candidates tasks) (length before)) (sym (e ∙ placed_counted (length before) ready tasks before is numbered)) (placed_is (length before) (candidates tasks) before refl apart)
 
@@ -256,11 +256,11 @@ pub inactive_is : (a : AccountsView) (xs : List Share) (cpu : ℕ) → AreAccoun
 inactive_is a xs cpu is = omega (arith, is.all cpu, is.active cpu)
 
 -- a task at the end of the list that is not ready
-pub counts_push : (queue new : RunQueue) (tasks : List Task) (t : Task) → is_ready t.condition ≡ false → new.schedule ≡ queue.schedule → new.timers ≡ queue.timers ++ due_of t ∷ [] → t.cpu < length queue.accounts.all → Exchanges queue.accounts new.accounts [] (share_of t ∷ []) → Counts queue tasks → Counts new (tasks ++ t ∷ [])
+pub counts_push : (queue new : RunQueue) (tasks : List Task) (t : Task) → is_ready t.condition ≡ false → new.schedule ≡ queue.schedule → new.timers ≡ queue.timers ++ due_of t ∷ [] → t.cpu < length queue.accounts.all → Exchanges queue.accounts new.accounts [] (share_of t ∷ []) → QueueCounts queue tasks → QueueCounts new (tasks ++ t ∷ [])
 counts_push queue new tasks t idle same due home joins is =
     let none : candidates (t ∷ []) ≡ [] = candidates_first t [] ∙ rw idle refl in
     record {
       sums = joined_last share_of queue.accounts new.accounts tasks t home joins is.sums;
-      order = ap (λ (v : ScheduleView). v.queue) same ∙ is.order ∙ sym (ap ordered (candidates_append tasks (t ∷ []) ∙ ap (λ cs. candidates tasks ++ cs) none ∙ append-nil (candidates tasks)));
+      order = ap (λ (v : ScheduleView). v.queue) same ∙ is.order ∙ sym (ap by_deadline (candidates_append tasks (t ∷ []) ∙ ap (λ cs. candidates tasks ++ cs) none ∙ append-nil (candidates tasks)));
       due = due ∙ ap (λ (ds : List ℕ). ds ++ due_of t ∷ []) is.due ∙ sym (map-append due_of tasks (t ∷ []));
     }

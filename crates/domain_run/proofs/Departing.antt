@@ -5,7 +5,7 @@ use Rattle.std.proofs.lemmas.Bool.{eqb-true}
 use Rattle.std.proofs.lemmas.List.Elements.{All-filter}
 use Rattle.std.proofs.lemmas.List.Kept.{AllPairs-filter}
 use Rattle.grub_rules.specs.Accounts.{AreAccounts}
-use Rattle.edf_pick.specs.Order.{ordered}
+use Rattle.edf_pick.specs.Order.{by_deadline}
 use Rattle.edf_pick.specs.Schedule.{ScheduleView}
 use Rattle.domain_run.specs.declared.task.Task.{Task}
 use Rattle.domain_run.specs.declared.run_queue.RunQueue.{RunQueue}
@@ -13,7 +13,7 @@ use Rattle.domain_run.specs.Conditions.{is_ready}
 use Rattle.domain_run.specs.Domain.{Domain}
 use Rattle.domain_run.specs.Tick.{shares, candidates}
 use Rattle.domain_run.specs.Parts.{with_last_cpu}
-use Rattle.domain_run.specs.Calls.{of_number, is_other, departed}
+use Rattle.domain_run.specs.Calls.{of_number, is_other, after_departure}
 use Rattle.domain_run.specs.Sound.{IsSound, IsAdmitted, IsDomain}
 use Rattle.domain_run.specs.private.Roster.{quit}
 use Rattle.domain_run.specs.private.RunQueue.{IsCounted, AreHomed, ready_of}
@@ -43,7 +43,7 @@ candidates_others number (t ∷ tasks) idle =
 pub counted_others : (cpus : ℕ) (queue new : RunQueue) (number : ℕ) (tasks : List Task) → length new.accounts.all ≡ length queue.accounts.all → new.schedule ≡ queue.schedule → new.timers ≡ map due_of (filter (is_other number) tasks) → AreAccounts new.accounts (shares (filter (is_other number) tasks)) → IsIdle number tasks → IsCounted cpus queue tasks → IsCounted cpus new (filter (is_other number) tasks)
 counted_others cpus queue new number tasks wide ready due sums idle is = record {
   wide = wide ∙ is.wide;
-  counts = record { sums = sums; order = ap (λ (v : ScheduleView). v.queue) ready ∙ is.counts.order ∙ sym (ap ordered (candidates_others number tasks idle)); due = due };
+  counts = record { sums = sums; order = ap (λ (v : ScheduleView). v.queue) ready ∙ is.counts.order ∙ sym (ap by_deadline (candidates_others number tasks idle)); due = due };
   roster = record {
     few = omega (arith, length-filter_least (is_other number) tasks, is.roster.few);
     short = All-filter (is_other number) (λ (t : Task). t.params.bw ≤ 2 ^ 26) tasks is.roster.short;
@@ -77,7 +77,7 @@ quit_idle number (t ∷ tasks) = elim [
 
 -- ---- the domain
 
-pub depart_keeps : (d : Domain) (number : ℕ) → IsDomain d → IsDomain (departed d number)
+pub depart_keeps : (d : Domain) (number : ℕ) → IsDomain d → IsDomain (after_departure d number)
 depart_keeps d number is =
     let s = is.steady in
     record {
@@ -94,5 +94,5 @@ depart_keeps d number is =
         wide = s.wide;
         apart = s.apart;
       };
-      traced = listed_traced d (departed d number) refl refl refl refl (λ n h. h) is.traced;
+      traced = listed_traced d (after_departure d number) refl refl refl refl (λ n h. h) is.traced;
     }

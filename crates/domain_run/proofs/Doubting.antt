@@ -8,7 +8,7 @@ use Rattle.std.proofs.lemmas.List.{get_or-map, get_or_default, get_or-set_other,
 use Rattle.grub_rules.specs.declared.share.Share.{Share}
 use Rattle.grub_rules.specs.Sums.{uinact}
 use Rattle.edf_pick.specs.declared.moves.Moved.{Moved}
-use Rattle.edf_pick.specs.Moves.{moved_from, same_occupant as moved_same}
+use Rattle.edf_pick.specs.Moves.{moved_from, same_occupant}
 use Rattle.edf_pick.specs.Places.{Places}
 use Rattle.edf_pick.proofs.CallerLemmas.{same_is}
 use Rattle.due_times.specs.declared.doubts.Doubts.{Doubts}
@@ -20,9 +20,9 @@ use Rattle.domain_run.specs.Sound.{occupant}
 use Rattle.domain_run.specs.Tick.{share_of, shares, sum_of}
 use Rattle.domain_run.specs.private.Doubts.{IsSettled, IsFree, noted_basis, IsTrusted, AreSettled, IsMarked}
 use Rattle.domain_run.specs.private.Roster.{rate_in, basis_in, IsSeated}
-use Rattle.due_times.specs.Seats.{SeatsView, seat_by, left_if, left}
-use Rattle.domain_run.specs.private.Timers.{IsStep}
-use Rattle.domain_run.specs.private.Waiting.{seat_of, left_of, owed, owed_all, AllWait, IsRight, rate_by}
+use Rattle.due_times.specs.Seats.{SeatsView, seat_by, left_if, without_seat}
+use Rattle.domain_run.specs.private.Timers.{IsTimerStep}
+use Rattle.domain_run.specs.private.Waiting.{seat_of_task, seats_without, owed, owed_all, AllWait, IsRight, rate_by}
 use Rattle.domain_run.proofs.Jumping.{shares_alike}
 use Rattle.domain_run.proofs.Waiting.{alike_owed, read_owed}
 use Rattle.domain_run.proofs.Seatings.{basis_right, right_rate}
@@ -106,14 +106,14 @@ marked_set r a b cpu o seats tasks now marked bare same = record {
   sums = λ i h e. inl (ap (λ (ts : List Task). uinact i (shares ts)) same);
 }
 
-left_elsewhere : (cpu number i : ℕ) (seats : List (Option Seat)) → i ≢ cpu → get_or (left cpu number seats) i None ≡ get_or seats i None
+left_elsewhere : (cpu number i : ℕ) (seats : List (Option Seat)) → i ≢ cpu → get_or (without_seat cpu number seats) i None ≡ get_or seats i None
 left_elsewhere cpu number i seats other = by_seat (seat_by number (get_or seats cpu None))
   where
     by_seat : (o : Option Seat) → get_or (left_if cpu seats o) i None ≡ get_or seats i None
     by_seat None = refl
     by_seat (Some s) = get_or-set_other seats cpu i None None other
 
-left_none : (cpu number : ℕ) (seats : List (Option Seat)) → seat_by number (get_or seats cpu None) ≡ None → left cpu number seats ≡ seats
+left_none : (cpu number : ℕ) (seats : List (Option Seat)) → seat_by number (get_or seats cpu None) ≡ None → without_seat cpu number seats ≡ seats
 left_none cpu number seats none = ap (left_if cpu seats) none
 
 -- a CPU that a task has left: it has a mark, or its seat keeps nothing and is not the task's
@@ -128,10 +128,10 @@ left_unseated r b c m seats (Some s) sat is same marked free few none = let one 
 -- another task at a place of the list, where neither that nor the one before has a seat
 pub marked_at : (r a b c d n m : ℕ) (seats : List (Option Seat)) (tasks : List Task) (p : ℕ) (x y : Task) → p < length tasks → x ≡ get_or tasks p x → x.cpu ≡ c → y.cpu ≡ d
     → IsLeft r b c m seats → (d < 64 → bit_at b d ≡ 1) → ((i : ℕ) → bit_at b i ≡ 0 → bit_at a i ≡ 0)
-    → IsMarked r a b seats (left d n (left c m seats)) tasks (set tasks p y)
+    → IsMarked r a b seats (without_seat d n (without_seat c m seats)) tasks (set tasks p y)
 marked_at r a b c d n m seats tasks p x y h read x_is y_is one two bare = record {
   bare = bare;
-  seats = λ i few e. left_elsewhere d n i (left c m seats) (apart b d i two few e) ∙ elim (cases_eq i c) [
+  seats = λ i few e. left_elsewhere d n i (without_seat c m seats) (apart b d i two few e) ∙ elim (cases_eq i c) [
     | inl same ↦ ap (λ (xs : List (Option Seat)). get_or xs i None) (left_none c m seats (here i same few e).1)
     | inr other ↦ left_elsewhere c m i seats other
   ];
@@ -147,14 +147,14 @@ marked_at r a b c d n m seats tasks p x y h read x_is y_is one two bare = record
 -- another task at a place of the list, on the same CPU, where neither has a seat then
 pub marked_home : (r a b c m : ℕ) (seats : List (Option Seat)) (tasks : List Task) (p : ℕ) (x y : Task) → p < length tasks → x ≡ get_or tasks p x → x.cpu ≡ c → y.cpu ≡ c
     → IsLeft r b c m seats → ((i : ℕ) → bit_at b i ≡ 0 → bit_at a i ≡ 0)
-    → IsMarked r a b seats (left c m (left c m seats)) tasks (set tasks p y)
+    → IsMarked r a b seats (without_seat c m (without_seat c m seats)) tasks (set tasks p y)
 marked_home r a b c m seats tasks p x y h read x_is y_is one bare = record {
   bare = bare;
   seats = λ i few e. elim (cases_eq i c) [
     | inl same ↦
         let none = left_none c m seats (here i same few e).1 in
-        ap (λ (xs : List (Option Seat)). get_or (left c m xs) i None) none ∙ ap (λ (xs : List (Option Seat)). get_or xs i None) none
-    | inr other ↦ left_elsewhere c m i (left c m seats) other ∙ left_elsewhere c m i seats other
+        ap (λ (xs : List (Option Seat)). get_or (without_seat c m xs) i None) none ∙ ap (λ (xs : List (Option Seat)). get_or xs i None) none
+    | inr other ↦ left_elsewhere c m i (without_seat c m seats) other ∙ left_elsewhere c m i seats other
   ];
   sums = λ i few e. elim (cases_eq i c) [
     | inl same ↦ inr (subst (λ (k : ℕ). bit_at r k ≡ 0) (sym same) (here i same few e).0)
@@ -167,13 +167,13 @@ marked_home r a b c m seats tasks p x y h read x_is y_is one bare = record {
 
 -- a task that starts on a CPU
 pub start_marked : (r a b cpu : ℕ) (s after : SeatsView) (tasks : List Task) (p : ℕ) (x y : Task) → p < length tasks → x ≡ get_or tasks p x → y ≡ with_cpu (Some cpu) (owed s.upto s.seats x)
-    → after ≡ record s { seats = left cpu x.number (left x.cpu x.number s.seats) } → owed_all after (set tasks p y) ≡ set (owed_all s tasks) p y
+    → after ≡ record s { seats = without_seat cpu x.number (without_seat x.cpu x.number s.seats) } → owed_all after (set tasks p y) ≡ set (owed_all s tasks) p y
     → IsLeft r b x.cpu x.number s.seats → (cpu < 64 → bit_at b cpu ≡ 1) → ((i : ℕ) → bit_at b i ≡ 0 → bit_at a i ≡ 0)
     → IsMarked r a b s.seats after.seats (owed_all s tasks) (owed_all after (set tasks p y))
 start_marked r a b cpu s after tasks p x y h read is are view one two bare =
     let many : length (owed_all s tasks) ≡ length tasks = simp length-map in
     subst (λ (v : SeatsView). IsMarked r a b s.seats v.seats (owed_all s tasks) (owed_all after (set tasks p y))) (sym are)
-    (subst (IsMarked r a b s.seats (left cpu x.number (left x.cpu x.number s.seats)) (owed_all s tasks)) (sym view)
+    (subst (IsMarked r a b s.seats (without_seat cpu x.number (without_seat x.cpu x.number s.seats)) (owed_all s tasks)) (sym view)
     (marked_at r a b x.cpu cpu x.number x.number s.seats (owed_all s tasks) p (owed s.upto s.seats x) y (omega (arith, h, many)) (read_owed s.upto s.seats tasks p x h read)
     (alike_owed s.upto s.seats x).cpu (ap (λ (t : Task). t.cpu) is) one two bare))
 
@@ -230,7 +230,7 @@ settled_none d w places seats tasks all cpu few bare = let one = all cpu few in 
 -- who is settled on the basis of now sits rightly
 pub settled_right : (w limit upto cpu : ℕ) (o : Option ℕ) (seats : List (Option Seat)) (items : List Task)
     → IsSettled o (basis_in w limit (map (owed upto seats) items) cpu) (get_or seats cpu None) → AllWait seats items
-    → All (λ t. t.cpu ≡ cpu → IsRight o t.number (rate_in w limit (map (owed upto seats) items) t) (seat_of seats t)) (map (owed upto seats) items)
+    → All (λ t. t.cpu ≡ cpu → IsRight o t.number (rate_in w limit (map (owed upto seats) items) t) (seat_of_task seats t)) (map (owed upto seats) items)
 settled_right w limit upto cpu None seats items is waits k d h e =
     let t = get_or (map (owed upto seats) items) k d in
     ap (λ c. seat_by t.number (get_or seats c None)) e ∙ ap (seat_by t.number) is
@@ -242,12 +242,12 @@ settled_right w limit upto cpu (Some n) seats items is waits k d h e = by_seat (
     b : Basis
     b = basis_in w limit tasks cpu
 
-    by_seat : (x : Option Seat) → get_or seats cpu None ≡ x → IsSettled (Some n) b x → IsRight (Some n) (get_or tasks k d).number (rate_in w limit tasks (get_or tasks k d)) (seat_of seats (get_or tasks k d))
+    by_seat : (x : Option Seat) → get_or seats cpu None ≡ x → IsSettled (Some n) b x → IsRight (Some n) (get_or tasks k d).number (rate_in w limit tasks (get_or tasks k d)) (seat_of_task seats (get_or tasks k d))
     by_seat None q r = absurd r
     by_seat (Some s) q r =
         let t = get_or tasks k d in
         let mine : seat_by n (get_or seats cpu None) ≡ Some s = ap (seat_by n) q ∙ ap (λ z. cond z (Some s) None) (eq-eqb s.number n r.0) in
-        right_rate n t.number (rate_by b t) (rate_in w limit tasks t) (seat_of seats t) (λ z. ap (λ c. rate_by (basis_in w limit tasks c) t) (sym e))
+        right_rate n t.number (rate_by b t) (rate_in w limit tasks t) (seat_of_task seats t) (λ z. ap (λ c. rate_by (basis_in w limit tasks c) t) (sym e))
         (basis_right upto cpu n seats items s b mine r.1 waits k d h e)
 
 noted_same : (d e : Doubts) (w : ℕ) (tasks : List Task) (cpu : ℕ) → e.sum ≡ d.sum → e.limit ≡ d.limit → noted_basis d w tasks cpu ≡ noted_basis e w tasks cpu
@@ -340,7 +340,7 @@ still_moved k (b ∷ before) [] i len all = absurd (omega (arith, len))
 still_moved k (b ∷ before) (a ∷ after) zero len all =
     let m : Moved = record { cpu = k; before = b } in
     let rest = moved_from (k + 1) before after in
-    elim (moved_same b a) as (λ t. moved_same b a ≡ t → All (λ m. m.cpu ≢ k + zero) (cond t rest (m ∷ rest)) → a ≡ b) [
+    elim (same_occupant b a) as (λ t. same_occupant b a ≡ t → All (λ m. m.cpu ≢ k + zero) (cond t rest (m ∷ rest)) → a ≡ b) [
       | true ↦ λ same every. sym (same_is b a same)
       | false ↦ λ same every. absurd (every 0 m (omega arith) (omega arith))
     ] refl all
@@ -348,7 +348,7 @@ still_moved k (b ∷ before) (a ∷ after) (suc i) len all =
     let m : Moved = record { cpu = k; before = b } in
     let rest = moved_from (k + 1) before after in
     let shift : (k + 1) + i ≡ k + suc i = omega arith in
-    let back : All (λ m. m.cpu ≢ k + suc i) rest = elim (moved_same b a) as (λ t. All (λ m. m.cpu ≢ k + suc i) (cond t rest (m ∷ rest)) → All (λ m. m.cpu ≢ k + suc i) rest) [
+    let back : All (λ m. m.cpu ≢ k + suc i) rest = elim (same_occupant b a) as (λ t. All (λ m. m.cpu ≢ k + suc i) (cond t rest (m ∷ rest)) → All (λ m. m.cpu ≢ k + suc i) rest) [
       | true ↦ λ every. every
       | false ↦ λ every j d h. every (suc j) d (omega (arith, h))
     ] all in
@@ -397,13 +397,13 @@ set_settled d e w places s v items after cpu o is same marked bare rated sum lim
     (marked_set d.rated d.cpus e.cpus cpu o s.seats (owed_all s items) (owed_all v after) marked bare same) (λ i h q. refl) are)
 
 -- one task more
-pub push_settled : (d e : Doubts) (w : ℕ) (places : Places) (s v : SeatsView) (items after : List Task) (t : Task) → v ≡ record s { seats = left t.cpu t.number s.seats } → owed_all v after ≡ owed_all s items ++ t ∷ []
+pub push_settled : (d e : Doubts) (w : ℕ) (places : Places) (s v : SeatsView) (items after : List Task) (t : Task) → v ≡ record s { seats = without_seat t.cpu t.number s.seats } → owed_all v after ≡ owed_all s items ++ t ∷ []
     → (t.cpu < 64 → bit_at e.cpus t.cpu ≡ 1) → ((i : ℕ) → bit_at e.cpus i ≡ 0 → bit_at d.cpus i ≡ 0) → e.rated ≡ d.rated → e.sum ≡ d.sum → e.limit ≡ d.limit
     → AreSettled d w places s.seats (owed_all s items) → AreSettled e w places v.seats (owed_all v after)
 push_settled d e w places s v items after t is more marked bare rated sum limit are =
     subst (λ (x : SeatsView). AreSettled e w places x.seats (owed_all v after)) (sym is)
-    (subst (AreSettled e w places (left t.cpu t.number s.seats)) (sym more)
-    (settled_again d e w places places s.seats (left t.cpu t.number s.seats) (owed_all s items) (owed_all s items ++ t ∷ []) rated sum limit
+    (subst (AreSettled e w places (without_seat t.cpu t.number s.seats)) (sym more)
+    (settled_again d e w places places s.seats (without_seat t.cpu t.number s.seats) (owed_all s items) (owed_all s items ++ t ∷ []) rated sum limit
     (record {
       bare = bare;
       seats = λ i h q. left_elsewhere t.cpu t.number i s.seats (apart e.cpus t.cpu i marked h q);
@@ -413,21 +413,21 @@ push_settled d e w places s v items after t is more marked bare rated sum limit 
 
 -- a task at a place of the list has changed, and has no seat on its CPU
 pub turn_settled : (d e : Doubts) (w : ℕ) (places : Places) (seats after : List (Option Seat)) (tasks now : List Task) (p cpu number : ℕ) (f : Task → Task) (x : Task) → p < length tasks → x ≡ get_or tasks p x → x.cpu ≡ cpu → x.number ≡ number → (f x).cpu ≡ x.cpu → (f x).number ≡ x.number
-    → IsStep f p tasks now → ((t : Task) → after ≡ left_of (get_or now p t) (left_of (get_or tasks p t) seats))
+    → IsTimerStep f p tasks now → ((t : Task) → after ≡ seats_without (get_or now p t) (seats_without (get_or tasks p t) seats))
     → IsLeft d.rated e.cpus cpu number seats → ((i : ℕ) → bit_at e.cpus i ≡ 0 → bit_at d.cpus i ≡ 0) → e.rated ≡ d.rated → e.sum ≡ d.sum → e.limit ≡ d.limit
     → AreSettled d w places seats tasks → AreSettled e w places after now
 turn_settled d e w places seats after tasks now p cpu number f x h read home named stays keeps step left_are left_it bare rated sum limit are =
     let y = f x in
     let now_is : now ≡ set tasks p y = step.is x ∙ ap (λ (t : Task). set tasks p (f t)) (sym read) in
     let there : get_or now p x ≡ y = ap (λ (ts : List Task). get_or ts p x) now_is ∙ get_or-set_same tasks p y x h in
-    let first : left_of (get_or tasks p x) seats ≡ left cpu number seats = ap (λ (t : Task). left_of t seats) (sym read) ∙ (λ i. left (home i) (named i) seats) in
-    let seats_are : after ≡ left cpu number (left cpu number seats) =
+    let first : seats_without (get_or tasks p x) seats ≡ without_seat cpu number seats = ap (λ (t : Task). seats_without t seats) (sym read) ∙ (λ i. without_seat (home i) (named i) seats) in
+    let seats_are : after ≡ without_seat cpu number (without_seat cpu number seats) =
     left_are x
-    ∙ (λ i. left_of (there i) (first i))
-    ∙ (λ i. left ((stays ∙ home) i) ((keeps ∙ named) i) (left cpu number seats)) in
+    ∙ (λ i. seats_without (there i) (first i))
+    ∙ (λ i. without_seat ((stays ∙ home) i) ((keeps ∙ named) i) (without_seat cpu number seats)) in
     subst (λ (xs : List (Option Seat)). AreSettled e w places xs now) (sym seats_are)
-    (subst (AreSettled e w places (left cpu number (left cpu number seats))) (sym now_is)
-    (settled_again d e w places places seats (left cpu number (left cpu number seats)) tasks (set tasks p y) rated sum limit
+    (subst (AreSettled e w places (without_seat cpu number (without_seat cpu number seats))) (sym now_is)
+    (settled_again d e w places places seats (without_seat cpu number (without_seat cpu number seats)) tasks (set tasks p y) rated sum limit
     (marked_home d.rated d.cpus e.cpus cpu number seats tasks p x y h read home (stays ∙ home) left_it bare)
     (λ i h q. refl) are))
 

@@ -11,15 +11,16 @@ use Rattle.domain_run.specs.declared.task.Condition.{Condition}
 use Rattle.domain_run.specs.declared.task.Condition.TheVariants.{Ready, Throttled, Blocked, Waiting, Leaving}
 use Rattle.task_script.specs.declared.script.Segment.{Segment}
 use Rattle.task_script.specs.declared.script.Segment.TheVariants.{Run as RunFor, Until, Wait as WaitFor, End}
-use Rattle.task_script.specs.script.Segments.{asked}
+use Rattle.task_script.specs.script.Segments.{next_segment}
 use Rattle.domain_run.specs.Conditions.{is_throttled, is_contending, is_leaving, is_over, has_come}
 use Rattle.domain_run.specs.Parts.{replenish_due, settled, is_listed, enqueued, started, unblocked, with_last_cpu, with_cpu, ran}
-use Rattle.domain_run.specs.Switches.{same_occupant, left_in, left_by, state_of, switches_from}
+use Rattle.edf_pick.specs.Moves.{same_occupant}
+use Rattle.domain_run.specs.Switches.{left_in, left_by, prev_state_of, switches_from}
 use Rattle.domain_run.specs.Domain.{Domain}
-use Rattle.domain_run.specs.Tick.{candidates, prepared, with_places, with_prepared, begun, rate_of, ran_if, finished, ticked, ticks}
+use Rattle.domain_run.specs.Tick.{candidates, prepared, with_places, with_prepared, with_tick_begun, rate_of, ran_if, finished, ticked, ticks}
 use Rattle.domain_run.specs.Jump.{ticks_to_due}
 use Rattle.domain_run.specs.private.RunQueue.{ready_of}
-use Rattle.domain_run.specs.private.Dozing.{with_lag, with_lags, awake, IsBare, IsPlain, MayDoze}
+use Rattle.domain_run.specs.private.Dozing.{with_lag, with_lags, awake, IsBare, IsWithoutLag, MayDoze}
 use Rattle.domain_run.proofs.Counting.{one, candidates_first}
 use Rattle.domain_run.proofs.Keeping.{same_replenished, same_settled, same_unblocked}
 use Rattle.domain_run.specs.private.Paying.{ran_until}
@@ -27,8 +28,8 @@ use Rattle.due_times.specs.Seats.{SeatsView}
 use Rattle.domain_run.specs.private.Waiting.{owed, owed_all}
 use Rattle.domain_run.proofs.Waiting.{alike_owed}
 use Rattle.std.proofs.lemmas.List.{get_or-map, get_or-set_same, get_or-set_other, length-map}
-use Rattle.domain_run.specs.private.Timers.{IsStep}
-use Rattle.domain_run.specs.private.Roster.{bared}
+use Rattle.domain_run.specs.private.Timers.{IsTimerStep}
+use Rattle.domain_run.specs.private.Roster.{without_zero_lag}
 use Rattle.domain_run.proofs.Jumping.{Alike, map_alike, map_twice, filter_whole, still_before, rest_each, slid, slid_all, alike_slid, RunsIf, ran_slid, slid_more, finished_slid, slid_none, begun_still, jumped}
 
 -- ---- a task with its zero-lag time, or without
@@ -89,13 +90,13 @@ module _ (time later : ℕ) (order : time ≤ later) where
       v = record t { condition = k; zero_lag = Some z }
 
       idle : woken_up later u ≡ u
-      idle = ap (λ b. unblocked later (settled later (cond (b && has_come later t.server.deadline) (record u { server = replenished u.params u.server; condition = Ready }) u))) spent ∙ ap (λ b. cond b (started later (asked u.cursor later).segment (record u { cursor = (asked u.cursor later).cursor })) u) still
+      idle = ap (λ b. unblocked later (settled later (cond (b && has_come later t.server.deadline) (record u { server = replenished u.params u.server; condition = Ready }) u))) spent ∙ ap (λ b. cond b (started later (next_segment u.cursor later).segment (record u { cursor = (next_segment u.cursor later).cursor })) u) still
 
       passed_by : woken_up later v ≡ unblocked later (settled later v)
       passed_by = ap (λ b. unblocked later (settled later (cond (b && has_come later t.server.deadline) (record v { server = replenished v.params v.server; condition = Ready }) v))) spent
 
       quiet : (w : Task) → w.condition ≡ k → unblocked later w ≡ w
-      quiet w same = ap (λ b. cond b (started later (asked w.cursor later).segment (record w { cursor = (asked w.cursor later).cursor })) w) (ap (is_over later) same ∙ still)
+      quiet w same = ap (λ b. cond b (started later (next_segment w.cursor later).segment (record w { cursor = (next_segment w.cursor later).cursor })) w) (ap (is_over later) same ∙ still)
 
       by_times : (a b : Bool) → nat_le z time ≡ a → nat_le z later ≡ b → woken_up later (with_lag time (Some z) u) ≡ with_lag later (Some z) (woken_up later u)
       by_times true b e f = ap (woken_up later) (lag_past time z u e) ∙ sym (lag_past later z (woken_up later u) (come_later time later z order e))
@@ -135,8 +136,8 @@ module _ (time later : ℕ) (order : time ≤ later) where
       by_times false false e f =
           ap (λ x. woken_up later (cond x u (record u { zero_lag = Some z }))) e
           ∙ ap (λ x. unblocked later (cond x u (record u { zero_lag = Some z }))) f
-          ∙ elim (nat_le v later) as (λ b. cond b (started later (asked u.cursor later).segment (record u { cursor = (asked u.cursor later).cursor; zero_lag = Some z })) (record u { zero_lag = Some z }) ≡ cond (is_contending (cond b (started later (asked u.cursor later).segment (record u { cursor = (asked u.cursor later).cursor })) u).condition || false) (cond b (started later (asked u.cursor later).segment (record u { cursor = (asked u.cursor later).cursor })) u) (record (cond b (started later (asked u.cursor later).segment (record u { cursor = (asked u.cursor later).cursor })) u) { zero_lag = Some z })) [
-            | true ↦ asks_lag later z (asked u.cursor later).segment (record u { cursor = (asked u.cursor later).cursor }) refl
+          ∙ elim (nat_le v later) as (λ b. cond b (started later (next_segment u.cursor later).segment (record u { cursor = (next_segment u.cursor later).cursor; zero_lag = Some z })) (record u { zero_lag = Some z }) ≡ cond (is_contending (cond b (started later (next_segment u.cursor later).segment (record u { cursor = (next_segment u.cursor later).cursor })) u).condition || false) (cond b (started later (next_segment u.cursor later).segment (record u { cursor = (next_segment u.cursor later).cursor })) u) (record (cond b (started later (next_segment u.cursor later).segment (record u { cursor = (next_segment u.cursor later).cursor })) u) { zero_lag = Some z })) [
+            | true ↦ asks_lag later z (next_segment u.cursor later).segment (record u { cursor = (next_segment u.cursor later).cursor }) refl
             | false ↦ refl
           ]
           ∙ sym (lag_ahead later z (woken_up later u) f)
@@ -190,7 +191,7 @@ prepared_whole time tasks stay =
 stays_with : (time : ℕ) (lag : Option ℕ) (t : Task) → is_leaving t.condition ≡ false → is_leaving (with_lag time lag t).condition ≡ false
 stays_with time lag t h = either_lag (λ u. is_leaving u.condition ≡ false) time lag t h (λ z. h)
 
-pub prepared_lags : (time later : ℕ) (lags : List (Option ℕ)) (tasks : List Task) → time ≤ later → All IsPlain tasks → prepared later (with_lags time lags tasks) ≡ with_lags later lags (prepared later tasks)
+pub prepared_lags : (time later : ℕ) (lags : List (Option ℕ)) (tasks : List Task) → time ≤ later → All IsWithoutLag tasks → prepared later (with_lags time lags tasks) ≡ with_lags later lags (prepared later tasks)
 prepared_lags time later lags tasks order plain =
     prepared_whole later (with_lags time lags tasks) (lags_all (λ t. is_leaving t.condition ≡ false) time lags tasks (λ i d h lag. stays_with time lag (get_or tasks i d) (plain i d h).stays))
     ∙ lags_map (woken_up later) (woken_up later) time later lags tasks (λ i d h lag. lag_woken time later order lag (get_or tasks i d) (plain i d h).lag)
@@ -225,7 +226,7 @@ left_with time (lag ∷ lags) (t ∷ tasks) n =
           | false ↦ more
         ]
 
-state_with : (time : ℕ) (lags : List (Option ℕ)) (tasks : List Task) (o : Option ℕ) → state_of (with_lags time lags tasks) o ≡ state_of tasks o
+state_with : (time : ℕ) (lags : List (Option ℕ)) (tasks : List Task) (o : Option ℕ) → prev_state_of (with_lags time lags tasks) o ≡ prev_state_of tasks o
 state_with time lags tasks None = refl
 state_with time lags tasks (Some n) = left_with time lags tasks n
 
@@ -255,7 +256,7 @@ home_with places time (Some z) t =
 abbrev pub woken_at : ℕ → List (Option ℕ) → Domain → Domain
 woken_at time lags d = record d { tasks = with_lags time lags d.tasks }
 
-pub begun_lags : (time : ℕ) (lags : List (Option ℕ)) (d : Domain) → time ≤ d.time → All IsPlain d.tasks → begun (woken_at time lags d) ≡ woken_at d.time lags (begun d)
+pub begun_lags : (time : ℕ) (lags : List (Option ℕ)) (d : Domain) → time ≤ d.time → All IsWithoutLag d.tasks → with_tick_begun (woken_at time lags d) ≡ woken_at d.time lags (with_tick_begun d)
 begun_lags time lags d order plain =
     let ts = prepared d.time d.tasks in
     let new = placed d.cpus (candidates ts) d.curr in
@@ -291,12 +292,12 @@ woken_none time t none = asks (settled time (replenish_due time t)) (settles (re
     starts_none End u e = e
 
     asks : (u : Task) → u.zero_lag ≡ None → (unblocked time u).zero_lag ≡ None
-    asks u e = elim (is_over time u.condition) as (λ b. (cond b (started time (asked u.cursor time).segment (record u { cursor = (asked u.cursor time).cursor })) u).zero_lag ≡ None) [
-      | true ↦ starts_none (asked u.cursor time).segment (record u { cursor = (asked u.cursor time).cursor }) e
+    asks u e = elim (is_over time u.condition) as (λ b. (cond b (started time (next_segment u.cursor time).segment (record u { cursor = (next_segment u.cursor time).cursor })) u).zero_lag ≡ None) [
+      | true ↦ starts_none (next_segment u.cursor time).segment (record u { cursor = (next_segment u.cursor time).cursor }) e
       | false ↦ e
     ]
 
-woken_bare : (time : ℕ) (places : Places) (t : Task) → IsPlain t → IsBare (with_last_cpu places (woken_up time t))
+woken_bare : (time : ℕ) (places : Places) (t : Task) → IsWithoutLag t → IsBare (with_last_cpu places (woken_up time t))
 woken_bare time places t plain =
     let a = same_replenished time t in
     let b = same_settled time (replenish_due time t) in
@@ -307,7 +308,7 @@ woken_bare time places t plain =
     homed None u lag fixed = record { lag = lag; fixed = fixed }
     homed (Some cpu) u lag fixed = record { lag = lag; fixed = fixed }
 
-pub begun_bare : (d : Domain) → All IsPlain d.tasks → All IsBare (begun d).tasks
+pub begun_bare : (d : Domain) → All IsWithoutLag d.tasks → All IsBare (with_tick_begun d).tasks
 begun_bare d plain =
     let new = placed d.cpus (candidates (prepared d.time d.tasks)) d.curr in
     let bare = All-map IsBare (λ t. with_last_cpu new (woken_up d.time t)) d.tasks (λ i e h. woken_bare d.time new (get_or d.tasks i e) (plain i e h)) in
@@ -357,17 +358,17 @@ slid_bare b j t bare = let a = alike_slid b j t in record { lag = a.zero_lag ∙
 slid_ready : (b : Domain) (j k : ℕ) (t : Task) → RunsIf b k t → stands (slid b j t).number b.curr ≡ true → (slid b j t).condition ≡ Ready
 slid_ready b j k t runs e = let a = alike_slid b j t in a.condition ∙ (runs (ap (λ n. stands n b.curr) (sym a.number) ∙ e)).ready
 
-module _ (d : Domain) (lags : List (Option ℕ)) (k : ℕ) (plain : All IsPlain d.tasks) (quiet : k - 1 ≤ ticks_to_due (d.time + 1) (begun d).tasks) (runs : All (RunsIf (begun d) k) (begun d).tasks) where
-  bare : All IsBare (begun d).tasks
+module _ (d : Domain) (lags : List (Option ℕ)) (k : ℕ) (plain : All IsWithoutLag d.tasks) (quiet : k - 1 ≤ ticks_to_due (d.time + 1) (with_tick_begun d).tasks) (runs : All (RunsIf (with_tick_begun d) k) (with_tick_begun d).tasks) where
+  bare : All IsBare (with_tick_begun d).tasks
   bare = begun_bare d plain
 
   -- before a later tick each task stays
-  still_plain : (j : ℕ) → suc j < k → All IsPlain (slid_all (begun d) (suc j)).tasks
+  still_plain : (j : ℕ) → suc j < k → All IsWithoutLag (slid_all (with_tick_begun d) (suc j)).tasks
   still_plain j less =
-      All-map IsPlain (slid (begun d) (suc j)) (begun d).tasks (λ i e h.
-      let t = get_or (begun d).tasks i e in
-      let a = alike_slid (begun d) (suc j) t in
-      let still = still_before d.time (suc j) t (omega arith) (rest_each (d.time + 1) (suc j) (begun d).tasks (omega (arith, quiet, less)) i e h) in
+      All-map IsWithoutLag (slid (with_tick_begun d) (suc j)) (with_tick_begun d).tasks (λ i e h.
+      let t = get_or (with_tick_begun d).tasks i e in
+      let a = alike_slid (with_tick_begun d) (suc j) t in
+      let still = still_before d.time (suc j) t (omega arith) (rest_each (d.time + 1) (suc j) (with_tick_begun d).tasks (omega (arith, quiet, less)) i e h) in
       let b = bare i e h in
       record {
         lag = a.zero_lag ∙ b.lag;
@@ -383,17 +384,17 @@ module _ (d : Domain) (lags : List (Option ℕ)) (k : ℕ) (plain : All IsPlain 
           not_true false e = refl
 
   -- a tick in which nothing ends
-  slid_lags : (j : ℕ) → suc j < k → finished (woken_at (d.time + j) lags (slid_all (begun d) j)) ≡ woken_at (d.time + j) lags (slid_all (begun d) (suc j))
+  slid_lags : (j : ℕ) → suc j < k → finished (woken_at (d.time + j) lags (slid_all (with_tick_begun d) j)) ≡ woken_at (d.time + j) lags (slid_all (with_tick_begun d) (suc j))
   slid_lags j less =
-      let b = begun d in
+      let b = with_tick_begun d in
       let x = slid_all b j in
       let time = d.time + j in
       let tasks = lags_map (ran_if (woken_at time lags x)) (ran_if x) time time lags x.tasks (All-map (λ u. (lag : Option ℕ) → ran_if (woken_at time lags x) (with_lag time lag u) ≡ with_lag time lag (ran_if x u)) (slid b j) b.tasks (λ i e h lag. one (get_or b.tasks i e) (bare i e h) (runs i e h) lag)) in
       (λ i. record x { time = x.time + 1; tasks = tasks i }) ∙ ap (woken_at time lags) (finished_slid b j k less runs)
     where
-      one : (t : Task) → IsBare t → RunsIf (begun d) k t → (lag : Option ℕ) → ran_if (woken_at (d.time + j) lags (slid_all (begun d) j)) (with_lag (d.time + j) lag (slid (begun d) j t)) ≡ with_lag (d.time + j) lag (ran_if (slid_all (begun d) j) (slid (begun d) j t))
+      one : (t : Task) → IsBare t → RunsIf (with_tick_begun d) k t → (lag : Option ℕ) → ran_if (woken_at (d.time + j) lags (slid_all (with_tick_begun d) j)) (with_lag (d.time + j) lag (slid (with_tick_begun d) j t)) ≡ with_lag (d.time + j) lag (ran_if (slid_all (with_tick_begun d) j) (slid (with_tick_begun d) j t))
       one t is runs lag =
-          let b = begun d in
+          let b = with_tick_begun d in
           let x = slid_all b j in
           let time = d.time + j in
           let u = slid b j t in
@@ -405,56 +406,56 @@ module _ (d : Domain) (lags : List (Option ℕ)) (k : ℕ) (plain : All IsPlain 
           by_stands time lag x u ready true e after = ap (λ s. cond s (ran_if x u) (with_lag time lag u)) e ∙ sym (lag_contending time lag (ran_if x u) (ap is_contending (after e)))
           by_stands time lag x u ready false e after = ap (λ s. cond s (ran_if x u) (with_lag time lag u)) e ∙ ap (with_lag time lag) (sym (ap (λ s. cond s (ran x.time (rate_of x u) u) u) e))
 
-  ticks_lags : (j : ℕ) → j < k → ticks (suc j) (awake lags d) ≡ finished (woken_at (d.time + j) lags (slid_all (begun d) j))
+  ticks_lags : (j : ℕ) → j < k → ticks (suc j) (awake lags d) ≡ finished (woken_at (d.time + j) lags (slid_all (with_tick_begun d) j))
   ticks_lags zero h =
       let at : d.time ≡ d.time + 0 = omega arith in
-      let none = sym (slid_none (begun d)) in
+      let none = sym (slid_none (with_tick_begun d)) in
       ap finished (begun_lags (d.time - 1) lags d (omega arith) plain ∙ (λ i. woken_at (at i) lags (none i)))
   ticks_lags (suc j) h =
-      let b = begun d in
+      let b = with_tick_begun d in
       let x = slid_all b (suc j) in
       ap ticked (ticks_lags j (omega (arith, h)) ∙ slid_lags j h)
       ∙ ap finished (begun_lags (d.time + j) lags x (omega arith) (still_plain j h) ∙ ap (woken_at x.time lags) (begun_still d (suc j) (omega arith) (omega (arith, quiet, h))))
 
-  last_lags : (j : ℕ) → k ≡ suc j → map (ran_if (woken_at (d.time + j) lags (slid_all (begun d) j))) (with_lags (d.time + j) lags (map (slid (begun d) j) (begun d).tasks)) ≡ map (jumped (begun d) (suc j)) (with_lags (d.time + j) lags (begun d).tasks)
+  last_lags : (j : ℕ) → k ≡ suc j → map (ran_if (woken_at (d.time + j) lags (slid_all (with_tick_begun d) j))) (with_lags (d.time + j) lags (map (slid (with_tick_begun d) j) (with_tick_begun d).tasks)) ≡ map (jumped (with_tick_begun d) (suc j)) (with_lags (d.time + j) lags (with_tick_begun d).tasks)
   last_lags j is =
-      let b = begun d in
+      let b = with_tick_begun d in
       let x = slid_all b j in
       let time = d.time + j in
       lags_both (ran_if (woken_at time lags x)) (slid b j) (jumped b (suc j)) time lags b.tasks (λ i e h lag. one (get_or b.tasks i e) (bare i e h) (runs i e h) lag)
     where
-      one : (t : Task) → IsBare t → RunsIf (begun d) k t → (lag : Option ℕ) → ran_if (woken_at (d.time + j) lags (slid_all (begun d) j)) (with_lag (d.time + j) lag (slid (begun d) j t)) ≡ jumped (begun d) (suc j) (with_lag (d.time + j) lag t)
+      one : (t : Task) → IsBare t → RunsIf (with_tick_begun d) k t → (lag : Option ℕ) → ran_if (woken_at (d.time + j) lags (slid_all (with_tick_begun d) j)) (with_lag (d.time + j) lag (slid (with_tick_begun d) j t)) ≡ jumped (with_tick_begun d) (suc j) (with_lag (d.time + j) lag t)
       one t bare runs lag =
-          let b = begun d in
+          let b = with_tick_begun d in
           let x = slid_all b j in
           let time = d.time + j in
           let u = slid b j t in
           ran_with x time lags (woken_at time lags x) u (slid_bare b j t bare) refl refl (slid_ready b j k t runs) lag
           ∙ by_stands (stands t.number b.curr) refl
         where
-          by_stands : (s : Bool) → stands t.number (begun d).curr ≡ s → cond (stands (slid (begun d) j t).number (begun d).curr) (ran_if (slid_all (begun d) j) (slid (begun d) j t)) (with_lag (d.time + j) lag (slid (begun d) j t)) ≡ jumped (begun d) (suc j) (with_lag (d.time + j) lag t)
+          by_stands : (s : Bool) → stands t.number (with_tick_begun d).curr ≡ s → cond (stands (slid (with_tick_begun d) j t).number (with_tick_begun d).curr) (ran_if (slid_all (with_tick_begun d) j) (slid (with_tick_begun d) j t)) (with_lag (d.time + j) lag (slid (with_tick_begun d) j t)) ≡ jumped (with_tick_begun d) (suc j) (with_lag (d.time + j) lag t)
           by_stands true e =
-              let b = begun d in
+              let b = with_tick_begun d in
               ap (λ n. cond (stands n b.curr) (ran_if (slid_all b j) (slid b j t)) (with_lag (d.time + j) lag (slid b j t))) (alike_slid b j t).number
               ∙ ap (λ s. cond s (ran_if (slid_all b j) (slid b j t)) (with_lag (d.time + j) lag (slid b j t))) e
               ∙ ran_slid b j t
               ∙ ap (jumped b (suc j)) (sym (lag_contending (d.time + j) lag t (ap is_contending (runs e).ready)))
           by_stands false e =
-              let b = begun d in
+              let b = with_tick_begun d in
               let number = either_lag (λ u. u.number ≡ t.number) (d.time + j) lag t refl (λ z. refl) in
               ap (λ n. cond (stands n b.curr) (ran_if (slid_all b j) (slid b j t)) (with_lag (d.time + j) lag (slid b j t))) (alike_slid b j t).number
               ∙ ap (λ s. cond s (ran_if (slid_all b j) (slid b j t)) (with_lag (d.time + j) lag (slid b j t))) e
               ∙ ap (λ s. with_lag (d.time + j) lag (cond s (record t { server = charged (rate_of b t) j t.server; work = t.work - j }) t)) e
               ∙ sym (still (with_lag (d.time + j) lag t) (ap (λ n. stands n b.curr) number ∙ e))
             where
-              still : (v : Task) → stands v.number (begun d).curr ≡ false → jumped (begun d) (suc j) v ≡ v
-              still v e = ap (λ s. cond s (ran_until ((begun d).time + suc j) (suc j) (v.server.left -ℤ pos (rate_of (begun d) v * suc j)) v) v) e
+              still : (v : Task) → stands v.number (with_tick_begun d).curr ≡ false → jumped (with_tick_begun d) (suc j) v ≡ v
+              still v e = ap (λ s. cond s (ran_until ((with_tick_begun d).time + suc j) (suc j) (v.server.left -ℤ pos (rate_of (with_tick_begun d) v * suc j)) v) v) e
 
 -- THE JUMP past zero-lag times that are put aside
-pub jump_lags : (d : Domain) (lags : List (Option ℕ)) (k : ℕ) → 0 < k → All IsPlain d.tasks → k - 1 ≤ ticks_to_due (d.time + 1) (begun d).tasks → All (RunsIf (begun d) k) (begun d).tasks → ticks k (awake lags d) ≡ record (begun d) { time = d.time + k; tasks = map (jumped (begun d) k) (with_lags (d.time + (k - 1)) lags (begun d).tasks) }
+pub jump_lags : (d : Domain) (lags : List (Option ℕ)) (k : ℕ) → 0 < k → All IsWithoutLag d.tasks → k - 1 ≤ ticks_to_due (d.time + 1) (with_tick_begun d).tasks → All (RunsIf (with_tick_begun d) k) (with_tick_begun d).tasks → ticks k (awake lags d) ≡ record (with_tick_begun d) { time = d.time + k; tasks = map (jumped (with_tick_begun d) k) (with_lags (d.time + (k - 1)) lags (with_tick_begun d).tasks) }
 jump_lags d lags zero some plain quiet runs = absurd (omega (arith, some))
 jump_lags d lags (suc j) some plain quiet runs =
-    let b = begun d in
+    let b = with_tick_begun d in
     let time : b.time + j + 1 ≡ b.time + suc j = omega arith in
     let at : d.time + j ≡ d.time + (suc j - 1) = omega arith in
     let tasks = last_lags d lags (suc j) plain quiet runs j refl ∙ ap (λ n. map (jumped b (suc j)) (with_lags n lags b.tasks)) at in
@@ -493,14 +494,14 @@ doze_alike time t u same may =
     }
 
 -- with the time that was put aside a task is as before
-pub doze_back : (time : ℕ) (t : Task) → MayDoze time t → with_lag time t.zero_lag (bared t) ≡ t
+pub doze_back : (time : ℕ) (t : Task) → MayDoze time t → with_lag time t.zero_lag (without_zero_lag t) ≡ t
 doze_back time t may = by_lag t.zero_lag refl may.ahead
   where
-    by_lag : (o : Option ℕ) → t.zero_lag ≡ o → IfSome o (λ z. (is_contending t.condition || nat_le z time) ≡ false) → with_lag time o (bared t) ≡ t
+    by_lag : (o : Option ℕ) → t.zero_lag ≡ o → IfSome o (λ z. (is_contending t.condition || nat_le z time) ≡ false) → with_lag time o (without_zero_lag t) ≡ t
     by_lag None e ahead = λ i. record t { zero_lag = (sym e) i }
-    by_lag (Some z) e ahead = ap (λ b. cond b (bared t) (record t { zero_lag = Some z })) ahead ∙ (λ i. record t { zero_lag = (sym e) i })
+    by_lag (Some z) e ahead = ap (λ b. cond b (without_zero_lag t) (record t { zero_lag = Some z })) ahead ∙ (λ i. record t { zero_lag = (sym e) i })
 
-pub doze_plain : (time : ℕ) (t : Task) → MayDoze time t → IsPlain (bared t)
+pub doze_plain : (time : ℕ) (t : Task) → MayDoze time t → IsWithoutLag (without_zero_lag t)
 doze_plain time t may = record { lag = refl; stays = may.stays; fixed = may.fixed }
 
 -- ---- PLACE BY PLACE
@@ -526,7 +527,7 @@ lists_same (x ∷ xs) (y ∷ ys) many each =
     let more = lists_same xs ys (omega (arith, many)) (λ i d h. each (suc i) d (omega (arith, h))) in
     λ i. first i ∷ more i
 
-module _ (f : Task → Task) (old new : List Task) (p : ℕ) (step : IsStep f p old new) where
+module _ (f : Task → Task) (old new : List Task) (p : ℕ) (step : IsTimerStep f p old new) where
   pub step_here : (d : Task) → p < length old → get_or new p d ≡ f (get_or old p d)
   step_here d h = ap (λ (ts : List Task). get_or ts p d) (step.is d) ∙ get_or-set_same old p (f (get_or old p d)) d h
 

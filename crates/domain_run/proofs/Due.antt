@@ -13,32 +13,32 @@ use Rattle.domain_run.specs.Parts.{is_listed}
 use Rattle.domain_run.specs.Tick.{prepared}
 use Rattle.domain_run.specs.Jump.{replenished_at, asks_at, gone_at, ticks_to, ticks_to_due_of, ticks_to_due}
 use Rattle.due_times.specs.Timers.{least, AreLater}
-use Rattle.domain_run.specs.private.Timers.{moment_of, due_of, IsStep, AreNotDue}
+use Rattle.domain_run.specs.private.Timers.{due_moment, due_of, IsTimerStep, AreNotDue}
 use Rattle.domain_run.proofs.Jumping.{IsStill, prepared_still, filter_whole}
 
 -- ---- before its time nothing is to be done to a task
 
-not_come : (time : ℕ) (moment : Option ℕ) → time < moment_of moment → has_come time moment ≡ false
+not_come : (time : ℕ) (moment : Option ℕ) → time < due_moment moment → has_come time moment ≡ false
 not_come time None h = refl
 not_come time (Some u) h = lt-leb u time (omega (arith, h))
 
 pub still_at : (time : ℕ) (t : Task) → time < due_of t → IsStill time t
 still_at time t h =
-    let a : time < moment_of (replenished_at t) = omega (arith, h) in
-    let b : time < moment_of t.zero_lag = omega (arith, h) in
-    let c : time < moment_of (asks_at t.condition) = omega (arith, h) in
-    let e : time < moment_of (gone_at t) = omega (arith, h) in
+    let a : time < due_moment (replenished_at t) = omega (arith, h) in
+    let b : time < due_moment t.zero_lag = omega (arith, h) in
+    let c : time < due_moment (asks_at t.condition) = omega (arith, h) in
+    let e : time < due_moment (gone_at t) = omega (arith, h) in
     record {
-      due = elim (is_throttled t.condition) as (λ x. time < moment_of (cond x t.server.deadline None) → (x && has_come time t.server.deadline) ≡ false) [
+      due = elim (is_throttled t.condition) as (λ x. time < due_moment (cond x t.server.deadline None) → (x && has_come time t.server.deadline) ≡ false) [
         | true ↦ λ k. not_come time t.server.deadline k
         | false ↦ λ k. refl
       ] a;
       lag = not_come time t.zero_lag b;
-      listed = elim (is_listed t) as (λ x. time < moment_of (cond x None (Some 0)) → x ≡ true) [ true ↦ λ k. refl | false ↦ λ k. absurd (omega (arith, k)) ] e;
+      listed = elim (is_listed t) as (λ x. time < due_moment (cond x None (Some 0)) → x ≡ true) [ true ↦ λ k. refl | false ↦ λ k. absurd (omega (arith, k)) ] e;
       over = asks t.condition c;
     }
   where
-    asks : (k : Condition) → time < moment_of (asks_at k) → is_over time k ≡ false
+    asks : (k : Condition) → time < due_moment (asks_at k) → is_over time k ≡ false
     asks Ready h = refl
     asks Throttled h = refl
     asks (Blocked u) h = not_come time (Some u) h
@@ -71,7 +71,7 @@ min_less x y t = omega arith
 either : (k t a b x y : ℕ) → min k a ≡ min k (x - t) → min k b ≡ min k (y - t) → min k (min a b) ≡ min k (min x y - t)
 either k t a b x y p q = min_each k a b ∙ (λ i. min (p i) (q i)) ∙ sym (min_each k (x - t) (y - t)) ∙ ap (λ n. min k n) (sym (min_less x y t))
 
-ticks_due : (time : ℕ) (moment : Option ℕ) → time ≤ 2 ^ 42 → min (2 ^ 42 - 1) (ticks_to time moment) ≡ min (2 ^ 42 - 1) (moment_of moment - time)
+ticks_due : (time : ℕ) (moment : Option ℕ) → time ≤ 2 ^ 42 → min (2 ^ 42 - 1) (ticks_to time moment) ≡ min (2 ^ 42 - 1) (due_moment moment - time)
 ticks_due time None early = omega (arith, early)
 ticks_due time (Some u) early = refl
 
@@ -80,9 +80,9 @@ rest_due time t early =
     let a = replenished_at t in
     let c = asks_at t.condition in
     let e = gone_at t in
-    either (2 ^ 42 - 1) time (min (ticks_to time a) (ticks_to time t.zero_lag)) (min (ticks_to time c) (ticks_to time e)) (min (moment_of a) (moment_of t.zero_lag)) (min (moment_of c) (moment_of e))
-    (either (2 ^ 42 - 1) time (ticks_to time a) (ticks_to time t.zero_lag) (moment_of a) (moment_of t.zero_lag) (ticks_due time a early) (ticks_due time t.zero_lag early))
-    (either (2 ^ 42 - 1) time (ticks_to time c) (ticks_to time e) (moment_of c) (moment_of e) (ticks_due time c early) (ticks_due time e early))
+    either (2 ^ 42 - 1) time (min (ticks_to time a) (ticks_to time t.zero_lag)) (min (ticks_to time c) (ticks_to time e)) (min (due_moment a) (due_moment t.zero_lag)) (min (due_moment c) (due_moment e))
+    (either (2 ^ 42 - 1) time (ticks_to time a) (ticks_to time t.zero_lag) (due_moment a) (due_moment t.zero_lag) (ticks_due time a early) (ticks_due time t.zero_lag early))
+    (either (2 ^ 42 - 1) time (ticks_to time c) (ticks_to time e) (due_moment c) (due_moment e) (ticks_due time c early) (ticks_due time e early))
 
 rest_capped : (time : ℕ) (tasks : List Task) → time ≤ 2 ^ 42 → min (2 ^ 42 - 1) (ticks_to_due time tasks) ≡ min (2 ^ 42 - 1) (least (map due_of tasks) - time)
 rest_capped time [] early = omega (arith, early)
@@ -97,15 +97,15 @@ rest_least time tasks early = omega (arith, rest_capped time tasks early, rest_m
 
 -- ---- ONE PLACE, where its task is due
 
-pub step_is : (tasks : List Task) (p : ℕ) (x y : Task) (f : Task → Task) → p < length tasks → x ≡ get_or tasks p x → y ≡ f x → IsStep f p tasks (set tasks p y)
+pub step_is : (tasks : List Task) (p : ℕ) (x y : Task) (f : Task → Task) → p < length tasks → x ≡ get_or tasks p x → y ≡ f x → IsTimerStep f p tasks (set tasks p y)
 step_is tasks p x y f h read is = record { is = λ d. ap (set tasks p) (is ∙ ap f (read ∙ get_or_default tasks p x d h)) }
 
 -- where it is not, nothing is to be done
-pub step_none : (tasks : List Task) (p : ℕ) (f : Task → Task) → ((d : Task) → f (get_or tasks p d) ≡ get_or tasks p d) → IsStep f p tasks tasks
+pub step_none : (tasks : List Task) (p : ℕ) (f : Task → Task) → ((d : Task) → f (get_or tasks p d) ≡ get_or tasks p d) → IsTimerStep f p tasks tasks
 step_none tasks p f still = record { is = λ d. sym (ap (set tasks p) (still d) ∙ set-get_or tasks p d) }
 
 -- two changes of it, one behind the other
-pub step_then : (f g : Task → Task) (tasks mid new : List Task) (p : ℕ) → p < length tasks → IsStep f p tasks mid → IsStep g p mid new → IsStep (λ t. g (f t)) p tasks new
+pub step_then : (f g : Task → Task) (tasks mid new : List Task) (p : ℕ) → p < length tasks → IsTimerStep f p tasks mid → IsTimerStep g p mid new → IsTimerStep (λ t. g (f t)) p tasks new
 step_then f g tasks mid new p h one two = record {
   is = λ d.
       two.is d
@@ -120,13 +120,13 @@ pub some_task : (tasks : List Task) (p : ℕ) → p < length tasks → Task
 some_task [] p h = absurd (omega (arith, h))
 some_task (t ∷ tasks) p h = t
 
-pub step_more : (f : Task → Task) (first now new : List Task) (p : ℕ) → p < length first → now ≡ map f (take p first) ++ drop p first → IsStep f p now new → new ≡ map f (take (p + 1) first) ++ drop (p + 1) first
+pub step_more : (f : Task → Task) (first now new : List Task) (p : ℕ) → p < length first → now ≡ map f (take p first) ++ drop p first → IsTimerStep f p now new → new ≡ map f (take (p + 1) first) ++ drop (p + 1) first
 step_more f first now new p h written step =
     let d = some_task first p h in
     let within : p < length now = rw written (simp (length-append, length-map, length-take, length-drop) (omega (arith, h))) in
     step.is d ∙ map_over_more f first now p (get_or now p d) h written (get_or_default now p d (get_or now p d) within)
 
-pub step_len : (f : Task → Task) (tasks new : List Task) (p : ℕ) → p < length tasks → IsStep f p tasks new → length new ≡ length tasks
+pub step_len : (f : Task → Task) (tasks new : List Task) (p : ℕ) → p < length tasks → IsTimerStep f p tasks new → length new ≡ length tasks
 step_len f tasks new p h step =
     let d = some_task tasks p h in
     ap (λ (ts : List Task). length ts) (step.is d) ∙ length-set tasks p (f (get_or tasks p d))

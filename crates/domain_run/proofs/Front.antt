@@ -8,7 +8,7 @@ use Rattle.std.proofs.lemmas.List.Filters.{length-filter_both}
 use Rattle.domain_run.specs.declared.task.Task.{Task}
 use Rattle.domain_run.specs.Calls.{is_other}
 use Rattle.domain_run.specs.Parts.{is_listed}
-use Rattle.domain_run.specs.private.Index.{IsAt, IsAbsent}
+use Rattle.domain_run.specs.private.Index.{IsListedAt, IsUnlisted}
 use Rattle.due_times.specs.Timers.{AreLater}
 use Rattle.domain_run.specs.private.Timers.{due_of}
 use Rattle.domain_run.proofs.Due.{still_at}
@@ -44,16 +44,16 @@ pub front_known : (tasks : List Task) (n : ℕ) → AreLater (map due_of tasks) 
 front_known tasks n later = take-map due_of n tasks ∙ ap (map due_of) (sym (front_listed tasks n later))
 
 -- those before the task of a number have other numbers, so they stay where that goes
-others_front : (tasks : List Task) (number p : ℕ) → AllPairs (λ a b. a.number ≢ b.number) tasks → IsAt tasks number p → take p (filter (is_other number) tasks) ≡ take p tasks
+others_front : (tasks : List Task) (number p : ℕ) → AllPairs (λ a b. a.number ≢ b.number) tasks → IsListedAt tasks number p → take p (filter (is_other number) tasks) ≡ take p tasks
 others_front tasks number p numbered at = front_stays (is_other number) tasks p (λ k d before within. ap not (ne_eqb (get_or tasks k d).number number (λ e. numbered k p d before at.within (e ∙ sym (at.is d)))))
 
-pub others_long : (tasks : List Task) (number p : ℕ) → AllPairs (λ a b. a.number ≢ b.number) tasks → IsAt tasks number p → p ≤ length (filter (is_other number) tasks)
+pub others_long : (tasks : List Task) (number p : ℕ) → AllPairs (λ a b. a.number ≢ b.number) tasks → IsListedAt tasks number p → p ≤ length (filter (is_other number) tasks)
 others_long tasks number p numbered at =
     let within : p < length tasks = at.within in
     front_many (is_other number) tasks p (omega (arith, within)) (others_front tasks number p numbered at)
 
 -- where the number is not listed, all of them stay
-pub others_all : (tasks : List Task) (number : ℕ) → IsAbsent tasks number → filter (is_other number) tasks ≡ tasks
+pub others_all : (tasks : List Task) (number : ℕ) → IsUnlisted tasks number → filter (is_other number) tasks ≡ tasks
 others_all tasks number absent = filter_whole (is_other number) tasks (λ k d within. ap not (ne_eqb (get_or tasks k d).number number (absent k d within)))
 
 -- a list without one of its items is what stands before it and behind it

@@ -4,7 +4,7 @@ use Rattle.std.specs.Prelude.{All, position, option_map}
 use Rattle.std.proofs.lemmas.List.Elements.{All-map, All-weaker, All-cons, All-head, All-tail, Contains-get_or}
 use Rattle.edf_pick.specs.declared.candidate.Candidate.{Candidate}
 use Rattle.edf_pick.specs.Changes.{stands_home}
-use Rattle.edf_pick.specs.Order.{ordered}
+use Rattle.edf_pick.specs.Order.{by_deadline}
 use Rattle.edf_pick.specs.Places.{Places, is_task, stands}
 use Rattle.edf_pick.specs.Schedule.{IsAtHome}
 use Rattle.edf_pick.proofs.CallerLemmas.{IsNumbered, numbered_first, numbered_rest, contains_from_ordered}
@@ -62,8 +62,8 @@ others_of c (x ∷ xs) ys numbered =
     (all_middle (λ b. x.number ≢ b.number) xs c ys (numbered_first x (xs ++ c ∷ ys) numbered))
     (others_of c xs ys (numbered_rest x (xs ++ c ∷ ys) numbered))
 
-pub ordered_others : (c : Candidate) (xs ys : List Candidate) → IsNumbered (xs ++ c ∷ ys) → All (λ a. a.number ≢ c.number) (ordered (xs ++ ys))
+pub ordered_others : (c : Candidate) (xs ys : List Candidate) → IsNumbered (xs ++ c ∷ ys) → All (λ a. a.number ≢ c.number) (by_deadline (xs ++ ys))
 ordered_others c xs ys numbered k d h =
-    let a = get_or (ordered (xs ++ ys)) k d in
-    let at = contains_from_ordered a (xs ++ ys) (Contains-get_or (ordered (xs ++ ys)) k d h) in
+    let a = get_or (by_deadline (xs ++ ys)) k d in
+    let at = contains_from_ordered a (xs ++ ys) (Contains-get_or (by_deadline (xs ++ ys)) k d h) in
     subst (λ (x : Candidate). x.number ≢ c.number) at.2 (others_of c xs ys numbered at.0 a at.1)

@@ -11,7 +11,7 @@ use Rattle.domain_run.specs.declared.task.Task.{Task}
 use Rattle.domain_run.specs.Parts.{with_last_cpu}
 use Rattle.domain_run.specs.Calls.{of_number}
 use Rattle.domain_run.specs.Jump.{running_numbers}
-use Rattle.domain_run.specs.Sound.{occupant, IsApart}
+use Rattle.domain_run.specs.Sound.{occupant, HasNoTaskTwice}
 use Rattle.domain_run.specs.private.Paying.{ran_until, index_of, paid_at, paid, MayPay, MayPayIf}
 use Rattle.domain_run.proofs.Placing.{homed_number}
 use Rattle.domain_run.proofs.Staying.{first_at, first_is}
@@ -61,11 +61,11 @@ homed_keeps places t = homed_number (position (is_task t.number) places) t
 abbrev pub AreDistinct : List ℕ → Type 0
 AreDistinct numbers = AllPairs (λ m n. m ≢ n) numbers
 
-pub standing_distinct : (places : Places) → IsApart places → AreDistinct (running_numbers places)
+pub standing_distinct : (places : Places) → HasNoTaskTwice places → AreDistinct (running_numbers places)
 standing_distinct [] apart = λ i j d less within. absurd (omega (arith, within))
 standing_distinct (None ∷ places) apart = standing_distinct places (record { once = λ i j n a b. let same : suc i ≡ suc j = apart.once (suc i) (suc j) n a b in omega (arith, same) })
 standing_distinct (Some n ∷ places) apart =
-    let rest : IsApart places = record { once = λ i j m a b. let same : suc i ≡ suc j = apart.once (suc i) (suc j) m a b in omega (arith, same) } in
+    let rest : HasNoTaskTwice places = record { once = λ i j m a b. let same : suc i ≡ suc j = apart.once (suc i) (suc j) m a b in omega (arith, same) } in
     let first : All (λ m. n ≢ m) (running_numbers places) = λ k d h same.
     let at = standing_occupies places k (get_or (running_numbers places) k d) (slice_get-get_or (running_numbers places) k d h) in
     let two : zero ≡ suc at.0 = apart.once zero (suc at.0) n refl (at.1 ∙ ap (λ m. Some m) (sym same)) in

@@ -17,11 +17,12 @@ use Rattle.domain_run.specs.declared.task.Condition.{Condition}
 use Rattle.domain_run.specs.declared.task.Condition.TheVariants.{Ready, Throttled, Blocked, Waiting, Leaving}
 use Rattle.domain_run.specs.Switch.{Switch}
 use Rattle.domain_run.specs.Conditions.{is_ready, is_throttled, is_contending, is_leaving, is_over, has_come}
-use Rattle.task_script.specs.script.Segments.{asked}
+use Rattle.task_script.specs.script.Segments.{next_segment}
 use Rattle.domain_run.specs.Parts.{replenish_due, settled, is_listed, unblocked, with_last_cpu, with_cpu, running_on, goes_on, after_charge, ran}
-use Rattle.domain_run.specs.Switches.{same_occupant, state_of, switches_from}
+use Rattle.edf_pick.specs.Moves.{same_occupant}
+use Rattle.domain_run.specs.Switches.{prev_state_of, switches_from}
 use Rattle.domain_run.specs.Domain.{Domain}
-use Rattle.domain_run.specs.Tick.{share_of, shares, candidate_of, candidates, prepared, with_places, with_prepared, begun, rate_of, ran_if, finished, ticked, ticks}
+use Rattle.domain_run.specs.Tick.{share_of, shares, candidate_of, candidates, prepared, with_places, with_prepared, with_tick_begun, rate_of, ran_if, finished, ticked, ticks}
 use Rattle.domain_run.specs.Jump.{replenished_at, asks_at, gone_at, ticks_to, ticks_to_due_of, ticks_to_due}
 use Rattle.domain_run.specs.private.RunQueue.{candidate_at, ready_of}
 use Rattle.domain_run.specs.private.Paying.{ran_until}
@@ -207,12 +208,12 @@ same_itself (Some n) = eq-eqb n n refl
 no_switches : (time : ℕ) (tasks : List Task) (cpu : ℕ) (places : Places) → switches_from time tasks cpu places places ≡ []
 no_switches time tasks cpu [] = refl
 no_switches time tasks cpu (o ∷ places) =
-    let s : Switch = record { time = time; prev = o; next = o; cpu = cpu; state = state_of tasks o } in
+    let s : Switch = record { time = time; prev = o; next = o; cpu = cpu; state = prev_state_of tasks o } in
     ap (λ b. cond b (switches_from time tasks (cpu + 1) places places) (s ∷ switches_from time tasks (cpu + 1) places places)) (same_itself o) ∙ no_switches time tasks (cpu + 1) places
 
-pub begun_still : (d : Domain) (j : ℕ) → 0 < j → j ≤ ticks_to_due (d.time + 1) (begun d).tasks → begun (slid_all (begun d) j) ≡ slid_all (begun d) j
+pub begun_still : (d : Domain) (j : ℕ) → 0 < j → j ≤ ticks_to_due (d.time + 1) (with_tick_begun d).tasks → with_tick_begun (slid_all (with_tick_begun d) j) ≡ slid_all (with_tick_begun d) j
 begun_still d j some h =
-    let b = begun d in
+    let b = with_tick_begun d in
     let w = prepared d.time d.tasks in
     let f = slid b j in
     let same = alike_slid b j in
@@ -282,7 +283,7 @@ run_on b j k t less runs =
     let most : rate_of b t * suc j ≤ rate_of b t * (k - 1) = mul-le-mul (omega arith) (omega (arith, less)) in
     let unspent : int_le left (pos 0) ≡ false = above left (omega (arith, ints, runs.lasted, most)) in
     let u : Task = record t { server = record t.server { left = left }; work = t.work - suc j } in
-    ap (λ s. cond s (goes_on (b.time + suc j) u (asked t.cursor (b.time + suc j))) (running_on u)) more
+    ap (λ s. cond s (goes_on (b.time + suc j) u (next_segment t.cursor (b.time + suc j))) (running_on u)) more
     ∙ ap (λ s. record u { condition = cond s Throttled Ready }) unspent
     ∙ ap (λ k. record u { condition = k }) (sym runs.ready)
   where
@@ -325,20 +326,20 @@ slid_none b =
 -- ---- THE JUMP
 
 -- before its last tick nothing ends
-pub ticks_slid : (d : Domain) (k j : ℕ) → j < k → k - 1 ≤ ticks_to_due (d.time + 1) (begun d).tasks → All (RunsIf (begun d) k) (begun d).tasks → ticks (suc j) d ≡ finished (slid_all (begun d) j)
-ticks_slid d k zero h quiet runs = ap finished (sym (slid_none (begun d)))
+pub ticks_slid : (d : Domain) (k j : ℕ) → j < k → k - 1 ≤ ticks_to_due (d.time + 1) (with_tick_begun d).tasks → All (RunsIf (with_tick_begun d) k) (with_tick_begun d).tasks → ticks (suc j) d ≡ finished (slid_all (with_tick_begun d) j)
+ticks_slid d k zero h quiet runs = ap finished (sym (slid_none (with_tick_begun d)))
 ticks_slid d k (suc j) h quiet runs =
-    ap ticked (ticks_slid d k j (omega (arith, h)) quiet runs ∙ finished_slid (begun d) j k h runs)
+    ap ticked (ticks_slid d k j (omega (arith, h)) quiet runs ∙ finished_slid (with_tick_begun d) j k h runs)
     ∙ ap finished (begun_still d (suc j) (omega arith) (omega (arith, quiet, h)))
 
 -- a task that stands has run in all of them
 abbrev pub jumped : Domain → ℕ → Task → Task
 jumped b k t = cond (stands t.number b.curr) (ran_until (b.time + k) k (t.server.left -ℤ pos (rate_of b t * k)) t) t
 
-pub jump_is : (d : Domain) (k : ℕ) → 0 < k → k - 1 ≤ ticks_to_due (d.time + 1) (begun d).tasks → All (RunsIf (begun d) k) (begun d).tasks → ticks k d ≡ record (begun d) { time = d.time + k; tasks = map (jumped (begun d) k) (begun d).tasks }
+pub jump_is : (d : Domain) (k : ℕ) → 0 < k → k - 1 ≤ ticks_to_due (d.time + 1) (with_tick_begun d).tasks → All (RunsIf (with_tick_begun d) k) (with_tick_begun d).tasks → ticks k d ≡ record (with_tick_begun d) { time = d.time + k; tasks = map (jumped (with_tick_begun d) k) (with_tick_begun d).tasks }
 jump_is d zero some quiet runs = absurd (omega (arith, some))
 jump_is d (suc j) some quiet runs =
-    let b = begun d in
+    let b = with_tick_begun d in
     let time : b.time + j + 1 ≡ b.time + suc j = omega arith in
     let tasks = map_twice (ran_if (slid_all b j)) (slid b j) (jumped b (suc j)) b.tasks (λ i e h. ran_slid b j (get_or b.tasks i e)) in
     ticks_slid d (suc j) j (omega arith) quiet runs ∙ (λ i. record b { time = time i; tasks = tasks i })

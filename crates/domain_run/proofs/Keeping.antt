@@ -10,7 +10,7 @@ use Rattle.task_script.specs.declared.script.Segment.{Segment}
 use Rattle.task_script.specs.declared.script.Segment.TheVariants.{Run as RunFor, Until, Wait as WaitFor, End}
 use Rattle.domain_run.specs.Conditions.{is_over, has_come}
 use Rattle.cbs_rules.specs.Serving.{is_spent, woken}
-use Rattle.task_script.specs.script.Segments.{asked}
+use Rattle.task_script.specs.script.Segments.{next_segment}
 use Rattle.domain_run.specs.Parts.{replenish_due, settled, enqueued, started, unblocked, went_on, ran}
 use Rattle.domain_run.specs.Tick.{share_of, shares, sum_of}
 
@@ -48,7 +48,7 @@ same_started time End t u h = record { number = h.number; params = h.params; cpu
 
 pub same_unblocked : (time : ℕ) (t : Task) → Same t (unblocked time t)
 same_unblocked time t =
-    same_either (is_over time t.condition) t _ t (same_started time (asked t.cursor time).segment t (record t { cursor = (asked t.cursor time).cursor }) (record { number = refl; params = refl; cpu = refl })) (same_itself t)
+    same_either (is_over time t.condition) t _ t (same_started time (next_segment t.cursor time).segment t (record t { cursor = (next_segment t.cursor time).cursor }) (record { number = refl; params = refl; cpu = refl })) (same_itself t)
 
 same_went_on : (time : ℕ) (s : Segment) (t u : Task) → Same t u → Same t (went_on time s u)
 same_went_on time (RunFor n) t u h = record { number = h.number; params = h.params; cpu = h.cpu }

@@ -10,7 +10,7 @@ use Rattle.edf_pick.specs.Places.{is_task}
 use Rattle.domain_run.specs.declared.task.Task.{Task}
 use Rattle.domain_run.specs.Parts.{replenish_due, settled, is_listed, unblocked, with_last_cpu}
 use Rattle.domain_run.specs.Domain.{Domain}
-use Rattle.domain_run.specs.Tick.{begun, ran_if, ticked, ticks}
+use Rattle.domain_run.specs.Tick.{with_tick_begun, ran_if, ticked, ticks}
 use Rattle.domain_run.specs.Keys.{key_of, keys, has_task, listed_keys, AreKept}
 use Rattle.domain_run.proofs.Keeping.{Same, same_replenished, same_settled, same_unblocked, AllPairs-map}
 use Rattle.domain_run.proofs.Placing.{homed_number, homed_params}
@@ -143,11 +143,11 @@ ticked_kept d numbered =
     let c = map (settled d.time) b in
     let s = filter is_listed c in
     let w = map (unblocked d.time) s in
-    let h = (begun d).tasks in
+    let h = (with_tick_begun d).tasks in
     let before : keys c ≡ keys d.tasks = keys_same (settled d.time) (same_settled d.time) b ∙ keys_same (replenish_due d.time) (same_replenished d.time) d.tasks in
     let after : keys (ticked d).tasks ≡ keys s =
-    keys_same (ran_if (begun d)) (same_ran_if (begun d)) h
-    ∙ keys_map (with_last_cpu (begun d).curr) (λ t. homed_number (position (is_task t.number) (begun d).curr) t) (λ t. homed_params (position (is_task t.number) (begun d).curr) t) w
+    keys_same (ran_if (with_tick_begun d)) (same_ran_if (with_tick_begun d)) h
+    ∙ keys_map (with_last_cpu (with_tick_begun d).curr) (λ t. homed_number (position (is_task t.number) (with_tick_begun d).curr) t) (λ t. homed_params (position (is_task t.number) (with_tick_begun d).curr) t) w
     ∙ keys_same (unblocked d.time) (same_unblocked d.time) s in
     kept_by_keys c s d.tasks (ticked d).tasks before (sym after) (kept_filter is_listed c (numbered_due d numbered))
 
@@ -155,8 +155,8 @@ pub ticked_numbered : (d : Domain) → AreNumbered d.tasks → AreNumbered (tick
 ticked_numbered d numbered =
     let s = filter is_listed (map (settled d.time) (map (replenish_due d.time) d.tasks)) in
     let w = map (unblocked d.time) s in
-    numbered_map (ran_if (begun d)) (λ t. (same_ran_if (begun d) t).number) (begun d).tasks
-    (numbered_map (with_last_cpu (begun d).curr) (λ t. homed_number (position (is_task t.number) (begun d).curr) t) w
+    numbered_map (ran_if (with_tick_begun d)) (λ t. (same_ran_if (with_tick_begun d) t).number) (with_tick_begun d).tasks
+    (numbered_map (with_last_cpu (with_tick_begun d).curr) (λ t. homed_number (position (is_task t.number) (with_tick_begun d).curr) t) w
     (numbered_map (unblocked d.time) (λ t. (same_unblocked d.time t).number) s
     (AllPairs-filter (λ a b. a.number ≢ b.number) is_listed (map (settled d.time) (map (replenish_due d.time) d.tasks)) (numbered_due d numbered))))
 

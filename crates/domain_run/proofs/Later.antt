@@ -9,9 +9,9 @@ use Rattle.domain_run.specs.declared.task.Task.{Task}
 use Rattle.domain_run.specs.declared.run_queue.RunQueue.{RunQueue}
 use Rattle.due_times.specs.declared.seats.Seat.{Seat}
 use Rattle.domain_run.specs.private.Paying.{ran_until}
-use Rattle.due_times.specs.Seats.{SeatsView, end_of, seat_by, left_if, left, IsAhead}
-use Rattle.domain_run.specs.private.Waiting.{left_of, seat_of, slid_for, owed_by, owed, owed_all, Waits, AllWait, Lasts, passed_by, passed}
-use Rattle.domain_run.specs.private.Index.{IsAt}
+use Rattle.due_times.specs.Seats.{SeatsView, end_of, seat_by, left_if, IsAhead}
+use Rattle.domain_run.specs.private.Waiting.{seats_without, seat_of_task, slid_for, owed_by, owed, owed_all, Waits, AllWait, Lasts, passed_by, time_passed}
+use Rattle.domain_run.specs.private.Index.{IsListedAt}
 use Rattle.due_times.specs.Timers.{AreLater, least}
 use Rattle.domain_run.specs.Sound.{IsSound}
 use Rattle.domain_run.specs.private.Roster.{RosterView, MayRun}
@@ -59,10 +59,10 @@ module _ (upto : ℕ) (s : Seat) (t : Task) (ahead : IsAhead upto s) (waits : Wa
       sym (slide_twice j k (upto + k - s.since) s.rate t whole) ∙ slides time k (u.server.left -ℤ pos (s.rate * k)) u waits.ready worked lasted
 
 -- the seat of a task is the seat of the task as it is seen
-pub seat_seen : (upto : ℕ) (seats : List (Option Seat)) (t : Task) → seat_of seats (owed upto seats t) ≡ seat_of seats t
+pub seat_seen : (upto : ℕ) (seats : List (Option Seat)) (t : Task) → seat_of_task seats (owed upto seats t) ≡ seat_of_task seats t
 seat_seen upto seats t = let a = alike_owed upto seats t in λ i. seat_by (a.number i) (get_or seats (a.cpu i) None)
 
-pub pass_one : (upto time k : ℕ) (seats : List (Option Seat)) (t : Task) (o : Option Seat) → seat_of seats t ≡ o → IfSome o (λ s. IsAhead upto s × (upto + k < s.end)) → IfSome o (λ s. Waits s t) → passed time k seats (owed upto seats t) ≡ owed (upto + k) seats t
+pub pass_one : (upto time k : ℕ) (seats : List (Option Seat)) (t : Task) (o : Option Seat) → seat_of_task seats t ≡ o → IfSome o (λ s. IsAhead upto s × (upto + k < s.end)) → IfSome o (λ s. Waits s t) → time_passed time k seats (owed upto seats t) ≡ owed (upto + k) seats t
 pass_one upto time k seats t None e ahead waits =
     ap (λ o. passed_by time k o (owed upto seats t)) (seat_seen upto seats t ∙ e)
     ∙ ap (λ o. owed_by upto o t) e ∙ sym (ap (λ o. owed_by (upto + k) o t) e)
@@ -72,8 +72,8 @@ pass_one upto time k seats t (Some s) e ahead waits =
     ∙ sym (ap (λ o. owed_by (upto + k) o t) e ∙ passes_by upto s t ahead.0 waits time k ahead.1)
 
 -- none ends
-pub pass_view : (upto time k : ℕ) (seats : List (Option Seat)) (tasks : List Task) → ((t : Task) → IfSome (seat_of seats t) (λ s. IsAhead upto s × (upto + k < s.end))) → AllWait seats tasks → map (owed (upto + k) seats) tasks ≡ map (passed time k seats) (map (owed upto seats) tasks)
-pass_view upto time k seats tasks ahead waits = sym (map_twice (passed time k seats) (owed upto seats) (owed (upto + k) seats) tasks (λ i d h. let t = get_or tasks i d in pass_one upto time k seats t (seat_of seats t) refl (ahead t) (waits i d h)))
+pub pass_view : (upto time k : ℕ) (seats : List (Option Seat)) (tasks : List Task) → ((t : Task) → IfSome (seat_of_task seats t) (λ s. IsAhead upto s × (upto + k < s.end))) → AllWait seats tasks → map (owed (upto + k) seats) tasks ≡ map (time_passed time k seats) (map (owed upto seats) tasks)
+pass_view upto time k seats tasks ahead waits = sym (map_twice (time_passed time k seats) (owed upto seats) (owed (upto + k) seats) tasks (λ i d h. let t = get_or tasks i d in pass_one upto time k seats t (seat_of_task seats t) refl (ahead t) (waits i d h)))
 
 -- ---- ONE ENDS: what is still to pass leads to the same
 
@@ -97,36 +97,36 @@ map_set_to f g (x ∷ xs) (suc p) y others here =
 
 module _ (time k cpu : ℕ) (seats : List (Option Seat)) (tasks : List Task) (s : Seat) (there : get_or seats cpu None ≡ Some s) where
   -- no listed task sits there
-  pub orphan_passes : All (λ t. t.number ≡ s.number → t.cpu ≡ cpu → ⊥) tasks → map (passed time k (set seats cpu None)) tasks ≡ map (passed time k seats) tasks
-  orphan_passes none = map_alike (passed time k (set seats cpu None)) (passed time k seats) tasks (λ i d h. ap (λ o. passed_by time k o (get_or tasks i d)) (same_there (get_or tasks i d) (none i d h)))
+  pub orphan_passes : All (λ t. t.number ≡ s.number → t.cpu ≡ cpu → ⊥) tasks → map (time_passed time k (set seats cpu None)) tasks ≡ map (time_passed time k seats) tasks
+  orphan_passes none = map_alike (time_passed time k (set seats cpu None)) (time_passed time k seats) tasks (λ i d h. ap (λ o. passed_by time k o (get_or tasks i d)) (same_there (get_or tasks i d) (none i d h)))
     where
-      same_there : (t : Task) → (t.number ≡ s.number → t.cpu ≡ cpu → ⊥) → seat_of (set seats cpu None) t ≡ seat_of seats t
+      same_there : (t : Task) → (t.number ≡ s.number → t.cpu ≡ cpu → ⊥) → seat_of_task (set seats cpu None) t ≡ seat_of_task seats t
       same_there t never = elim (cases_eq t.cpu cpu) [
         | inl e ↦ same_stranger seats cpu s t there (λ n. never n e)
         | inr apart ↦ same_elsewhere seats cpu None t apart
       ]
 
   module _ (p : ℕ) (x y : Task) (inside : p < length tasks) (read : x ≡ get_or tasks p x) (number : x.number ≡ s.number) (home : x.cpu ≡ cpu) (stays : y.cpu ≡ x.cpu) (numbered : AllPairs (λ a b. a.number ≢ b.number) tasks) where
-    sits_there : seat_of seats x ≡ Some s
+    sits_there : seat_of_task seats x ≡ Some s
     sits_there = ap (λ c. seat_by x.number (get_or seats c None)) home ∙ ap (seat_by x.number) there ∙ ap (λ b. cond b (Some s) None) (eq-eqb s.number x.number (sym number))
 
-    gone_there : seat_of (set seats cpu None) y ≡ None
+    gone_there : seat_of_task (set seats cpu None) y ≡ None
     gone_there = nobody_here seats cpu y (stays ∙ home)
 
     -- its seat is left
-    pub finished_seats : left_of y (left_of x seats) ≡ set seats cpu None
+    pub finished_seats : seats_without y (seats_without x seats) ≡ set seats cpu None
     finished_seats =
-        let first : left_of x seats ≡ set seats cpu None = ap (λ c. left_if c seats (seat_of seats x)) home ∙ ap (left_if cpu seats) sits_there in
-        ap (left_of y) first ∙ ap (left_if y.cpu (set seats cpu None)) gone_there
+        let first : seats_without x seats ≡ set seats cpu None = ap (λ c. left_if c seats (seat_of_task seats x)) home ∙ ap (left_if cpu seats) sits_there in
+        ap (seats_without y) first ∙ ap (left_if y.cpu (set seats cpu None)) gone_there
 
-    pub finished_passes : y ≡ ran_until time k (x.server.left -ℤ pos (s.rate * k)) x → map (passed time k (set seats cpu None)) (set tasks p y) ≡ map (passed time k seats) tasks
+    pub finished_passes : y ≡ ran_until time k (x.server.left -ℤ pos (s.rate * k)) x → map (time_passed time k (set seats cpu None)) (set tasks p y) ≡ map (time_passed time k seats) tasks
     finished_passes is =
-        map_set_to (passed time k (set seats cpu None)) (passed time k seats) tasks p y
+        map_set_to (time_passed time k (set seats cpu None)) (time_passed time k seats) tasks p y
         (λ i d h apart. ap (λ o. passed_by time k o (get_or tasks i d)) (same_stranger seats cpu s (get_or tasks i d) there (λ e. apart (one_index tasks i p d d numbered h inside (e ∙ sym number ∙ ap (λ (t : Task). t.number) (read ∙ get_or_default tasks p x d inside))))))
         (λ d.
         ap (λ o. passed_by time k o y) gone_there
         ∙ is
-        ∙ sym (ap (passed time k seats) (sym (read ∙ get_or_default tasks p x d inside)) ∙ ap (λ o. passed_by time k o x) sits_there))
+        ∙ sym (ap (time_passed time k seats) (sym (read ∙ get_or_default tasks p x d inside)) ∙ ap (λ o. passed_by time k o x) sits_there))
 
 -- what a run of so many ticks leaves is not too low
 low_by : (left : ℤ) (rate j : ℕ) → rate ≤ 2 ^ 27 → pos (rate * j) <ℤ left → neg_ℤ (pos (2 ^ 32)) ≤ℤ (left -ℤ pos (rate * suc j))
@@ -152,23 +152,23 @@ may_run time upto k s t early some ends ahead waits sound =
     }
 
 -- none ends before the last of so many ticks
-pub all_last : (upto k : ℕ) (seats : List (Option Seat)) (tasks : List Task) → 0 < k → ((cpu : ℕ) → IfSome (get_or seats cpu None) (λ s. IsAhead upto s × (upto + k ≤ s.end))) → AllWait seats tasks → All (λ t. IfSome (seat_of seats t) (λ s. Lasts k s.rate t)) (map (owed upto seats) tasks)
+pub all_last : (upto k : ℕ) (seats : List (Option Seat)) (tasks : List Task) → 0 < k → ((cpu : ℕ) → IfSome (get_or seats cpu None) (λ s. IsAhead upto s × (upto + k ≤ s.end))) → AllWait seats tasks → All (λ t. IfSome (seat_of_task seats t) (λ s. Lasts k s.rate t)) (map (owed upto seats) tasks)
 all_last upto k seats tasks some ends waits i d h =
     let many : length (map (owed upto seats) tasks) ≡ length tasks = simp length-map in
     let inside : i < length tasks = omega (arith, h, many) in
     let t = get_or tasks i d in
-    subst (λ (u : Task). IfSome (seat_of seats u) (λ s. Lasts k s.rate u)) (sym (get_or-map (owed upto seats) tasks i d d inside))
-    (subst (λ o. IfSome o (λ s. Lasts k s.rate (owed upto seats t))) (sym (seat_seen upto seats t)) (by_seat t (seat_of seats t) refl (seat_ends t (get_or seats t.cpu None) (ends t.cpu)) (waits i d inside)))
+    subst (λ (u : Task). IfSome (seat_of_task seats u) (λ s. Lasts k s.rate u)) (sym (get_or-map (owed upto seats) tasks i d d inside))
+    (subst (λ o. IfSome o (λ s. Lasts k s.rate (owed upto seats t))) (sym (seat_seen upto seats t)) (by_seat t (seat_of_task seats t) refl (seat_ends t (get_or seats t.cpu None) (ends t.cpu)) (waits i d inside)))
   where
     seat_ends : (t : Task) (o : Option Seat) → IfSome o (λ s. IsAhead upto s × (upto + k ≤ s.end)) → IfSome (seat_by t.number o) (λ s. IsAhead upto s × (upto + k ≤ s.end))
     seat_ends t None is = tt
     seat_ends t (Some s) is = elim (eqb s.number t.number) as (λ b. IfSome (cond b (Some s) None) (λ s. IsAhead upto s × (upto + k ≤ s.end))) [ true ↦ is | false ↦ tt ]
 
-    by_seat : (t : Task) (o : Option Seat) → seat_of seats t ≡ o → IfSome o (λ s. IsAhead upto s × (upto + k ≤ s.end)) → IfSome o (λ s. Waits s t) → IfSome o (λ s. Lasts k s.rate (owed upto seats t))
+    by_seat : (t : Task) (o : Option Seat) → seat_of_task seats t ≡ o → IfSome o (λ s. IsAhead upto s × (upto + k ≤ s.end)) → IfSome o (λ s. Waits s t) → IfSome o (λ s. Lasts k s.rate (owed upto seats t))
     by_seat t None e is wait = tt
     by_seat t (Some s) e is wait = subst (λ o. Lasts k s.rate (owed_by upto o t)) (sym e) (lasts_by upto s t is.0 wait k is.1 some)
 
-pub left_none : (seats : List (Option Seat)) (t : Task) → seat_of seats t ≡ None → left_of t seats ≡ seats
+pub left_none : (seats : List (Option Seat)) (t : Task) → seat_of_task seats t ≡ None → seats_without t seats ≡ seats
 left_none seats t none = ap (left_if t.cpu seats) none
 
 -- ---- ONE CPU AFTER ANOTHER
@@ -210,7 +210,7 @@ ends_next P seats cpu all c = elim (cases_eq c cpu) [
 ]
 
 -- where no seat ends up to a time
-pub strict_ends : (upto time : ℕ) (seats : List (Option Seat)) → All (λ o. IfSome o (IsAhead upto)) seats → AreLater (map end_of seats) time 0 (length seats) → (t : Task) → IfSome (seat_of seats t) (λ s. IsAhead upto s × (time < s.end))
+pub strict_ends : (upto time : ℕ) (seats : List (Option Seat)) → All (λ o. IfSome o (IsAhead upto)) seats → AreLater (map end_of seats) time 0 (length seats) → (t : Task) → IfSome (seat_of_task seats t) (λ s. IsAhead upto s × (time < s.end))
 strict_ends upto time seats ahead later t = elim (cases_lt t.cpu (length seats)) [
   | inl h ↦
       let many : length (map end_of seats) ≡ length seats = simp length-map in
@@ -259,7 +259,7 @@ pub record IsFinishing (time k : ℕ) (s : Seat) (u : Task) : Type 0 where
   pub lifted : pos 0 <ℤ u.server.left
   pub high : u.server.left ≤ℤ pos (2 ^ 52)
 
-pub finishing : (time k upto cpu : ℕ) (seats : List (Option Seat)) (items : List Task) (s : Seat) (p : ℕ) (u : Task) → get_or seats cpu None ≡ Some s → IsAt (map (owed upto seats) items) s.number p → u ≡ get_or (map (owed upto seats) items) p u → u.cpu ≡ cpu → AllWait seats items → IsAhead upto s → upto + k ≤ s.end → 0 < k → time < 2 ^ 43 → IsSound time u → IsFinishing time k s u
+pub finishing : (time k upto cpu : ℕ) (seats : List (Option Seat)) (items : List Task) (s : Seat) (p : ℕ) (u : Task) → get_or seats cpu None ≡ Some s → IsListedAt (map (owed upto seats) items) s.number p → u ≡ get_or (map (owed upto seats) items) p u → u.cpu ≡ cpu → AllWait seats items → IsAhead upto s → upto + k ≤ s.end → 0 < k → time < 2 ^ 43 → IsSound time u → IsFinishing time k s u
 finishing time k upto cpu seats items s p u there at read home waits ahead ends some early sound =
     let many : length (map (owed upto seats) items) ≡ length items = simp length-map in
     let within = at.within in
@@ -269,7 +269,7 @@ finishing time k upto cpu seats items s p u there at read home waits ahead ends 
     let a = alike_owed upto seats x in
     let cpu_is : x.cpu ≡ cpu = sym a.cpu ∙ ap (λ (t : Task). t.cpu) e ∙ home in
     let number : x.number ≡ s.number = sym a.number ∙ ap (λ (t : Task). t.number) (e ∙ read) ∙ at.is u in
-    let sits : seat_of seats x ≡ Some s = ap (λ c. seat_by x.number (get_or seats c None)) cpu_is ∙ ap (seat_by x.number) there ∙ ap (λ b. cond b (Some s) None) (eq-eqb s.number x.number (sym number)) in
+    let sits : seat_of_task seats x ≡ Some s = ap (λ c. seat_by x.number (get_or seats c None)) cpu_is ∙ ap (seat_by x.number) there ∙ ap (λ b. cond b (Some s) None) (eq-eqb s.number x.number (sym number)) in
     let w : Waits s x = subst (λ o. IfSome o (λ r. Waits r x)) sits (waits p u h) in
     let f : owed_by upto (Some s) x ≡ u = ap (λ o. owed_by upto o x) (sym sits) ∙ e in
     let l : Lasts k s.rate u = subst (Lasts k s.rate) f (lasts_by upto s x ahead w k ends some) in
@@ -289,7 +289,7 @@ bare upto cpu seats items p x h read free home =
     let many : length (map (owed upto seats) items) ≡ length items = simp length-map in
     let inside : p < length (map (owed upto seats) items) = omega (arith, h, many) in
     let cpu_is : x.cpu ≡ cpu = sym (alike_owed upto seats x).cpu ∙ ap (λ (t : Task). t.cpu) seen ∙ home u in
-    let none : seat_of seats x ≡ None = ap (λ c. seat_by x.number (get_or seats c None)) cpu_is ∙ ap (seat_by x.number) free in
+    let none : seat_of_task seats x ≡ None = ap (λ c. seat_by x.number (get_or seats c None)) cpu_is ∙ ap (seat_by x.number) free in
     sym (ap (λ o. owed_by upto o x) none) ∙ seen ∙ get_or_default (map (owed upto seats) items) p u x inside
 
 -- who sits stays sound
@@ -307,14 +307,14 @@ sound_by upto time k s t ahead waits h sound =
     let high : (u.server.left -ℤ pos (s.rate * k)) ≤ℤ pos (2 ^ 52) = omega (arith, ints, top) in
     subst (IsSound time) (slide_twice j k (upto + k - s.since) s.rate t whole) (slid_sound time k (u.server.left -ℤ pos (s.rate * k)) u waits.ready worked lasted high sound)
 
-pub pass_sound : (upto time k : ℕ) (seats : List (Option Seat)) (tasks : List Task) → ((t : Task) → IfSome (seat_of seats t) (λ s. IsAhead upto s × (upto + k < s.end))) → AllWait seats tasks → All (IsSound time) (map (owed upto seats) tasks) → All (IsSound time) (map (owed (upto + k) seats) tasks)
+pub pass_sound : (upto time k : ℕ) (seats : List (Option Seat)) (tasks : List Task) → ((t : Task) → IfSome (seat_of_task seats t) (λ s. IsAhead upto s × (upto + k < s.end))) → AllWait seats tasks → All (IsSound time) (map (owed upto seats) tasks) → All (IsSound time) (map (owed (upto + k) seats) tasks)
 pass_sound upto time k seats tasks ahead waits sound i d h =
     let many : length (map (owed (upto + k) seats) tasks) ≡ length tasks = simp length-map in
     let before : length (map (owed upto seats) tasks) ≡ length tasks = simp length-map in
     let inside : i < length tasks = omega (arith, h, many) in
     let t = get_or tasks i d in
     subst (IsSound time) (sym (get_or-map (owed (upto + k) seats) tasks i d d inside))
-    (by_seat t (seat_of seats t) (ahead t) (waits i d inside) (subst (IsSound time) (get_or-map (owed upto seats) tasks i d d inside) (sound i d (omega (arith, inside, before)))))
+    (by_seat t (seat_of_task seats t) (ahead t) (waits i d inside) (subst (IsSound time) (get_or-map (owed upto seats) tasks i d d inside) (sound i d (omega (arith, inside, before)))))
   where
     by_seat : (t : Task) (o : Option Seat) → IfSome o (λ s. IsAhead upto s × (upto + k < s.end)) → IfSome o (λ s. Waits s t) → IsSound time (owed_by upto o t) → IsSound time (owed_by (upto + k) o t)
     by_seat t None is wait good = good
@@ -335,18 +335,18 @@ pub facts_of : (old mid : RosterView) (time k cpu p : ℕ) (seat : Seat) (x : Ta
     → roster_view n1 s1 items1 ≡ old → AllWait s1.seats items1
     → roster_view n2 s2 items2 ≡ mid
     → Some seat ≡ get_or s1.seats cpu None → IsAhead s1.upto seat
-    → IsAt old.tasks seat.number p → ((d : Task) → (get_or old.tasks p d).cpu ≡ cpu)
+    → IsListedAt old.tasks seat.number p → ((d : Task) → (get_or old.tasks p d).cpu ≡ cpu)
     → x ≡ get_or items2 p x
     → 0 < k → time < 2 ^ 43 → IfSome (get_or old.seats cpu None) (λ s. old.clock + k ≤ s.end) → All (IsSound time) old.tasks
     → Facts old time k cpu p seat x
 facts_of old mid time k cpu p seat x n1 n2 s1 s2 items1 items2 vacated view1 waits view2 sits ahead at home read2 some early ends sound =
     let tasks2 : owed_all s2 items2 ≡ old.tasks = ap (λ (r : RosterView). r.tasks) (view2 ∙ vacated) in
-    let at2 = subst (λ (ts : List Task). IsAt ts seat.number p) (sym tasks2) at in
+    let at2 = subst (λ (ts : List Task). IsListedAt ts seat.number p) (sym tasks2) at in
     let free : get_or s2.seats cpu None ≡ None = ap (λ (r : RosterView). get_or r.seats cpu None) (view2 ∙ vacated) ∙ none_at old.seats cpu in
     let home2 = subst (λ (ts : List Task). (d : Task) → (get_or ts p d).cpu ≡ cpu) (sym tasks2) home in
     let bare2 = bare s2.upto cpu s2.seats items2 p x (inside_at s2.upto s2.seats items2 seat.number p x read2 at2) read2 free home2 in
     let read : x ≡ get_or old.tasks p x = bare2 ∙ ap (λ (ts : List Task). get_or ts p x) tasks2 in
-    let at1 = subst (λ (r : RosterView). IsAt r.tasks seat.number p) (sym view1) at in
+    let at1 = subst (λ (r : RosterView). IsListedAt r.tasks seat.number p) (sym view1) at in
     let read1 = read ∙ ap (λ (r : RosterView). get_or r.tasks p x) (sym view1) in
     let cpu_is : x.cpu ≡ cpu = ap (λ (t : Task). t.cpu) read ∙ home x in
     let ends1 = subst (λ o. IfSome o (λ s. s1.upto + k ≤ s.end)) (sym sits) (subst (λ (r : RosterView). IfSome (get_or r.seats cpu None) (λ s. r.clock + k ≤ s.end)) (sym view1) ends) in
@@ -362,5 +362,5 @@ facts_of old mid time k cpu p seat x n1 n2 s1 s2 items1 items2 vacated view1 wai
 pub nobody_view : (a b : ℕ) (seats : List (Option Seat)) (tasks : List Task) → ((cpu : ℕ) → get_or seats cpu None ≡ None) → map (owed a seats) tasks ≡ map (owed b seats) tasks
 nobody_view a b seats tasks none = map_alike (owed a seats) (owed b seats) tasks (λ k d h.
     let t = get_or tasks k d in
-    let free : seat_of seats t ≡ None = ap (seat_by t.number) (none t.cpu) in
+    let free : seat_of_task seats t ≡ None = ap (seat_by t.number) (none t.cpu) in
     ap (λ o. owed_by a o t) free ∙ sym (ap (λ o. owed_by b o t) free))

@@ -8,7 +8,7 @@ use Rattle.domain_run.specs.Conditions.{is_ready}
 use Rattle.domain_run.specs.Domain.{Domain}
 use Rattle.domain_run.specs.Jump.{under_way, ticks_to_event}
 use Rattle.domain_run.specs.Sound.{IsSound, IsSteady, IsPlacement}
-use Rattle.domain_run.specs.Tick.{begun, ticks}
+use Rattle.domain_run.specs.Tick.{with_tick_begun, ticks}
 use Rattle.domain_run.specs.private.Paying.{ran_until}
 use Rattle.domain_run.specs.private.Roster.{rate_in, leapt, LastsIf}
 use Rattle.domain_run.specs.private.Waiting.{MaySit, MaySitOn}
@@ -47,7 +47,7 @@ pub leap_is : (e : Domain) (k time : ℕ) (tasks : List Task) → 0 < k → k �
     → record (under_way e) { time = time; tasks = tasks } ≡ ticks k e
 leap_is e k time tasks some quiet time-is lasts tasks-are =
     let u = under_way e in
-    let b = begun e in
+    let b = with_tick_begun e in
     let at : time ≡ e.time + k = omega (arith, time-is, some) in
     let runs : All (RunsIf b k) b.tasks = λ i x h stand. let r = lasts i x h stand in record { ready = is_Ready (get_or b.tasks i x).condition r.ready; worked = r.worked; lasted = r.lasted } in
     let all = tasks-are ∙ ap (λ n. map (leapt n k u.curr u.cpus u.limit u.tasks) u.tasks) at in

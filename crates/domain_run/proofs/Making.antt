@@ -6,7 +6,7 @@ use Rattle.domain_run.specs.declared.change.Change.TheVariants.{Replenish, Settl
 use Rattle.domain_run.specs.declared.run_queue.RunQueue.{RunQueue}
 use Rattle.domain_run.specs.Parts.{replenish_due, settled, unblocked}
 use Rattle.domain_run.specs.private.RunQueue.{standing_of, IsCounted, MayTurn, HasTurned}
-use Rattle.domain_run.specs.private.Roster.{after_change, served, Fits, IsPart}
+use Rattle.domain_run.specs.private.Roster.{task_after, timers_served, Fits, IsPart}
 use Rattle.domain_run.specs.private.Timers.{due_of}
 use Rattle.domain_run.proofs.Keeping.{same_replenished, same_settled, same_unblocked}
 use Rattle.domain_run.proofs.Counting.{IsFit, same_fit, home_at, ended_same, may_turn, turned}
@@ -15,31 +15,31 @@ use Rattle.domain_run.proofs.Due.{still_at}
 
 -- ---- what a change keeps
 
-made_fit : (cpus time : ℕ) (change : Change) (t : Task) → Fits cpus change → t.params.bw ≤ 2 ^ 26 → t.cpu < cpus → IsFit cpus t (after_change time change t)
+made_fit : (cpus time : ℕ) (change : Change) (t : Task) → Fits cpus change → t.params.bw ≤ 2 ^ 26 → t.cpu < cpus → IsFit cpus t (task_after time change t)
 made_fit cpus time Replenish t fits short home = same_fit cpus t (replenish_due time t) (same_replenished time t) short home
 made_fit cpus time Settle t fits short home = same_fit cpus t (settled time t) (same_settled time t) short home
 made_fit cpus time Unblock t fits short home = same_fit cpus t (unblocked time t) (same_unblocked time t) short home
-made_fit cpus time (Run ticks left) t fits short home = same_fit cpus t (after_change time (Run ticks left) t) (same_ran_until time ticks left t) short home
-made_fit cpus time (RunAside ticks left) t fits short home = let a = same_ran_until time ticks left t in same_fit cpus t (after_change time (RunAside ticks left) t) (record { number = a.number; params = a.params; cpu = a.cpu }) short home
+made_fit cpus time (Run ticks left) t fits short home = same_fit cpus t (task_after time (Run ticks left) t) (same_ran_until time ticks left t) short home
+made_fit cpus time (RunAside ticks left) t fits short home = let a = same_ran_until time ticks left t in same_fit cpus t (task_after time (RunAside ticks left) t) (record { number = a.number; params = a.params; cpu = a.cpu }) short home
 made_fit cpus time PutAside t fits short home = record { number = refl; short = short; home = home; cpu = refl }
 made_fit cpus time (TakeBack lag) t fits short home = record { number = refl; short = short; home = home; cpu = refl }
 made_fit cpus time (Regrade params) t fits short home = record { number = refl; short = fits; home = home; cpu = refl }
 made_fit cpus time Release t fits short home = record { number = refl; short = short; home = home; cpu = refl }
-made_fit cpus time End t fits short home = same_fit cpus t (after_change time End t) (ended_same time t) short home
+made_fit cpus time End t fits short home = same_fit cpus t (task_after time End t) (ended_same time t) short home
 made_fit cpus time Depart t fits short home = record { number = refl; short = short; home = home; cpu = refl }
 
-pub place_fit : (cpus : ℕ) (queue : RunQueue) (tasks : List Task) (p time : ℕ) (change : Change) (d : Task) → p < length tasks → Fits cpus change → IsCounted cpus queue tasks → IsFit cpus (get_or tasks p d) (after_change time change (get_or tasks p d))
+pub place_fit : (cpus : ℕ) (queue : RunQueue) (tasks : List Task) (p time : ℕ) (change : Change) (d : Task) → p < length tasks → Fits cpus change → IsCounted cpus queue tasks → IsFit cpus (get_or tasks p d) (task_after time change (get_or tasks p d))
 place_fit cpus queue tasks p time change d h fits is = made_fit cpus time change (get_or tasks p d) fits (is.roster.short p d h) (home_at cpus queue tasks p d h is)
 
 -- ---- the task at a place
 
-pub place_may : (cpus : ℕ) (queue : RunQueue) (tasks : List Task) (p time : ℕ) (change : Change) (x : Task) → p < length tasks → x ≡ get_or tasks p x → Fits cpus change → IsCounted cpus queue tasks → MayTurn p x.number x.cpu queue (standing_of x) (standing_of (after_change time change x))
+pub place_may : (cpus : ℕ) (queue : RunQueue) (tasks : List Task) (p time : ℕ) (change : Change) (x : Task) → p < length tasks → x ≡ get_or tasks p x → Fits cpus change → IsCounted cpus queue tasks → MayTurn p x.number x.cpu queue (standing_of x) (standing_of (task_after time change x))
 place_may cpus queue tasks p time change x h read fits is =
-    subst (λ u. MayTurn p u.number u.cpu queue (standing_of u) (standing_of (after_change time change u))) (sym read) (may_turn cpus queue tasks p x (after_change time change (get_or tasks p x)) h (place_fit cpus queue tasks p time change x h fits is) is)
+    subst (λ u. MayTurn p u.number u.cpu queue (standing_of u) (standing_of (task_after time change u))) (sym read) (may_turn cpus queue tasks p x (task_after time change (get_or tasks p x)) h (place_fit cpus queue tasks p time change x h fits is) is)
 
-pub place_counted : (cpus : ℕ) (queue new : RunQueue) (tasks : List Task) (p time : ℕ) (change : Change) (x y : Task) → p < length tasks → x ≡ get_or tasks p x → Fits cpus change → y ≡ after_change time change x → HasTurned p x.number x.cpu (standing_of x) (standing_of y) queue new → IsCounted cpus queue tasks → IsCounted cpus new (set tasks p y)
+pub place_counted : (cpus : ℕ) (queue new : RunQueue) (tasks : List Task) (p time : ℕ) (change : Change) (x y : Task) → p < length tasks → x ≡ get_or tasks p x → Fits cpus change → y ≡ task_after time change x → HasTurned p x.number x.cpu (standing_of x) (standing_of y) queue new → IsCounted cpus queue tasks → IsCounted cpus new (set tasks p y)
 place_counted cpus queue new tasks p time change x y h read fits is has counted =
-    let fit : IsFit cpus (get_or tasks p x) y = subst (IsFit cpus (get_or tasks p x)) (sym (is ∙ ap (after_change time change) read)) (place_fit cpus queue tasks p time change x h fits counted) in
+    let fit : IsFit cpus (get_or tasks p x) y = subst (IsFit cpus (get_or tasks p x)) (sym (is ∙ ap (task_after time change) read)) (place_fit cpus queue tasks p time change x h fits counted) in
     turned cpus queue new tasks p x y h fit (subst (λ u. HasTurned p u.number u.cpu (standing_of u) (standing_of y) queue new) read has) counted
 
 -- ---- parts 1 to 3
@@ -50,7 +50,7 @@ replenish_part time early = record { fits = λ cpus. tt; may = λ t. early; pass
 pub settle_part : (time : ℕ) → IsPart time Settle
 settle_part time = record { fits = λ cpus. tt; may = λ t. tt; passes = λ t h. rw (still_at time t h).lag refl }
 
-pub served_passes : (time : ℕ) (t : Task) → time < due_of t → served time t ≡ t
+pub served_passes : (time : ℕ) (t : Task) → time < due_of t → timers_served time t ≡ t
 served_passes time t h = rw (still_at time t h).due (rw (still_at time t h).lag refl)
 
 pub unblock_part : (time : ℕ) → time < 2 ^ 42 → IsPart time Unblock

@@ -3,8 +3,8 @@ use Rattle.std.proofs.Common.{◌≡◌, ℕ, ◌<◌, ◌≤◌, Option, Some, 
 use Rattle.std.proofs.lemmas.Bool.{cases_lt}
 use Rattle.std.proofs.lemmas.List.{length-replicate, get_or-replicate, get_or_past}
 use Rattle.std.proofs.lemmas.List.Elements.{All-nil}
-use Rattle.domain_run.specs.Domain.{opened}
-use Rattle.domain_run.specs.Sound.{IsSteady, IsDomain, IsApart}
+use Rattle.domain_run.specs.Domain.{empty_domain}
+use Rattle.domain_run.specs.Sound.{IsSteady, IsDomain, HasNoTaskTwice}
 
 -- nobody stands anywhere
 nobody_at : (n i : ℕ) → get_or (replicate n (let none : Option ℕ = None in none)) i None ≡ None
@@ -15,10 +15,10 @@ nobody_at n i =
       | inr h ↦ get_or_past (replicate n nothing) i nothing (omega (arith, length-replicate n nothing))
     ]
 
-pub nobody_twice : (n : ℕ) → IsApart (replicate n None)
+pub nobody_twice : (n : ℕ) → HasNoTaskTwice (replicate n None)
 nobody_twice n = record { once = λ i j k a b. let no : None ≡ Some k = sym (nobody_at n i) ∙ a in absurd cc }
 
-opened_steady : (cpus limit : ℕ) → 0 < cpus → cpus ≤ 64 → 10485 ≤ limit → limit ≤ 1048576 → IsSteady (opened cpus limit)
+opened_steady : (cpus limit : ℕ) → 0 < cpus → cpus ≤ 64 → 10485 ≤ limit → limit ≤ 1048576 → IsSteady (empty_domain cpus limit)
 opened_steady cpus limit some few low high = record {
   early = omega arith;
   cpus = (some, few);
@@ -33,7 +33,7 @@ opened_steady cpus limit some few low high = record {
   apart = nobody_twice cpus;
 }
 
-pub opened_is : (cpus limit : ℕ) → 0 < cpus → cpus ≤ 64 → 10485 ≤ limit → limit ≤ 1048576 → IsDomain (opened cpus limit)
+pub opened_is : (cpus limit : ℕ) → 0 < cpus → cpus ≤ 64 → 10485 ≤ limit → limit ≤ 1048576 → IsDomain (empty_domain cpus limit)
 opened_is cpus limit some few low high = record {
   steady = opened_steady cpus limit some few low high;
   traced = record {

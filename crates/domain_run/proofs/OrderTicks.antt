@@ -8,22 +8,23 @@ use Rattle.grub_rules.specs.Sums.{this_bw, running_bw, uinact}
 use Rattle.grub_rules.specs.Rate as reclaiming
 use Rattle.edf_pick.specs.declared.candidate.Candidate.{Candidate}
 use Rattle.edf_pick.specs.Places.{Places, placed, stands}
-use Rattle.edf_pick.specs.Order.{with_candidate, ordered}
+use Rattle.edf_pick.specs.Order.{with_candidate, by_deadline}
 use Rattle.edf_pick.proofs.CallerLemmas.{IsNumbered, numbered_map, ordered_insert, placed_ordered}
 use Rattle.domain_run.specs.declared.task.Task.{Task}
 use Rattle.domain_run.specs.Switch.{Switch}
 use Rattle.domain_run.specs.Conditions.{is_ready}
 use Rattle.domain_run.specs.Parts.{replenish_due, settled, is_listed, unblocked, with_last_cpu, ran}
-use Rattle.domain_run.specs.Switches.{same_occupant, left_by, state_of, switches_from}
+use Rattle.edf_pick.specs.Moves.{same_occupant}
+use Rattle.domain_run.specs.Switches.{left_by, prev_state_of, switches_from}
 use Rattle.domain_run.specs.Domain.{Domain}
-use Rattle.domain_run.specs.Tick.{share_of, shares, sum_of, candidate_of, candidates, prepared, begun, rate_of, ran_if, finished, ticks}
+use Rattle.domain_run.specs.Tick.{share_of, shares, sum_of, candidate_of, candidates, prepared, with_tick_begun, rate_of, ran_if, finished, ticks}
 use Rattle.domain_run.proofs.Keeping.{same_replenished, same_settled, same_unblocked, AllPairs-map}
 use Rattle.domain_run.proofs.KeptKeys.{AreNumbered, ticks_numbered}
 use Rattle.domain_run.proofs.OrderLists.{Reordered, ends, next, swaps, chain, mapped, filtered, same_sum, apart_rest, apart_reordered, same_found}
 
 -- ---- the choice
 
-pub same_ordered : (xs ys : List Candidate) → Reordered xs ys → IsNumbered xs → ordered xs ≡ ordered ys
+pub same_ordered : (xs ys : List Candidate) → Reordered xs ys → IsNumbered xs → by_deadline xs ≡ by_deadline ys
 same_ordered xs ys ends apart = refl
 same_ordered xs ys (next x us vs r) apart = ap (with_candidate x) (same_ordered us vs r (apart_rest (λ (c : Candidate). c.number) x us apart))
 same_ordered xs ys (swaps x y us) apart =
@@ -66,7 +67,7 @@ prepared_apart time tasks apart =
     (AllPairs-filter (λ (a b : Task). a.number ≢ b.number) is_listed done
     (apart_map (settled time) (λ t. (same_settled time t).number) due (apart_map (replenish_due time) (λ t. (same_replenished time t).number) tasks apart)))
 
-same_state : (ts us : List Task) → Reordered ts us → AreNumbered ts → (o : Option ℕ) → state_of ts o ≡ state_of us o
+same_state : (ts us : List Task) → Reordered ts us → AreNumbered ts → (o : Option ℕ) → prev_state_of ts o ≡ prev_state_of us o
 same_state ts us r apart None = refl
 same_state ts us r apart (Some n) = ap left_by (same_found (λ (t : Task). t.number) n ts us r apart)
 
@@ -75,8 +76,8 @@ same_switches time ts us cpu [] after r apart = refl
 same_switches time ts us cpu (p ∷ before) [] r apart = refl
 same_switches time ts us cpu (p ∷ before) (n ∷ after) r apart =
     let rest = same_switches time ts us (cpu + 1) before after r apart in
-    elim (same_occupant p n) as (λ b. cond b (switches_from time ts (cpu + 1) before after) (record { time = time; prev = p; next = n; cpu = cpu; state = state_of ts p } ∷ switches_from time ts (cpu + 1) before after)
-    ≡ cond b (switches_from time us (cpu + 1) before after) (record { time = time; prev = p; next = n; cpu = cpu; state = state_of us p } ∷ switches_from time us (cpu + 1) before after)) [
+    elim (same_occupant p n) as (λ b. cond b (switches_from time ts (cpu + 1) before after) (record { time = time; prev = p; next = n; cpu = cpu; state = prev_state_of ts p } ∷ switches_from time ts (cpu + 1) before after)
+    ≡ cond b (switches_from time us (cpu + 1) before after) (record { time = time; prev = p; next = n; cpu = cpu; state = prev_state_of us p } ∷ switches_from time us (cpu + 1) before after)) [
       | true ↦ rest
       | false ↦ λ i. record { time = time; prev = p; next = n; cpu = cpu; state = same_state ts us r apart p i } ∷ rest i
     ]
@@ -120,7 +121,7 @@ finished_relisted d ts us r s = record {
   used = s;
 }
 
-begun_relisted : (d : Domain) (ts : List Task) (us : List ℕ) → Reordered d.tasks ts → Reordered d.used us → AreNumbered d.tasks → Alike (begun d) (begun (relisted d ts us))
+begun_relisted : (d : Domain) (ts : List Task) (us : List ℕ) → Reordered d.tasks ts → Reordered d.used us → AreNumbered d.tasks → Alike (with_tick_begun d) (with_tick_begun (relisted d ts us))
 begun_relisted d ts us r s apart =
     let p = prepared d.time d.tasks in
     let q = prepared d.time ts in
@@ -141,13 +142,13 @@ begun_relisted d ts us r s apart =
 finished_alike : (d e : Domain) → Alike d e → Alike (finished d) (finished e)
 finished_alike d e alike = subst (λ (x : Domain). Alike (finished d) (finished x)) (sym alike.same) (finished_relisted d e.tasks e.used alike.tasks alike.used)
 
-begun_alike : (d e : Domain) → Alike d e → AreNumbered d.tasks → Alike (begun d) (begun e)
-begun_alike d e alike apart = subst (λ (x : Domain). Alike (begun d) (begun x)) (sym alike.same) (begun_relisted d e.tasks e.used alike.tasks alike.used apart)
+begun_alike : (d e : Domain) → Alike d e → AreNumbered d.tasks → Alike (with_tick_begun d) (with_tick_begun e)
+begun_alike d e alike apart = subst (λ (x : Domain). Alike (with_tick_begun d) (with_tick_begun x)) (sym alike.same) (begun_relisted d e.tasks e.used alike.tasks alike.used apart)
 
 pub ticks_alike : (k : ℕ) (d e : Domain) → Alike d e → AreNumbered d.tasks → Alike (ticks k d) (ticks k e)
 ticks_alike zero d e alike apart = alike
 ticks_alike (suc k) d e alike apart =
-    finished_alike (begun (ticks k d)) (begun (ticks k e)) (begun_alike (ticks k d) (ticks k e) (ticks_alike k d e alike apart) (ticks_numbered k d apart))
+    finished_alike (with_tick_begun (ticks k d)) (with_tick_begun (ticks k e)) (begun_alike (ticks k d) (ticks k e) (ticks_alike k d e alike apart) (ticks_numbered k d apart))
 
 -- what both show
 pub alike_switches : (d e : Domain) → Alike d e → d.switches ≡ e.switches

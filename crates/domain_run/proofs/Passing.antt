@@ -7,11 +7,11 @@ use Rattle.domain_run.specs.Switch.{Switch}
 use Rattle.domain_run.specs.declared.call.Call.{Call}
 use Rattle.domain_run.specs.declared.call.Call.TheVariants.{Admit, Regrade, Wake, Leave, Advance, Limit, Depart, Arrive}
 use Rattle.domain_run.specs.Domain.{Domain}
-use Rattle.domain_run.specs.Passing.{behind, without_switches}
+use Rattle.domain_run.specs.Passing.{with_past, without_switches}
 use Rattle.domain_run.specs.Sound.{IsDomain}
 use Rattle.domain_run.specs.Switches.{switches_from}
-use Rattle.domain_run.specs.Tick.{candidates, prepared, begun, finished, ticked, ticks}
-use Rattle.domain_run.specs.Calls.{reply_to, is_refusal, granted, after_call}
+use Rattle.domain_run.specs.Tick.{candidates, prepared, with_tick_begun, finished, ticked, ticks}
+use Rattle.domain_run.specs.Calls.{reply_to, is_refusal, after_granted, after_call}
 use Rattle.domain_run.specs.Run.{after_calls}
 use Rattle.domain_run.specs.Happened.{told_by_tick, told_by_ticks}
 use Rattle.edf_pick.specs.Places.{placed}
@@ -20,51 +20,51 @@ use Rattle.edf_pick.specs.Places.{placed}
 abbrev of_tick : Domain → List Switch
 of_tick d = switches_from d.time (prepared d.time d.tasks) 0 d.curr (placed d.cpus (candidates (prepared d.time d.tasks)) d.curr)
 
-pub begun_behind : (past : List Switch) (d : Domain) → begun (behind past d) ≡ behind past (begun d)
-begun_behind past d = ap (λ s. record (begun d) { switches = s }) (append_assoc past d.switches (of_tick d))
+pub begun_behind : (past : List Switch) (d : Domain) → with_tick_begun (with_past past d) ≡ with_past past (with_tick_begun d)
+begun_behind past d = ap (λ s. record (with_tick_begun d) { switches = s }) (append_assoc past d.switches (of_tick d))
 
-pub ticked_behind : (past : List Switch) (d : Domain) → ticked (behind past d) ≡ behind past (ticked d)
+pub ticked_behind : (past : List Switch) (d : Domain) → ticked (with_past past d) ≡ with_past past (ticked d)
 ticked_behind past d = ap finished (begun_behind past d)
 
-pub ticks_behind : (n : ℕ) (past : List Switch) (d : Domain) → ticks n (behind past d) ≡ behind past (ticks n d)
+pub ticks_behind : (n : ℕ) (past : List Switch) (d : Domain) → ticks n (with_past past d) ≡ with_past past (ticks n d)
 ticks_behind zero past d = refl
 ticks_behind (suc n) past d = ap ticked (ticks_behind n past d) ∙ ticked_behind past (ticks n d)
 
-chosen : (b : Bool) (past : List Switch) (d e : Domain) → (if b then behind past d else behind past e) ≡ behind past (if b then d else e)
+chosen : (b : Bool) (past : List Switch) (d e : Domain) → (if b then with_past past d else with_past past e) ≡ with_past past (if b then d else e)
 chosen true past d e = refl
 chosen false past d e = refl
 
 -- a call
-pub after_call_behind : (past : List Switch) (d : Domain) (c : Call) → after_call (behind past d) c ≡ behind past (after_call d c)
+pub after_call_behind : (past : List Switch) (d : Domain) (c : Call) → after_call (with_past past d) c ≡ with_past past (after_call d c)
 after_call_behind past d (Admit number name params delay script) =
-    chosen (is_refusal (reply_to d (Admit number name params delay script))) past d (granted d (Admit number name params delay script))
+    chosen (is_refusal (reply_to d (Admit number name params delay script))) past d (after_granted d (Admit number name params delay script))
 after_call_behind past d (Regrade number params word) =
-    chosen (is_refusal (reply_to d (Regrade number params word))) past d (granted d (Regrade number params word))
+    chosen (is_refusal (reply_to d (Regrade number params word))) past d (after_granted d (Regrade number params word))
 after_call_behind past d (Wake number) =
-    chosen (is_refusal (reply_to d (Wake number))) past d (granted d (Wake number))
+    chosen (is_refusal (reply_to d (Wake number))) past d (after_granted d (Wake number))
 after_call_behind past d (Leave number) =
-    chosen (is_refusal (reply_to d (Leave number))) past d (granted d (Leave number))
+    chosen (is_refusal (reply_to d (Leave number))) past d (after_granted d (Leave number))
 after_call_behind past d (Advance n) = ticks_behind n past d
 after_call_behind past d (Limit limit word) =
-    chosen (is_refusal (reply_to d (Limit limit word))) past d (granted d (Limit limit word))
+    chosen (is_refusal (reply_to d (Limit limit word))) past d (after_granted d (Limit limit word))
 after_call_behind past d (Depart number) =
-    chosen (is_refusal (reply_to d (Depart number))) past d (granted d (Depart number))
+    chosen (is_refusal (reply_to d (Depart number))) past d (after_granted d (Depart number))
 after_call_behind past d (Arrive number name params script) =
-    chosen (is_refusal (reply_to d (Arrive number name params script))) past d (granted d (Arrive number name params script))
+    chosen (is_refusal (reply_to d (Arrive number name params script))) past d (after_granted d (Arrive number name params script))
 
 -- a run
-pub after_calls_behind : (past : List Switch) (d : Domain) (cs : List Call) → after_calls (behind past d) cs ≡ behind past (after_calls d cs)
+pub after_calls_behind : (past : List Switch) (d : Domain) (cs : List Call) → after_calls (with_past past d) cs ≡ with_past past (after_calls d cs)
 after_calls_behind past d [] = refl
 after_calls_behind past d (c ∷ cs) = ap (λ (e : Domain). after_calls e cs) (after_call_behind past d c) ∙ after_calls_behind past (after_call d c) cs
 
 -- and what is told
-pub told_by_tick_behind : (past : List Switch) (d : Domain) → told_by_tick (behind past d) ≡ told_by_tick d
+pub told_by_tick_behind : (past : List Switch) (d : Domain) → told_by_tick (with_past past d) ≡ told_by_tick d
 told_by_tick_behind past d = refl
 
-pub told_by_ticks_behind : (n : ℕ) (past : List Switch) (d : Domain) → told_by_ticks n (behind past d) ≡ told_by_ticks n d
+pub told_by_ticks_behind : (n : ℕ) (past : List Switch) (d : Domain) → told_by_ticks n (with_past past d) ≡ told_by_ticks n d
 told_by_ticks_behind zero past d = refl
 told_by_ticks_behind (suc n) past d =
-    ap (λ e. told_by_ticks n (behind past d) ++ told_by_tick e) (ticks_behind n past d)
+    ap (λ e. told_by_ticks n (with_past past d) ++ told_by_tick e) (ticks_behind n past d)
     ∙ ap (λ told. told ++ told_by_tick (ticks n d)) (told_by_ticks_behind n past d)
 
 -- what every domain keeps, it keeps without its switches
@@ -91,5 +91,5 @@ forgets_keeps d is = record {
 }
 
 -- behind what was passed on, a domain without its switches is as it was
-pub passed_behind : (past : List Switch) (d : Domain) → behind (past ++ d.switches) (without_switches d) ≡ behind past d
+pub passed_behind : (past : List Switch) (d : Domain) → with_past (past ++ d.switches) (without_switches d) ≡ with_past past d
 passed_behind past d = ap (λ s. record d { switches = s }) (append-nil (past ++ d.switches))

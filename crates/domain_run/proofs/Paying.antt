@@ -23,7 +23,7 @@ use Rattle.task_script.specs.declared.script.Segment.{Segment}
 use Rattle.task_script.specs.declared.script.Segment.TheVariants.{Run as RunFor, Until, Wait as WaitFor, End}
 use Rattle.domain_run.specs.Bounds.{IsNear}
 use Rattle.domain_run.specs.Parts.{went_on}
-use Rattle.domain_run.specs.Tick.{sum_of, rate_of, prepared, begun, ticks}
+use Rattle.domain_run.specs.Tick.{sum_of, rate_of, prepared, with_tick_begun, ticks}
 use Rattle.domain_run.specs.Sound.{IsTimed, IsSound, IsSteady, IsPlacement, IsDomain, IsSwitch, IsAdmitted}
 use Rattle.domain_run.specs.Jump.{under_way, running_numbers, running_of, running_if, running, ticks_to_event, IsCharged, AreCharged}
 use Rattle.domain_run.specs.private.Paying.{ran_until, index_of, paid_at, paid, MayPay, MayPayIf}
@@ -164,7 +164,7 @@ pub paid_is : (d : Domain) (k : ℕ) (budgets : List ℤ) (time : ℕ) (tasks : 
     → record (under_way d) { time = time; tasks = tasks } ≡ ticks k d
 paid_is d k budgets time tasks steady placed some quiet-is are time-is tasks-are =
     let e = under_way d in
-    let b = begun d in
+    let b = with_tick_begun d in
     let at : time ≡ d.time + k = omega (arith, time-is, some) in
     let runs : All (RunsIf b k) b.tasks = λ i x h stand. let r = runs_each e k budgets steady.numbered placed are i x h stand in record { ready = r.ready; worked = r.worked; lasted = r.lasted } in
     let alike : map (paid time (running_numbers e.curr) k budgets) e.tasks ≡ map (jumped b k) b.tasks =
@@ -260,14 +260,14 @@ under_way_is d is early sound =
           limit = s.limit;
           within = s.within;
           listed = s.listed;
-          sound = sound_later d.time (d.time + 1) (begun d).tasks (omega arith) s.sound;
+          sound = sound_later d.time (d.time + 1) (with_tick_begun d).tasks (omega arith) s.sound;
           homes = s.homes;
           numbered = s.numbered;
           known = s.known;
           wide = s.wide;
           apart = s.apart;
         };
-        traced = tick_traced d (prepared d.time d.tasks) (begun d).tasks (begun d).curr is.steady.wide is.traced (standing_from (begun d) s keeps.1);
+        traced = tick_traced d (prepared d.time d.tasks) (with_tick_begun d).tasks (with_tick_begun d).curr is.steady.wide is.traced (standing_from (with_tick_begun d) s keeps.1);
       },
       record { running = keeps.1.running; apart = keeps.1.apart },
     )

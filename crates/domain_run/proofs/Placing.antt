@@ -12,7 +12,7 @@ use Rattle.domain_run.specs.Conditions.{is_ready}
 use Rattle.domain_run.specs.Parts.{with_last_cpu, with_cpu}
 use Rattle.domain_run.specs.Domain.{Domain}
 use Rattle.domain_run.specs.Tick.{candidate_of, candidates, with_places}
-use Rattle.domain_run.specs.Sound.{occupant, IsApart, IsSound, IsPlacement}
+use Rattle.domain_run.specs.Sound.{occupant, HasNoTaskTwice, IsSound, IsPlacement}
 use Rattle.domain_run.proofs.Seating.{is_candidate, IsSeating}
 
 -- a listed task that is ready, of this number
@@ -49,7 +49,7 @@ there places cpu n e =
 task_is : (n : ℕ) (o : Option ℕ) → o ≡ Some n → is_task n o ≡ true
 task_is n o e = ap (is_task n) e ∙ eq-eqb n n refl
 
-pub position_at : (places : Places) (cpu n : ℕ) → IsApart places → occupant places cpu ≡ Some n → position (is_task n) places ≡ Some cpu
+pub position_at : (places : Places) (cpu n : ℕ) → HasNoTaskTwice places → occupant places cpu ≡ Some n → position (is_task n) places ≡ Some cpu
 position_at places cpu n apart e =
     let within = there places cpu n e in
     let before : (k : ℕ) → k < cpu → is_task n (get_or places k None) ≡ false = λ k less.

@@ -6,9 +6,9 @@ use Rattle.std.proofs.lemmas.Bool.{cases_lt}
 use Rattle.std.proofs.lemmas.List.{get_or-map, length-map, get_or_past, length-set, get_or-set_other, get_or-set_same}
 use Rattle.std.proofs.lemmas.Option.{same_Some}
 use Rattle.edf_pick.specs.declared.candidate.Candidate.{Candidate}
-use Rattle.edf_pick.specs.Choice.{rank, is_chosen, ranked}
-use Rattle.edf_pick.specs.Places.{Places, is_task, stands, is_chosen_number, kept, seat_of, put, seated, seated_if, seated_upto, placed}
-use Rattle.domain_run.specs.Sound.{occupant, IsApart}
+use Rattle.edf_pick.specs.Choice.{rank, is_chosen, candidate_at_rank}
+use Rattle.edf_pick.specs.Places.{Places, is_task, stands, is_chosen_number, kept_if_chosen, seat_of, put, seated, seated_if, seated_upto, placed}
+use Rattle.domain_run.specs.Sound.{occupant, HasNoTaskTwice}
 
 -- a number among the candidates
 abbrev pub is_candidate : List Candidate → ℕ → Bool
@@ -39,27 +39,27 @@ kept_some : (b : Bool) (m n : ℕ) → cond b (Some m) None ≡ Some n → (b �
 kept_some true m n e = (refl, same_Some m n e)
 kept_some false m n e = absurd cc
 
-kept_number : (cpus : ℕ) (ready : List Candidate) (o : Option ℕ) (n : ℕ) → kept cpus ready o ≡ Some n → (o ≡ Some n) × (is_chosen_number cpus ready n ≡ true)
+kept_number : (cpus : ℕ) (ready : List Candidate) (o : Option ℕ) (n : ℕ) → kept_if_chosen cpus ready o ≡ Some n → (o ≡ Some n) × (is_chosen_number cpus ready n ≡ true)
 kept_number cpus ready None n e = absurd cc
 kept_number cpus ready (Some m) n e =
     let k = kept_some (is_chosen_number cpus ready m) m n e in
     (ap (λ x. Some x) k.1, ap (is_chosen_number cpus ready) (sym k.1) ∙ k.0)
 
-kept_at : (cpus : ℕ) (ready : List Candidate) (places : Places) (cpu : ℕ) → occupant (map (kept cpus ready) places) cpu ≡ kept cpus ready (occupant places cpu)
+kept_at : (cpus : ℕ) (ready : List Candidate) (places : Places) (cpu : ℕ) → occupant (map (kept_if_chosen cpus ready) places) cpu ≡ kept_if_chosen cpus ready (occupant places cpu)
 kept_at cpus ready places cpu =
     elim (cases_lt cpu (length places)) [
-      | inl h ↦ get_or-map (kept cpus ready) places cpu None None h
-      | inr h ↦ rw (get_or_past (map (kept cpus ready) places) cpu None (let e : length (map (kept cpus ready) places) ≡ length places = simp length-map in omega arith), get_or_past places cpu None h) refl
+      | inl h ↦ get_or-map (kept_if_chosen cpus ready) places cpu None None h
+      | inr h ↦ rw (get_or_past (map (kept_if_chosen cpus ready) places) cpu None (let e : length (map (kept_if_chosen cpus ready) places) ≡ length places = simp length-map in omega arith), get_or_past places cpu None h) refl
     ]
 
-pub kept_candidates : (cpus : ℕ) (ready : List Candidate) (places : Places) → AreCandidates ready (map (kept cpus ready) places)
+pub kept_candidates : (cpus : ℕ) (ready : List Candidate) (places : Places) → AreCandidates ready (map (kept_if_chosen cpus ready) places)
 kept_candidates cpus ready places = record {
   each = λ cpu n e.
       let k = kept_number cpus ready (occupant places cpu) n (sym (kept_at cpus ready places cpu) ∙ e) in
       list_any_weaker (λ c. eqb c.number n && is_chosen cpus ready c) (λ c. eqb c.number n) (λ c h. and_left _ _ h) ready k.1;
 }
 
-pub kept_apart : (cpus : ℕ) (ready : List Candidate) (places : Places) → IsApart places → IsApart (map (kept cpus ready) places)
+pub kept_apart : (cpus : ℕ) (ready : List Candidate) (places : Places) → HasNoTaskTwice places → HasNoTaskTwice (map (kept_if_chosen cpus ready) places)
 kept_apart cpus ready places apart = record {
   once = λ i j n a b.
       apart.once i j n (kept_number cpus ready (occupant places i) n (sym (kept_at cpus ready places i) ∙ a)).0 (kept_number cpus ready (occupant places j) n (sym (kept_at cpus ready places j) ∙ b)).0;
@@ -96,7 +96,7 @@ set_other places cpu i n number h =
     ]
 
 -- a task that stands nowhere may be put anywhere
-put_apart : (places : Places) (number : ℕ) (cpu : Option ℕ) → stands number places ≡ false → IsApart places → IsApart (put places number cpu)
+put_apart : (places : Places) (number : ℕ) (cpu : Option ℕ) → stands number places ≡ false → HasNoTaskTwice places → HasNoTaskTwice (put places number cpu)
 put_apart places number None free apart = apart
 put_apart places number (Some cpu) free apart = record {
   once = λ i j n a b.
@@ -125,7 +125,7 @@ put_wide places number (Some cpu) = length-set places cpu (Some number)
 -- what the placement keeps
 pub record IsSeating (ready : List Candidate) (cpus : ℕ) (places : Places) : Type 0 where
   pub wide : length places ≡ cpus
-  pub apart : IsApart places
+  pub apart : HasNoTaskTwice places
   pub candidates : AreCandidates ready places
 
 seated_keeps : (ready : List Candidate) (cpus : ℕ) (places : Places) (c : Candidate) → is_candidate ready c.number ≡ true → IsSeating ready cpus places → IsSeating ready cpus (seated places c)
@@ -147,9 +147,9 @@ found_passes p q (y ∷ xs) x e h =
       | false ↦ λ a. rw (found_passes p q xs x a h) (or_true (q y))
     ] e
 
-seated_if_keeps : (ready : List Candidate) (cpus : ℕ) (places : Places) (r : ℕ) → IsSeating ready cpus places → IsSeating ready cpus (seated_if places (ranked ready r))
+seated_if_keeps : (ready : List Candidate) (cpus : ℕ) (places : Places) (r : ℕ) → IsSeating ready cpus places → IsSeating ready cpus (seated_if places (candidate_at_rank ready r))
 seated_if_keeps ready cpus places r is =
-    elim (ranked ready r) as (λ o. ranked ready r ≡ o → IsSeating ready cpus (seated_if places o)) [
+    elim (candidate_at_rank ready r) as (λ o. candidate_at_rank ready r ≡ o → IsSeating ready cpus (seated_if places o)) [
       | None ↦ λ e. is
       | Some c ↦ λ e. seated_keeps ready cpus places c (found_passes (λ c. eqb (rank ready c) r) (λ x. eqb x.number c.number) ready c e (eq-eqb c.number c.number refl)) is
     ] refl
@@ -158,7 +158,7 @@ seated_upto_keeps : (ready : List Candidate) (cpus : ℕ) (places : Places) (r :
 seated_upto_keeps ready cpus places zero is = is
 seated_upto_keeps ready cpus places (suc r) is = seated_if_keeps ready cpus (seated_upto ready places r) r (seated_upto_keeps ready cpus places r is)
 
-pub placed_is : (cpus : ℕ) (ready : List Candidate) (before : Places) → length before ≡ cpus → IsApart before → IsSeating ready cpus (placed cpus ready before)
+pub placed_is : (cpus : ℕ) (ready : List Candidate) (before : Places) → length before ≡ cpus → HasNoTaskTwice before → IsSeating ready cpus (placed cpus ready before)
 placed_is cpus ready before wide apart =
-    let e : length (map (kept cpus ready) before) ≡ length before = simp length-map in
-    seated_upto_keeps ready cpus (map (kept cpus ready) before) cpus (record { wide = e ∙ wide; apart = kept_apart cpus ready before apart; candidates = kept_candidates cpus ready before })
+    let e : length (map (kept_if_chosen cpus ready) before) ≡ length before = simp length-map in
+    seated_upto_keeps ready cpus (map (kept_if_chosen cpus ready) before) cpus (record { wide = e ∙ wide; apart = kept_apart cpus ready before apart; candidates = kept_candidates cpus ready before })

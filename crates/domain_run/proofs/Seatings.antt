@@ -9,14 +9,14 @@ use Rattle.domain_run.specs.declared.task.Task.{Task}
 use Rattle.grub_rules.specs.Rate as reclaiming
 use Rattle.due_times.specs.declared.seats.Seat.{Seat}
 use Rattle.due_times.specs.declared.seats.Basis.{Basis}
-use Rattle.due_times.specs.Seats.{SeatsView, seat_by, left}
-use Rattle.domain_run.specs.private.Waiting.{seat_of, slid_for, owed_by, owed, owed_all, Waits, WaitsIf, AllWait, MaySit, IsAtRate, IsRight, charged_on, rate_by, IsRatedBy}
+use Rattle.due_times.specs.Seats.{SeatsView, seat_by}
+use Rattle.domain_run.specs.private.Waiting.{seat_of_task, slid_for, owed_by, owed, owed_all, Waits, WaitsIf, AllWait, MaySit, IsAtRate, IsRight, charged_on, rate_by, IsRatedBy}
 use Rattle.domain_run.specs.declared.run_queue.RunQueue.{RunQueue}
 use Rattle.domain_run.specs.private.RunQueue.{IsCounted}
 use Rattle.due_times.specs.declared.doubts.Doubts.{Doubts}
 use Rattle.domain_run.specs.private.Doubts.{AreSettled}
 use Rattle.domain_run.specs.private.Roster.{RosterView, IsKept}
-use Rattle.domain_run.specs.private.Index.{IsAt, IsAbsent}
+use Rattle.domain_run.specs.private.Index.{IsListedAt, IsUnlisted}
 use Rattle.domain_run.proofs.Jumping.{map_alike}
 use Rattle.domain_run.proofs.Placing.{one_index}
 use Rattle.domain_run.proofs.Waiting.{sits, other_seat, alike_owed, owed_set, read_owed}
@@ -29,14 +29,14 @@ none_at seats cpu = elim (cases_lt cpu (length seats)) [
   | inr h ↦ get_or_past (set seats cpu None) cpu None (omega (arith, h, length-set seats cpu None))
 ]
 
-pub nobody_here : (seats : List (Option Seat)) (cpu : ℕ) (t : Task) → t.cpu ≡ cpu → seat_of (set seats cpu None) t ≡ None
+pub nobody_here : (seats : List (Option Seat)) (cpu : ℕ) (t : Task) → t.cpu ≡ cpu → seat_of_task (set seats cpu None) t ≡ None
 nobody_here seats cpu t e = ap (λ c. seat_by t.number (get_or (set seats cpu None) c None)) e ∙ ap (seat_by t.number) (none_at seats cpu)
 
-pub same_elsewhere : (seats : List (Option Seat)) (cpu : ℕ) (o : Option Seat) (t : Task) → t.cpu ≢ cpu → seat_of (set seats cpu o) t ≡ seat_of seats t
+pub same_elsewhere : (seats : List (Option Seat)) (cpu : ℕ) (o : Option Seat) (t : Task) → t.cpu ≢ cpu → seat_of_task (set seats cpu o) t ≡ seat_of_task seats t
 same_elsewhere seats cpu o t apart = ap (seat_by t.number) (get_or-set_other seats cpu t.cpu o None apart)
 
 -- for a task of another number it was as if nobody sat there
-pub same_stranger : (seats : List (Option Seat)) (cpu : ℕ) (s : Seat) (t : Task) → get_or seats cpu None ≡ Some s → t.number ≢ s.number → seat_of (set seats cpu None) t ≡ seat_of seats t
+pub same_stranger : (seats : List (Option Seat)) (cpu : ℕ) (s : Seat) (t : Task) → get_or seats cpu None ≡ Some s → t.number ≢ s.number → seat_of_task (set seats cpu None) t ≡ seat_of_task seats t
 same_stranger seats cpu s t there other = elim (cases_eq t.cpu cpu) [
   | inl e ↦
       nobody_here seats cpu t e
@@ -44,13 +44,13 @@ same_stranger seats cpu s t there other = elim (cases_eq t.cpu cpu) [
   | inr apart ↦ same_elsewhere seats cpu None t apart
 ]
 
-pub same_seats : (upto : ℕ) (seats new : List (Option Seat)) (tasks : List Task) → ((k : ℕ) (d : Task) → k < length tasks → seat_of new (get_or tasks k d) ≡ seat_of seats (get_or tasks k d)) → map (owed upto new) tasks ≡ map (owed upto seats) tasks
+pub same_seats : (upto : ℕ) (seats new : List (Option Seat)) (tasks : List Task) → ((k : ℕ) (d : Task) → k < length tasks → seat_of_task new (get_or tasks k d) ≡ seat_of_task seats (get_or tasks k d)) → map (owed upto new) tasks ≡ map (owed upto seats) tasks
 same_seats upto seats new tasks same = map_alike (owed upto new) (owed upto seats) tasks (λ k d h. ap (λ o. owed_by upto o (get_or tasks k d)) (same k d h))
 
-pub same_waits : (seats new : List (Option Seat)) (t : Task) → seat_of new t ≡ seat_of seats t → WaitsIf seats t → WaitsIf new t
+pub same_waits : (seats new : List (Option Seat)) (t : Task) → seat_of_task new t ≡ seat_of_task seats t → WaitsIf seats t → WaitsIf new t
 same_waits seats new t same = subst (λ o. IfSome o (λ s. Waits s t)) (sym same)
 
-pub none_waits : (seats : List (Option Seat)) (t : Task) → seat_of seats t ≡ None → WaitsIf seats t
+pub none_waits : (seats : List (Option Seat)) (t : Task) → seat_of_task seats t ≡ None → WaitsIf seats t
 none_waits seats t none = subst (λ o. IfSome o (λ s. Waits s t)) (sym none) tt
 
 cpu_by : (upto : ℕ) (o : Option Seat) (t : Task) → (owed_by upto o t).cpu ≡ t.cpu
@@ -59,18 +59,18 @@ cpu_by upto (Some s) t = refl
 
 module _ (upto cpu : ℕ) (seats : List (Option Seat)) (tasks : List Task) (s : Seat) (there : get_or seats cpu None ≡ Some s) where
   -- the task that sits is not listed
-  pub lost_view : IsAbsent tasks s.number → map (owed upto (set seats cpu None)) tasks ≡ map (owed upto seats) tasks
+  pub lost_view : IsUnlisted tasks s.number → map (owed upto (set seats cpu None)) tasks ≡ map (owed upto seats) tasks
   lost_view absent = same_seats upto seats (set seats cpu None) tasks (λ k d h. same_stranger seats cpu s (get_or tasks k d) there (absent k d h))
 
-  pub lost_waits : IsAbsent tasks s.number → AllWait seats tasks → AllWait (set seats cpu None) tasks
+  pub lost_waits : IsUnlisted tasks s.number → AllWait seats tasks → AllWait (set seats cpu None) tasks
   lost_waits absent waits k d h = same_waits seats (set seats cpu None) (get_or tasks k d) (same_stranger seats cpu s (get_or tasks k d) there (absent k d h)) (waits k d h)
 
   module _ (p : ℕ) (x : Task) (inside : p < length tasks) (read : x ≡ get_or tasks p x) (number : x.number ≡ s.number) (numbered : AllPairs (λ a b. a.number ≢ b.number) tasks) where
-    others : (k : ℕ) (d : Task) → k < length tasks → k ≢ p → seat_of (set seats cpu None) (get_or tasks k d) ≡ seat_of seats (get_or tasks k d)
+    others : (k : ℕ) (d : Task) → k < length tasks → k ≢ p → seat_of_task (set seats cpu None) (get_or tasks k d) ≡ seat_of_task seats (get_or tasks k d)
     others k d h apart = same_stranger seats cpu s (get_or tasks k d) there (λ e. apart (one_index tasks k p d d numbered h inside (e ∙ sym number ∙ ap (λ (t : Task). t.number) (read ∙ get_or_default tasks p x d inside))))
 
     -- where it belongs to the CPU
-    pub its_seat : x.cpu ≡ cpu → seat_of seats x ≡ Some s
+    pub its_seat : x.cpu ≡ cpu → seat_of_task seats x ≡ Some s
     its_seat e = ap (λ c. seat_by x.number (get_or seats c None)) e ∙ ap (seat_by x.number) there ∙ ap (λ b. cond b (Some s) None) (eq-eqb s.number x.number (sym number))
 
     charged_here : x.cpu ≡ cpu → charged_on cpu upto s x ≡ owed upto seats x
@@ -79,8 +79,8 @@ module _ (upto cpu : ℕ) (seats : List (Option Seat)) (tasks : List Task) (s : 
     charged_there : x.cpu ≢ cpu → charged_on cpu upto s x ≡ x
     charged_there apart = ap (λ b. cond b (owed_by upto (Some s) x) x) (ne_eqb x.cpu cpu apart)
 
-    gone_here : x.cpu ≡ cpu → seat_of (set seats cpu None) (charged_on cpu upto s x) ≡ None
-    gone_here e = ap (seat_of (set seats cpu None)) (charged_here e) ∙ nobody_here seats cpu (owed upto seats x) (cpu_by upto (seat_of seats x) x ∙ e)
+    gone_here : x.cpu ≡ cpu → seat_of_task (set seats cpu None) (charged_on cpu upto s x) ≡ None
+    gone_here e = ap (seat_of_task (set seats cpu None)) (charged_here e) ∙ nobody_here seats cpu (owed upto seats x) (cpu_by upto (seat_of_task seats x) x ∙ e)
 
     pub charge_waits : AllWait seats tasks → x.cpu ≡ cpu → Waits s x
     charge_waits waits e = subst (λ o. IfSome o (λ r. Waits r x)) (its_seat e) (subst (WaitsIf seats) (sym read) (waits p x inside))
@@ -97,7 +97,7 @@ module _ (upto cpu : ℕ) (seats : List (Option Seat)) (tasks : List Task) (s : 
           ∙ same_seats upto seats (set seats cpu None) tasks (λ k d h. elim (cases_eq k p) [
             | inl e ↦
                 let is : x ≡ get_or tasks k d = read ∙ get_or_default tasks p x d inside ∙ ap (λ i. get_or tasks i d) (sym e) in
-                subst (λ (t : Task). seat_of (set seats cpu None) t ≡ seat_of seats t) is (same_elsewhere seats cpu None x apart)
+                subst (λ (t : Task). seat_of_task (set seats cpu None) t ≡ seat_of_task seats t) is (same_elsewhere seats cpu None x apart)
             | inr ne ↦ others k d h ne
           ])
     ]
@@ -133,10 +133,10 @@ owes_none upto number s t e = elim (eqb s.number number) as (λ b. owed_by upto 
 ]
 
 module _ (upto cpu : ℕ) (seats : List (Option Seat)) (s : Seat) (free : get_or seats cpu None ≡ None) (inside : cpu < length seats) (since : s.since ≡ upto) where
-  taken_here : (t : Task) → t.cpu ≡ cpu → seat_of (set seats cpu (Some s)) t ≡ seat_by t.number (Some s)
+  taken_here : (t : Task) → t.cpu ≡ cpu → seat_of_task (set seats cpu (Some s)) t ≡ seat_by t.number (Some s)
   taken_here t e = ap (λ c. seat_by t.number (get_or (set seats cpu (Some s)) c None)) e ∙ ap (seat_by t.number) (get_or-set_same seats cpu (Some s) None inside)
 
-  free_here : (t : Task) → t.cpu ≡ cpu → seat_of seats t ≡ None
+  free_here : (t : Task) → t.cpu ≡ cpu → seat_of_task seats t ≡ None
   free_here t e = ap (λ c. seat_by t.number (get_or seats c None)) e ∙ ap (seat_by t.number) free
 
   taken_owes : (t : Task) → owed upto (set seats cpu (Some s)) t ≡ owed upto seats t
@@ -184,7 +184,7 @@ rated_on None rate t b same rated = rated b
 rated_on (Some k) rate t b same rated = rated ∙ ap (λ (x : Basis). rate_by x t) same
 
 -- who sits on a basis that is still right, is right
-pub basis_right : (upto cpu n : ℕ) (seats : List (Option Seat)) (items : List Task) (s : Seat) (b : Basis) → seat_by n (get_or seats cpu None) ≡ Some s → IfSome s.basis (λ k. k ≡ b) → AllWait seats items → All (λ t. t.cpu ≡ cpu → IsRight (Some n) t.number (rate_by b t) (seat_of seats t)) (map (owed upto seats) items)
+pub basis_right : (upto cpu n : ℕ) (seats : List (Option Seat)) (items : List Task) (s : Seat) (b : Basis) → seat_by n (get_or seats cpu None) ≡ Some s → IfSome s.basis (λ k. k ≡ b) → AllWait seats items → All (λ t. t.cpu ≡ cpu → IsRight (Some n) t.number (rate_by b t) (seat_of_task seats t)) (map (owed upto seats) items)
 basis_right upto cpu n seats items s b sat same waits k d h e =
     let f = owed upto seats in
     let many : length (map f items) ≡ length items = simp length-map in
@@ -193,15 +193,15 @@ basis_right upto cpu n seats items s b sat same waits k d h e =
     let t = get_or (map f items) k d in
     let read : t ≡ f x = get_or-map f items k d d inside in
     let a = alike_owed upto seats x in
-    let here : seat_of seats t ≡ seat_by t.number (get_or seats cpu None) = ap (λ c. seat_by t.number (get_or seats c None)) e in
+    let here : seat_of_task seats t ≡ seat_by t.number (get_or seats cpu None) = ap (λ c. seat_by t.number (get_or seats c None)) e in
     let at = sits n (get_or seats cpu None) s sat in
     let cpu_is : x.cpu ≡ cpu = sym a.cpu ∙ ap (λ (u : Task). u.cpu) (sym read) ∙ e in
     let number_is : x.number ≡ t.number = sym a.number ∙ ap (λ (u : Task). u.number) (sym read) in
     let params : x.params ≡ t.params = sym a.params ∙ ap (λ (u : Task). u.params) (sym read) in (
       λ q.
-          let its : seat_of seats x ≡ Some s = (λ i. seat_by ((number_is ∙ sym q) i) (get_or seats (cpu_is i) None)) ∙ sat in
+          let its : seat_of_task seats x ≡ Some s = (λ i. seat_by ((number_is ∙ sym q) i) (get_or seats (cpu_is i) None)) ∙ sat in
           let w : Waits s x = subst (λ o. IfSome o (λ r. Waits r x)) its (waits k d inside) in
-          at_rate (rate_by b t) (seat_of seats t) s (here ∙ ap (λ m. seat_by m (get_or seats cpu None)) (sym q) ∙ sat)
+          at_rate (rate_by b t) (seat_of_task seats t) s (here ∙ ap (λ m. seat_by m (get_or seats cpu None)) (sym q) ∙ sat)
           (rated_on s.basis s.rate x b same w.rated ∙ (λ i. reclaiming.rate (params i) b.uinact b.sum b.cpus b.limit)),
       λ q. here ∙ ap (seat_by t.number) at.at ∙ other_seat t.number s (λ z. q (sym at.its ∙ z)),
     )
@@ -232,9 +232,9 @@ kept_again queue s v items after d e is same waits long settled = record {
 }
 
 -- the task of a number is at one place
-pub only_at : (tasks : List Task) (number p k : ℕ) (d : Task) → AllPairs (λ a b. a.number ≢ b.number) tasks → IsAt tasks number p → k < length tasks → (get_or tasks k d).number ≡ number → k ≡ p
+pub only_at : (tasks : List Task) (number p k : ℕ) (d : Task) → AllPairs (λ a b. a.number ≢ b.number) tasks → IsListedAt tasks number p → k < length tasks → (get_or tasks k d).number ≡ number → k ≡ p
 only_at tasks number p k d numbered at h e = one_index tasks k p d d numbered h at.within (e ∙ sym (at.is d))
 
-module _ (upto : ℕ) (seats : List (Option Seat)) (tasks : List Task) (number p : ℕ) (x : Task) (read : x ≡ get_or tasks p x) (at : IsAt (map (owed upto seats) tasks) number p) where
+module _ (upto : ℕ) (seats : List (Option Seat)) (tasks : List Task) (number p : ℕ) (x : Task) (read : x ≡ get_or tasks p x) (at : IsListedAt (map (owed upto seats) tasks) number p) where
   pub inside_at : p < length tasks
   inside_at = let many : length (map (owed upto seats) tasks) ≡ length tasks = simp length-map in let h = at.within in omega (arith, h, many)

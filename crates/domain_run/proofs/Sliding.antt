@@ -7,7 +7,7 @@ use Rattle.domain_run.specs.declared.task.Task.{Task}
 use Rattle.domain_run.specs.declared.task.Condition.TheVariants.{Ready, Throttled}
 use Rattle.domain_run.specs.Conditions.{is_ready, is_throttled}
 use Rattle.domain_run.specs.Parts.{running_on, goes_on}
-use Rattle.task_script.specs.script.Segments.{asked}
+use Rattle.task_script.specs.script.Segments.{next_segment}
 use Rattle.domain_run.specs.Sound.{IsSound}
 use Rattle.domain_run.specs.private.Paying.{ran_until}
 use Rattle.domain_run.proofs.Paying.{is_Ready}
@@ -19,7 +19,7 @@ pub slides : (time ticks : ℕ) (left : ℤ) (t : Task) → IsTrue (is_ready t.c
 slides time ticks left t ready worked lasted =
     let u : Task = record t { server = record t.server { left = left }; work = t.work - ticks } in
     let more : eqb (t.work - ticks) 0 ≡ false = ne_eqb (t.work - ticks) 0 (λ e. absurd (omega (arith, e, worked))) in
-    sym (ap (λ s. cond s (goes_on time u (asked t.cursor time)) (running_on u)) more
+    sym (ap (λ s. cond s (goes_on time u (next_segment t.cursor time)) (running_on u)) more
     ∙ ap (λ s. record u { condition = cond s Throttled Ready }) (above left lasted)
     ∙ ap (λ k. record u { condition = k }) (sym (is_Ready t.condition ready)))
 

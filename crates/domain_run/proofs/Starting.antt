@@ -16,9 +16,9 @@ use Rattle.domain_run.specs.declared.task.Condition.{Condition}
 use Rattle.domain_run.specs.declared.task.Condition.TheVariants.{Ready, Throttled, Blocked, Waiting, Leaving}
 use Rattle.domain_run.specs.declared.switch.PrevState.TheVariants.{Running}
 use Rattle.domain_run.specs.Switch.{IsLeftIn}
-use Rattle.domain_run.specs.Switches.{left_in, left_by, state_of}
+use Rattle.domain_run.specs.Switches.{left_in, left_by, prev_state_of}
 use Rattle.domain_run.specs.Tick.{candidates, sum_of}
-use Rattle.domain_run.specs.private.Choosing.{IsHome, homed_by}
+use Rattle.domain_run.specs.private.Choosing.{IsHome, task_homed_by}
 use Rattle.domain_run.specs.private.Roster.{homed_here}
 use Rattle.domain_run.specs.private.Waiting.{owed, MaySit, MaySitIfReady, MaySitOf}
 use Rattle.domain_run.proofs.Keeping.{sum-map}
@@ -42,16 +42,16 @@ here_condition : (o : Option ℕ) (cpu : ℕ) (t : Task) → (homed_here o cpu t
 here_condition None cpu t = refl
 here_condition (Some n) cpu t = elim (eqb t.number n) as (λ b. (cond b (with_cpu (Some cpu) t) t).condition ≡ t.condition) [ true ↦ refl | false ↦ refl ]
 
-moved_number : (places : Places) (moves : List Moved) (t : Task) → (homed_by places moves t).number ≡ t.number
+moved_number : (places : Places) (moves : List Moved) (t : Task) → (task_homed_by places moves t).number ≡ t.number
 moved_number places [] t = refl
 moved_number places (m ∷ moves) t = moved_number places moves (homed_here (occupant places m.cpu) m.cpu t) ∙ here_number (occupant places m.cpu) m.cpu t
 
-moved_condition : (places : Places) (moves : List Moved) (t : Task) → (homed_by places moves t).condition ≡ t.condition
+moved_condition : (places : Places) (moves : List Moved) (t : Task) → (task_homed_by places moves t).condition ≡ t.condition
 moved_condition places [] t = refl
 moved_condition places (m ∷ moves) t = moved_condition places moves (homed_here (occupant places m.cpu) m.cpu t) ∙ here_condition (occupant places m.cpu) m.cpu t
 
 -- the state in which an occupant leaves, told by the tasks as they are stored
-pub state_stored : (upto : ℕ) (seats : List (Option Seat)) (items : List Task) (o : Option ℕ) → state_of items o ≡ state_of (map (owed upto seats) items) o
+pub state_stored : (upto : ℕ) (seats : List (Option Seat)) (items : List Task) (o : Option ℕ) → prev_state_of items o ≡ prev_state_of (map (owed upto seats) items) o
 state_stored upto seats items o = sym (state_alike (owed upto seats) (λ t. (alike_owed upto seats t).number) (λ t. (alike_owed upto seats t).condition) items o)
 
 -- a task leaves in another state than idle
@@ -66,16 +66,16 @@ left_as_found : (found : Option Task) → left_by found ≢ Running
 left_as_found None = λ e. cc
 left_as_found (Some t) = left_as t.condition
 
-pub left_in_state : (tasks : List Task) (o : Option ℕ) → IsLeftIn (state_of tasks o) o
+pub left_in_state : (tasks : List Task) (o : Option ℕ) → IsLeftIn (prev_state_of tasks o) o
 left_in_state tasks None = refl
 left_in_state tasks (Some n) = left_as_found (find (λ t. eqb t.number n) tasks)
 
 -- where some have started, it is as before
-pub state_started : (upto : ℕ) (seats : List (Option Seat)) (items first : List Task) (places : Places) (moves : List Moved) (o : Option ℕ) → map (owed upto seats) items ≡ map (homed_by places moves) first → state_of items o ≡ state_of first o
+pub state_started : (upto : ℕ) (seats : List (Option Seat)) (items first : List Task) (places : Places) (moves : List Moved) (o : Option ℕ) → map (owed upto seats) items ≡ map (task_homed_by places moves) first → prev_state_of items o ≡ prev_state_of first o
 state_started upto seats items first places moves o is =
     state_stored upto seats items o
-    ∙ ap (λ (ts : List Task). state_of ts o) is
-    ∙ state_alike (homed_by places moves) (moved_number places moves) (moved_condition places moves) first o
+    ∙ ap (λ (ts : List Task). prev_state_of ts o) is
+    ∙ state_alike (task_homed_by places moves) (moved_number places moves) (moved_condition places moves) first o
 
 here_may : (o : Option ℕ) (cpu : ℕ) (t : Task) → MaySit t → MaySit (homed_here o cpu t)
 here_may None cpu t may = may

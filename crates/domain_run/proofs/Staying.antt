@@ -7,8 +7,8 @@ use Rattle.std.proofs.lemmas.List.Elements.{All-set, All-map}
 use Rattle.std.proofs.lemmas.List.Sums.{sum_by-cons}
 use Rattle.std.proofs.lemmas.Option.{same_Some}
 use Rattle.edf_pick.specs.declared.candidate.Candidate.{Candidate}
-use Rattle.edf_pick.specs.Choice.{is_before, rank, ranked}
-use Rattle.edf_pick.specs.Places.{Places, is_task, stands, is_chosen_number, kept, is_free, seat_of, put, seated, seated_if, seated_upto, placed}
+use Rattle.edf_pick.specs.Choice.{is_before, rank, candidate_at_rank}
+use Rattle.edf_pick.specs.Places.{Places, is_task, stands, is_chosen_number, kept_if_chosen, is_free, seat_of, put, seated, seated_if, seated_upto, placed}
 
 -- ---- lists
 
@@ -68,7 +68,7 @@ chosen_rehomed places cpus number r s same (c ∷ ready) =
 is_chosen_rehomed : (places : Places) (cpus : ℕ) (ready : List Candidate) (number : ℕ) → is_chosen_number cpus (map (rehomed places) ready) number ≡ is_chosen_number cpus ready number
 is_chosen_rehomed places cpus ready number = chosen_rehomed places cpus number (rank (map (rehomed places) ready)) (rank ready) (λ c. rank_rehomed places ready (rehomed places c)) ready
 
-kept_rehomed : (places : Places) (cpus : ℕ) (ready : List Candidate) (o : Option ℕ) → kept cpus (map (rehomed places) ready) o ≡ kept cpus ready o
+kept_rehomed : (places : Places) (cpus : ℕ) (ready : List Candidate) (o : Option ℕ) → kept_if_chosen cpus (map (rehomed places) ready) o ≡ kept_if_chosen cpus ready o
 kept_rehomed places cpus ready None = refl
 kept_rehomed places cpus ready (Some n) = ap (λ b. cond b (Some n) None) (is_chosen_rehomed places cpus ready n)
 
@@ -80,7 +80,7 @@ find_rehomed places at r s same (c ∷ ready) =
     ap (λ n. cond (eqb n at) (Some (rehomed places c)) (find (λ c. eqb (r c) at) (map (rehomed places) ready))) (same c)
     ∙ elim (eqb (s c) at) as (λ b. cond b (Some (rehomed places c)) (find (λ c. eqb (r c) at) (map (rehomed places) ready)) ≡ option_map (rehomed places) (cond b (Some c) (find (λ c. eqb (s c) at) ready))) [ true ↦ refl | false ↦ more ]
 
-ranked_rehomed : (places : Places) (ready : List Candidate) (r : ℕ) → ranked (map (rehomed places) ready) r ≡ option_map (rehomed places) (ranked ready r)
+ranked_rehomed : (places : Places) (ready : List Candidate) (r : ℕ) → candidate_at_rank (map (rehomed places) ready) r ≡ option_map (rehomed places) (candidate_at_rank ready r)
 ranked_rehomed places ready r = find_rehomed places r (rank (map (rehomed places) ready)) (rank ready) (λ c. rank_rehomed places ready (rehomed places c)) ready
 
 -- the first that passes, by recursion
@@ -210,19 +210,19 @@ full_set m (o ∷ places) (suc cpu) e =
 
 -- each occupant stays, and each of the first ranks stands, or no CPU is free
 pub record AreSeated (cpus : ℕ) (ready : List Candidate) (ranks : ℕ) (places : Places) : Type 0 where
-  pub stay : All (λ o. kept cpus ready o ≡ o) places
-  pub stand : (r : ℕ) (c : Candidate) → r < ranks → ranked ready r ≡ Some c → (stands c.number places ≡ true) ⊎ (has_idle places ≡ false)
+  pub stay : All (λ o. kept_if_chosen cpus ready o ≡ o) places
+  pub stand : (r : ℕ) (c : Candidate) → r < ranks → candidate_at_rank ready r ≡ Some c → (stands c.number places ≡ true) ⊎ (has_idle places ≡ false)
 
-kept_again : (cpus : ℕ) (ready : List Candidate) (o : Option ℕ) → kept cpus ready (kept cpus ready o) ≡ kept cpus ready o
+kept_again : (cpus : ℕ) (ready : List Candidate) (o : Option ℕ) → kept_if_chosen cpus ready (kept_if_chosen cpus ready o) ≡ kept_if_chosen cpus ready o
 kept_again cpus ready None = refl
 kept_again cpus ready (Some n) =
-    elim (is_chosen_number cpus ready n) as (λ b. is_chosen_number cpus ready n ≡ b → kept cpus ready (cond b (Some n) None) ≡ cond b (Some n) None) [
+    elim (is_chosen_number cpus ready n) as (λ b. is_chosen_number cpus ready n ≡ b → kept_if_chosen cpus ready (cond b (Some n) None) ≡ cond b (Some n) None) [
       | true ↦ λ e. ap (λ b. cond b (Some n) None) e
       | false ↦ λ e. refl
     ] refl
 
 -- the task of a rank is chosen
-ranked_chosen : (cpus : ℕ) (ready : List Candidate) (r : ℕ) (c : Candidate) → r < cpus → ranked ready r ≡ Some c → is_chosen_number cpus ready c.number ≡ true
+ranked_chosen : (cpus : ℕ) (ready : List Candidate) (r : ℕ) (c : Candidate) → r < cpus → candidate_at_rank ready r ≡ Some c → is_chosen_number cpus ready c.number ≡ true
 ranked_chosen cpus ready r c h e =
     let at : rank ready c ≡ r = eqb-true (rank ready c) r (find_is (λ x. eqb (rank ready x) r) ready c e) in
     let named : eqb c.number c.number ≡ true = eq-eqb c.number c.number refl in
@@ -230,34 +230,34 @@ ranked_chosen cpus ready r c h e =
     found_passes (λ x. eqb (rank ready x) r) (λ x. eqb x.number c.number && ltb (rank ready x) cpus) ready c e (rw (named, chosen) refl)
 
 -- one rank more
-seated_more : (cpus : ℕ) (ready : List Candidate) (r : ℕ) (places : Places) → r < cpus → AreSeated cpus ready r places → AreSeated cpus ready (suc r) (seated_if places (ranked ready r))
-seated_more cpus ready r places h is = by_rank (ranked ready r) refl
+seated_more : (cpus : ℕ) (ready : List Candidate) (r : ℕ) (places : Places) → r < cpus → AreSeated cpus ready r places → AreSeated cpus ready (suc r) (seated_if places (candidate_at_rank ready r))
+seated_more cpus ready r places h is = by_rank (candidate_at_rank ready r) refl
   where
     -- the ranks before, and this one
     both : (after : Places) → ((n : ℕ) → stands n places ≡ true → stands n after ≡ true) → (has_idle places ≡ false → has_idle after ≡ false)
-        → ((c : Candidate) → ranked ready r ≡ Some c → (stands c.number after ≡ true) ⊎ (has_idle after ≡ false))
-        → (q : ℕ) (c : Candidate) → q < suc r → ranked ready q ≡ Some c → (stands c.number after ≡ true) ⊎ (has_idle after ≡ false)
+        → ((c : Candidate) → candidate_at_rank ready r ≡ Some c → (stands c.number after ≡ true) ⊎ (has_idle after ≡ false))
+        → (q : ℕ) (c : Candidate) → q < suc r → candidate_at_rank ready q ≡ Some c → (stands c.number after ≡ true) ⊎ (has_idle after ≡ false)
     both after stands_still full_still here q c less e =
         elim (cases_lt q r) [
           | inl before ↦ elim (is.stand q c before e) [ inl a ↦ inl (stands_still c.number a) | inr b ↦ inr (full_still b) ]
-          | inr behind ↦ let same : q ≡ r = omega (arith, less, behind) in here c (ap (ranked ready) (sym same) ∙ e)
+          | inr behind ↦ let same : q ≡ r = omega (arith, less, behind) in here c (ap (candidate_at_rank ready) (sym same) ∙ e)
         ]
 
-    take_seat : (c : Candidate) (seat : Option ℕ) → ranked ready r ≡ Some c → seat_of places c ≡ seat → AreSeated cpus ready (suc r) (put places c.number seat)
+    take_seat : (c : Candidate) (seat : Option ℕ) → candidate_at_rank ready r ≡ Some c → seat_of places c ≡ seat → AreSeated cpus ready (suc r) (put places c.number seat)
     take_seat c None e at = record {
       stay = is.stay;
       stand = both places (λ n a. a) (λ a. a) (λ x f. inr (seat_full places c at));
     }
     take_seat c (Some cpu) e at =
         let free = seat_free places c cpu at in
-        let chosen : kept cpus ready (Some c.number) ≡ Some c.number = ap (λ b. cond b (Some c.number) None) (ranked_chosen cpus ready r c h e) in
+        let chosen : kept_if_chosen cpus ready (Some c.number) ≡ Some c.number = ap (λ b. cond b (Some c.number) None) (ranked_chosen cpus ready r c h e) in
         record {
-          stay = All-set (λ o. kept cpus ready o ≡ o) places cpu (Some c.number) chosen is.stay;
+          stay = All-set (λ o. kept_if_chosen cpus ready o ≡ o) places cpu (Some c.number) chosen is.stay;
           stand = both (set places cpu (Some c.number)) (λ n a. stands_set n c.number places cpu free a) (λ a. full_set c.number places cpu a)
               (λ x f. let same : c ≡ x = same_Some c x (sym e ∙ f) in inl (subst (λ (y : Candidate). stands y.number (set places cpu (Some c.number)) ≡ true) same (stands_new c.number places cpu free)));
         }
 
-    by_rank : (o : Option Candidate) → ranked ready r ≡ o → AreSeated cpus ready (suc r) (seated_if places o)
+    by_rank : (o : Option Candidate) → candidate_at_rank ready r ≡ o → AreSeated cpus ready (suc r) (seated_if places o)
     by_rank None e = record {
       stay = is.stay;
       stand = both places (λ n a. a) (λ a. a) (λ x f. let no : None ≡ Some x = sym e ∙ f in absurd cc);
@@ -271,12 +271,12 @@ seated_more cpus ready r places h is = by_rank (ranked ready r) refl
           | false ↦ λ there. take_seat c (seat_of places c) e refl
         ] refl
 
-seated_all : (cpus : ℕ) (ready : List Candidate) (before : Places) (r : ℕ) → r ≤ cpus → AreSeated cpus ready r (seated_upto ready (map (kept cpus ready) before) r)
+seated_all : (cpus : ℕ) (ready : List Candidate) (before : Places) (r : ℕ) → r ≤ cpus → AreSeated cpus ready r (seated_upto ready (map (kept_if_chosen cpus ready) before) r)
 seated_all cpus ready before zero h = record {
-  stay = All-map (λ o. kept cpus ready o ≡ o) (kept cpus ready) before (λ k d within. kept_again cpus ready (get_or before k d));
+  stay = All-map (λ o. kept_if_chosen cpus ready o ≡ o) (kept_if_chosen cpus ready) before (λ k d within. kept_again cpus ready (get_or before k d));
   stand = λ r c less e. absurd (omega (arith, less));
 }
-seated_all cpus ready before (suc r) h = seated_more cpus ready r (seated_upto ready (map (kept cpus ready) before) r) (omega (arith, h)) (seated_all cpus ready before r (omega (arith, h)))
+seated_all cpus ready before (suc r) h = seated_more cpus ready r (seated_upto ready (map (kept_if_chosen cpus ready) before) r) (omega (arith, h)) (seated_all cpus ready before r (omega (arith, h)))
 
 -- ---- again
 
@@ -291,11 +291,11 @@ seat_again places others c is =
 seated_again : (cpus : ℕ) (ready : List Candidate) (places others : Places) → AreSeated cpus ready cpus places → (r : ℕ) → r ≤ cpus → seated_upto (map (rehomed others) ready) places r ≡ places
 seated_again cpus ready places others is zero h = refl
 seated_again cpus ready places others is (suc r) h =
-    ap (λ (ps : Places). seated_if ps (ranked (map (rehomed others) ready) r)) (seated_again cpus ready places others is r (omega (arith, h)))
+    ap (λ (ps : Places). seated_if ps (candidate_at_rank (map (rehomed others) ready) r)) (seated_again cpus ready places others is r (omega (arith, h)))
     ∙ ap (seated_if places) (ranked_rehomed others ready r)
-    ∙ by_rank (ranked ready r) refl
+    ∙ by_rank (candidate_at_rank ready r) refl
   where
-    by_rank : (o : Option Candidate) → ranked ready r ≡ o → seated_if places (option_map (rehomed others) o) ≡ places
+    by_rank : (o : Option Candidate) → candidate_at_rank ready r ≡ o → seated_if places (option_map (rehomed others) o) ≡ places
     by_rank None e = refl
     by_rank (Some c) e = seat_again places others c (is.stand r c (omega (arith, h)) e)
 
@@ -304,6 +304,6 @@ pub stays : (cpus : ℕ) (ready : List Candidate) (before others : Places) → p
 stays cpus ready before others =
     let places = placed cpus ready before in
     let is : AreSeated cpus ready cpus places = seated_all cpus ready before cpus (omega arith) in
-    let same : map (kept cpus (map (rehomed others) ready)) places ≡ places =
-    map_itself (kept cpus (map (rehomed others) ready)) places (λ k d within. kept_rehomed others cpus ready (get_or places k d) ∙ is.stay k d within) in
+    let same : map (kept_if_chosen cpus (map (rehomed others) ready)) places ≡ places =
+    map_itself (kept_if_chosen cpus (map (rehomed others) ready)) places (λ k d within. kept_rehomed others cpus ready (get_or places k d) ∙ is.stay k d within) in
     ap (λ (ps : Places). seated_upto (map (rehomed others) ready) ps cpus) same ∙ seated_again cpus ready places others is cpus (omega arith)

@@ -12,7 +12,7 @@ use Rattle.domain_run.specs.Parts.{replenish_due, settled, is_listed, unblocked,
 use Rattle.domain_run.specs.Switch.{Switch}
 use Rattle.domain_run.specs.Switches.{switches_from}
 use Rattle.domain_run.specs.Domain.{Domain}
-use Rattle.domain_run.specs.Tick.{sum_of, candidates, prepared, with_places, begun, ran_if, finished, ticked}
+use Rattle.domain_run.specs.Tick.{sum_of, candidates, prepared, with_places, with_tick_begun, ran_if, finished, ticked}
 use Rattle.domain_run.specs.Sound.{IsSound, IsPlacement, IsSteady, IsDomain, IsAdmitted}
 use Rattle.domain_run.specs.Conditions.{is_ready}
 use Rattle.domain_run.proofs.Tracing.{AreStanding, tick_traced}
@@ -75,7 +75,7 @@ pub homed_sound : (time : ℕ) (o : Option ℕ) (t : Task) → IsSound time t �
 homed_sound time None t h = h
 homed_sound time (Some cpu) t h = record { served = h.served; spent = h.spent; lifted = h.lifted; dated = h.dated; busy = h.busy; timed = h.timed }
 
-pub begun_is : (d : Domain) → IsSteady d → All (IsSound d.time) (prepared d.time d.tasks) → IsSteady (begun d) × IsPlacement (begun d)
+pub begun_is : (d : Domain) → IsSteady d → All (IsSound d.time) (prepared d.time d.tasks) → IsSteady (with_tick_begun d) × IsPlacement (with_tick_begun d)
 begun_is d is sound =
     let tasks = prepared d.time d.tasks in
     let seating = placed_is d.cpus (candidates tasks) d.curr is.wide is.apart in
@@ -120,7 +120,7 @@ finished_is d is early sound =
 -- ---- the middle of a tick, as the code has it
 
 pub record IsMiddle (d e : Domain) : Type 0 where
-  pub begun_is : e ≡ begun d
+  pub begun_is : e ≡ with_tick_begun d
   pub steady : IsSteady e
   pub placed : IsPlacement e
 
@@ -131,7 +131,7 @@ middle d tasks places switches is sound tasks-are places-are switches-are =
     let made : List Task → List Switch → Domain = λ ts ss. record d { tasks = ts; curr = places; switches = ss } in
     let list = prepared d.time d.tasks in
     let seated : places ≡ placed d.cpus (candidates list) d.curr = places-are ∙ ap (λ n. placed n (candidates list) d.curr) is.steady.wide in
-    let same : record d { tasks = tasks; curr = places; switches = switches } ≡ begun d =
+    let same : record d { tasks = tasks; curr = places; switches = switches } ≡ with_tick_begun d =
     ap (λ ts. made ts switches) tasks-are ∙ ap (made (map (with_last_cpu places) list)) switches-are ∙ ap (with_places d list) seated in
     let keeps = begun_is d is.steady sound in
     record { begun_is = same; steady = subst IsSteady (sym same) keeps.0; placed = subst IsPlacement (sym same) keeps.1 }
@@ -146,8 +146,8 @@ pub ticked_is : (d : Domain) → IsDomain d → d.time < 2 ^ 42 → All (IsSound
 ticked_is d is early ready sound =
     let keeps = begun_is d is.steady ready in
     record {
-      steady = finished_is (begun d) keeps.0 early sound;
-      traced = tick_traced d (prepared d.time d.tasks) (ticked d).tasks (begun d).curr is.steady.wide is.traced (standing_from (begun d) keeps.0 keeps.1);
+      steady = finished_is (with_tick_begun d) keeps.0 early sound;
+      traced = tick_traced d (prepared d.time d.tasks) (ticked d).tasks (with_tick_begun d).curr is.steady.wide is.traced (standing_from (with_tick_begun d) keeps.0 keeps.1);
     }
 
 -- what the code leaves is the tick

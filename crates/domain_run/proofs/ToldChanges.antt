@@ -20,14 +20,14 @@ use Rattle.task_script.specs.declared.script.Segment.TheVariants.{Run as RunFor,
 use Rattle.domain_run.specs.declared.happened.What.{What}
 use Rattle.domain_run.specs.declared.happened.What.TheVariants.{JobEnds, NextReleased, Spent, Replenished, Released, WokenSpent}
 use Rattle.domain_run.specs.declared.happened.Happened.{Happened}
-use Rattle.task_script.specs.script.Segments.{passes_late_timer, asked}
+use Rattle.task_script.specs.script.Segments.{passes_late_timer, next_segment}
 use Rattle.domain_run.specs.Conditions.{is_ready, is_throttled, is_contending, is_over, has_come}
 use Rattle.domain_run.specs.Parts.{replenish_due, unblocked, enqueued, started, starts, running_on, went_on, goes_on}
-use Rattle.domain_run.specs.Happened.{told, due, job_due, told_by_segment, told_by_work, told_by_budget, told_by_replenishment, told_by_wake, told_by_unblocking}
-use Rattle.domain_run.specs.private.Index.{IsAt, IsAbsent}
-use Rattle.domain_run.specs.private.Roster.{after_change}
+use Rattle.domain_run.specs.Happened.{happened_to, due, job_due, told_by_segment, told_by_work, told_by_budget, told_by_replenishment, told_by_wake, told_by_unblocking}
+use Rattle.domain_run.specs.private.Index.{IsListedAt, IsUnlisted}
+use Rattle.domain_run.specs.private.Roster.{task_after}
 use Rattle.domain_run.specs.private.Paying.{ran_until}
-use Rattle.domain_run.specs.private.Telling.{told_until, told_by_change, IsQuietPart, told_of_number, look_of, told_if, told_behind, one_of, all_of, IsApart}
+use Rattle.domain_run.specs.private.Telling.{told_until, told_by_change, IsQuietPart, told_of_number, look_of, told_where, told_behind, one_of, all_of_told, IsApart}
 use Rattle.domain_run.proofs.Due.{still_at}
 use Rattle.domain_run.proofs.ToldOrder.{AreApart}
 
@@ -40,29 +40,29 @@ throttled_unready (Blocked u) h = refl
 throttled_unready Waiting h = refl
 throttled_unready Leaving h = refl
 
-replenishment_seen : (time : ℕ) (t : Task) → all_of (told_behind time Replenish (look_of time Replenish t) (replenish_due time t)) ≡ told_by_replenishment time t
+replenishment_seen : (time : ℕ) (t : Task) → all_of_told (told_behind time Replenish (look_of time Replenish t) (replenish_due time t)) ≡ told_by_replenishment time t
 replenishment_seen time t = by_both (is_throttled t.condition) (has_come time t.server.deadline) refl
   where
     u : Task
     u = record t { server = replenished t.params t.server; condition = Ready }
 
     by_both : (a b : Bool) → is_throttled t.condition ≡ a →
-        one_of (told_if (a && is_ready (cond (a && b) u t).condition) time (cond (a && b) u t) (Replenished (due (cond (a && b) u t)))) ++ []
-        ≡ cond (a && b) (told time t (Replenished (due (cond (a && b) u t))) ∷ []) []
+        one_of (told_where (a && is_ready (cond (a && b) u t).condition) time (cond (a && b) u t) (Replenished (due (cond (a && b) u t)))) ++ []
+        ≡ cond (a && b) (happened_to time t (Replenished (due (cond (a && b) u t))) ∷ []) []
     by_both false b e = refl
     by_both true true e = refl
-    by_both true false e = ap (λ r. one_of (told_if r time t (Replenished (due t))) ++ []) (throttled_unready t.condition e)
+    by_both true false e = ap (λ r. one_of (told_where r time t (Replenished (due t))) ++ []) (throttled_unready t.condition e)
 
 -- a task that asked its script in part 3
-unblocking_seen : (time : ℕ) (t : Task) → all_of (told_behind time Unblock (look_of time Unblock t) (unblocked time t)) ≡ told_by_unblocking time t
+unblocking_seen : (time : ℕ) (t : Task) → all_of_told (told_behind time Unblock (look_of time Unblock t) (unblocked time t)) ≡ told_by_unblocking time t
 unblocking_seen time t = by_over (is_over time t.condition)
   where
     seen : Bool → Task → List Happened
-    seen over u = one_of (told_if (over && is_contending u.condition) time u (Released (job_due time u))) ++ (one_of (told_if (over && is_throttled u.condition) time u (WokenSpent (due u))) ++ [])
+    seen over u = one_of (told_where (over && is_contending u.condition) time u (Released (job_due time u))) ++ (one_of (told_where (over && is_throttled u.condition) time u (WokenSpent (due u))) ++ [])
 
     wakes : (n : ℕ) (s : Server) (x : Task) → x.number ≡ t.number → x.cpu ≡ t.cpu → x.params ≡ t.params → seen true (enqueued time s x) ≡ told_by_wake time t (enqueued time s x) (RunFor n)
     wakes n s x number cpu params =
-        let at : (w : What) (u : Task) → u.number ≡ x.number → u.cpu ≡ x.cpu → told time u w ≡ told time t w = λ w u a b. λ i. record { time = time; what = w; number = (a ∙ number) i; cpu = (b ∙ cpu) i } in
+        let at : (w : What) (u : Task) → u.number ≡ x.number → u.cpu ≡ x.cpu → happened_to time u w ≡ happened_to time t w = λ w u a b. λ i. record { time = time; what = w; number = (a ∙ number) i; cpu = (b ∙ cpu) i } in
         let later : (u : Task) → u.params ≡ x.params → job_due time u ≡ job_due time t = λ u a. ap (λ p. time + p.deadline) (a ∙ params) in
         elim (is_spent s) as (λ a. seen true (cond a (cond (has_come time s.deadline) (record x { server = replenished x.params s; condition = Ready }) (record x { server = s; condition = Throttled })) (record x { server = s; condition = Ready }))
         ≡ told_by_wake time t (cond a (cond (has_come time s.deadline) (record x { server = replenished x.params s; condition = Ready }) (record x { server = s; condition = Throttled })) (record x { server = s; condition = Ready })) (RunFor n)) [
@@ -80,12 +80,12 @@ unblocking_seen time t = by_over (is_over time t.condition)
     asks WaitFor x number cpu params = refl
     asks EndNow x number cpu params = refl
 
-    by_over : (over : Bool) → seen over (cond over (starts time t (asked t.cursor time)) t) ≡ cond over (told_by_wake time t (cond over (starts time t (asked t.cursor time)) t) (asked t.cursor time).segment) []
-    by_over true = asks (asked t.cursor time).segment (record t { cursor = (asked t.cursor time).cursor }) refl refl refl
+    by_over : (over : Bool) → seen over (cond over (starts time t (next_segment t.cursor time)) t) ≡ cond over (told_by_wake time t (cond over (starts time t (next_segment t.cursor time)) t) (next_segment t.cursor time).segment) []
+    by_over true = asks (next_segment t.cursor time).segment (record t { cursor = (next_segment t.cursor time).cursor }) refl refl refl
     by_over false = refl
 
 -- a task that ran
-run_seen : (time ticks : ℕ) (left : ℤ) (t : Task) → all_of (told_behind time (Run ticks left) (look_of time (Run ticks left) t) (ran_until time ticks left t)) ≡ told_until time ticks left t
+run_seen : (time ticks : ℕ) (left : ℤ) (t : Task) → all_of_told (told_behind time (Run ticks left) (look_of time (Run ticks left) t) (ran_until time ticks left t)) ≡ told_until time ticks left t
 run_seen time ticks left t = by_work (eqb (t.work - ticks) 0)
   where
     x : Task
@@ -95,16 +95,16 @@ run_seen time ticks left t = by_work (eqb (t.work - ticks) 0)
     late = passes_late_timer t.cursor time
 
     seen : Bool → Task → List Happened
-    seen l u = one_of (told_if (not (is_contending u.condition) || l) time u JobEnds) ++ (one_of (told_if (is_contending u.condition && l) time u (NextReleased (job_due time u))) ++ one_of (told_if (is_throttled u.condition) time u (Spent (due u))))
+    seen l u = one_of (told_where (not (is_contending u.condition) || l) time u JobEnds) ++ (one_of (told_where (is_contending u.condition && l) time u (NextReleased (job_due time u))) ++ one_of (told_where (is_throttled u.condition) time u (Spent (due u))))
 
     budget : Bool → Task → List Happened
-    budget b u = cond b (told time u (Spent (due u)) ∷ []) []
+    budget b u = cond b (happened_to time u (Spent (due u)) ∷ []) []
 
     -- it runs on, with so much work
-    runs_on : (l : Bool) (y : Task) → seen l (running_on y) ≡ cond l (told time y JobEnds ∷ told time y (NextReleased (job_due time y)) ∷ []) [] ++ told_by_budget time (running_on y)
-    runs_on l y = elim (is_spent y.server) as (λ s. seen l (record y { condition = cond s Throttled Ready }) ≡ cond l (told time y JobEnds ∷ told time y (NextReleased (job_due time y)) ∷ []) [] ++ told_by_budget time (record y { condition = cond s Throttled Ready })) [
-      | true ↦ elim l as (λ l. seen l (record y { condition = Throttled }) ≡ cond l (told time y JobEnds ∷ told time y (NextReleased (job_due time y)) ∷ []) [] ++ told_by_budget time (record y { condition = Throttled })) [ true ↦ refl | false ↦ refl ]
-      | false ↦ elim l as (λ l. seen l (record y { condition = Ready }) ≡ cond l (told time y JobEnds ∷ told time y (NextReleased (job_due time y)) ∷ []) [] ++ told_by_budget time (record y { condition = Ready })) [ true ↦ refl | false ↦ refl ]
+    runs_on : (l : Bool) (y : Task) → seen l (running_on y) ≡ cond l (happened_to time y JobEnds ∷ happened_to time y (NextReleased (job_due time y)) ∷ []) [] ++ told_by_budget time (running_on y)
+    runs_on l y = elim (is_spent y.server) as (λ s. seen l (record y { condition = cond s Throttled Ready }) ≡ cond l (happened_to time y JobEnds ∷ happened_to time y (NextReleased (job_due time y)) ∷ []) [] ++ told_by_budget time (record y { condition = cond s Throttled Ready })) [
+      | true ↦ elim l as (λ l. seen l (record y { condition = Throttled }) ≡ cond l (happened_to time y JobEnds ∷ happened_to time y (NextReleased (job_due time y)) ∷ []) [] ++ told_by_budget time (record y { condition = Throttled })) [ true ↦ refl | false ↦ refl ]
+      | false ↦ elim l as (λ l. seen l (record y { condition = Ready }) ≡ cond l (happened_to time y JobEnds ∷ happened_to time y (NextReleased (job_due time y)) ∷ []) [] ++ told_by_budget time (record y { condition = Ready })) [ true ↦ refl | false ↦ refl ]
     ]
 
     asks : (s : Segment) (y : Task) → seen late (went_on time s y) ≡ told_by_segment time y late s ++ told_by_budget time (went_on time s y)
@@ -113,11 +113,11 @@ run_seen time ticks left t = by_work (eqb (t.work - ticks) 0)
     asks WaitFor y = refl
     asks EndNow y = refl
 
-    by_work : (w : Bool) → seen (w && late) (cond w (goes_on time x (asked t.cursor time)) (running_on x)) ≡ cond w (told_by_segment time x late (asked t.cursor time).segment) [] ++ told_by_budget time (cond w (goes_on time x (asked t.cursor time)) (running_on x))
-    by_work true = asks (asked t.cursor time).segment (record x { cursor = (asked t.cursor time).cursor })
+    by_work : (w : Bool) → seen (w && late) (cond w (goes_on time x (next_segment t.cursor time)) (running_on x)) ≡ cond w (told_by_segment time x late (next_segment t.cursor time).segment) [] ++ told_by_budget time (cond w (goes_on time x (next_segment t.cursor time)) (running_on x))
+    by_work true = asks (next_segment t.cursor time).segment (record x { cursor = (next_segment t.cursor time).cursor })
     by_work false = runs_on false x
 
-pub change_seen : (time : ℕ) (change : Change) (t : Task) → all_of (told_behind time change (look_of time change t) (after_change time change t)) ≡ told_by_change time change t
+pub change_seen : (time : ℕ) (change : Change) (t : Task) → all_of_told (told_behind time change (look_of time change t) (task_after time change t)) ≡ told_by_change time change t
 change_seen time Replenish t = replenishment_seen time t
 change_seen time Settle t = refl
 change_seen time Unblock t = unblocking_seen time t
@@ -133,21 +133,21 @@ change_seen time Depart t = refl
 -- ---- nothing, of a task that is not due
 
 pub replenish_quiet : (time : ℕ) → IsQuietPart time Replenish
-replenish_quiet time t h = ap (λ b. cond b (told time t (Replenished (due (replenish_due time t))) ∷ []) []) (still_at time t h).due
+replenish_quiet time t h = ap (λ b. cond b (happened_to time t (Replenished (due (replenish_due time t))) ∷ []) []) (still_at time t h).due
 
 pub settle_quiet : (time : ℕ) → IsQuietPart time Settle
 settle_quiet time t h = refl
 
 pub unblock_quiet : (time : ℕ) → IsQuietPart time Unblock
-unblock_quiet time t h = ap (λ b. cond b (told_by_wake time t (unblocked time t) (asked t.cursor time).segment) []) (still_at time t h).over
+unblock_quiet time t h = ap (λ b. cond b (told_by_wake time t (unblocked time t) (next_segment t.cursor time).segment) []) (still_at time t h).over
 
 -- ---- of its task alone
 
 abbrev pub AreOf : ℕ → List Happened → Type 0
 AreOf n hs = All (λ h. h.number ≡ n) hs
 
-one_told : (time : ℕ) (t : Task) (w : What) → AreOf t.number (told time t w ∷ [])
-one_told time t w = All-cons (λ h. h.number ≡ t.number) (told time t w) [] refl (All-nil (λ h. h.number ≡ t.number))
+one_told : (time : ℕ) (t : Task) (w : What) → AreOf t.number (happened_to time t w ∷ [])
+one_told time t w = All-cons (λ h. h.number ≡ t.number) (happened_to time t w) [] refl (All-nil (λ h. h.number ≡ t.number))
 
 of_if : (n : ℕ) (b : Bool) (hs : List Happened) → AreOf n hs → AreOf n (cond b hs [])
 of_if n true hs is = is
@@ -156,20 +156,20 @@ of_if n false hs is = All-nil (λ h. h.number ≡ n)
 of_both : (n : ℕ) (hs gs : List Happened) → AreOf n hs → AreOf n gs → AreOf n (hs ++ gs)
 of_both n hs gs a b = All-append (λ h. h.number ≡ n) hs gs a b
 
-of_two : (time : ℕ) (t : Task) (v w : What) → AreOf t.number (told time t v ∷ told time t w ∷ [])
-of_two time t v w = of_both t.number (told time t v ∷ []) (told time t w ∷ []) (one_told time t v) (one_told time t w)
+of_two : (time : ℕ) (t : Task) (v w : What) → AreOf t.number (happened_to time t v ∷ happened_to time t w ∷ [])
+of_two time t v w = of_both t.number (happened_to time t v ∷ []) (happened_to time t w ∷ []) (one_told time t v) (one_told time t w)
 
 of_segment : (time : ℕ) (t : Task) (late : Bool) (s : Segment) → AreOf t.number (told_by_segment time t late s)
-of_segment time t late (RunFor n) = of_if t.number late (told time t JobEnds ∷ told time t (NextReleased (job_due time t)) ∷ []) (of_two time t JobEnds (NextReleased (job_due time t)))
+of_segment time t late (RunFor n) = of_if t.number late (happened_to time t JobEnds ∷ happened_to time t (NextReleased (job_due time t)) ∷ []) (of_two time t JobEnds (NextReleased (job_due time t)))
 of_segment time t late (Until u) = one_told time t JobEnds
 of_segment time t late WaitFor = one_told time t JobEnds
 of_segment time t late EndNow = one_told time t JobEnds
 
 of_work : (time : ℕ) (t : Task) → AreOf t.number (told_by_work time t)
-of_work time t = of_if t.number (eqb t.work 0) (told_by_segment time t (passes_late_timer t.cursor time) (asked t.cursor time).segment) (of_segment time t (passes_late_timer t.cursor time) (asked t.cursor time).segment)
+of_work time t = of_if t.number (eqb t.work 0) (told_by_segment time t (passes_late_timer t.cursor time) (next_segment t.cursor time).segment) (of_segment time t (passes_late_timer t.cursor time) (next_segment t.cursor time).segment)
 
 of_budget : (time : ℕ) (t : Task) → AreOf t.number (told_by_budget time t)
-of_budget time t = of_if t.number (is_throttled t.condition) (told time t (Spent (due t)) ∷ []) (one_told time t (Spent (due t)))
+of_budget time t = of_if t.number (is_throttled t.condition) (happened_to time t (Spent (due t)) ∷ []) (one_told time t (Spent (due t)))
 
 went_number : (time : ℕ) (s : Segment) (t : Task) → (went_on time s t).number ≡ t.number
 went_number time (RunFor n) t = refl
@@ -180,8 +180,8 @@ went_number time EndNow t = refl
 ran_number : (time ticks : ℕ) (left : ℤ) (t : Task) → (ran_until time ticks left t).number ≡ t.number
 ran_number time ticks left t =
     let x : Task = record t { server = record t.server { left = left }; work = t.work - ticks } in
-    elim (eqb x.work 0) as (λ b. (cond b (goes_on time x (asked x.cursor time)) (running_on x)).number ≡ t.number) [
-      | true ↦ went_number time (asked x.cursor time).segment (record x { cursor = (asked x.cursor time).cursor })
+    elim (eqb x.work 0) as (λ b. (cond b (goes_on time x (next_segment x.cursor time)) (running_on x)).number ≡ t.number) [
+      | true ↦ went_number time (next_segment x.cursor time).segment (record x { cursor = (next_segment x.cursor time).cursor })
       | false ↦ refl
     ]
 
@@ -230,21 +230,21 @@ told_alike f g (t ∷ tasks) all =
     λ i. here i ++ more i
 
 -- the task of a number alone
-told_others : (f : Task → List Happened) (n : ℕ) (tasks : List Task) → IsAbsent tasks n → flat_map (told_of_number n f) tasks ≡ []
+told_others : (f : Task → List Happened) (n : ℕ) (tasks : List Task) → IsUnlisted tasks n → flat_map (told_of_number n f) tasks ≡ []
 told_others f n tasks absent = told_nothing (told_of_number n f) tasks (All-weaker (λ t. t.number ≢ n) (λ t. told_of_number n f t ≡ []) (λ t h. ap (λ b. cond b (f t) []) (ne_eqb t.number n h)) tasks absent)
 
-pub told_absent : (f : Task → List Happened) (n : ℕ) (tasks : List Task) → IsAbsent tasks n → flat_map (told_of_number n f) tasks ≡ []
+pub told_absent : (f : Task → List Happened) (n : ℕ) (tasks : List Task) → IsUnlisted tasks n → flat_map (told_of_number n f) tasks ≡ []
 told_absent f n tasks absent = told_others f n tasks absent
 
-pub told_at : (f : Task → List Happened) (n : ℕ) (tasks : List Task) (p : ℕ) (d : Task) → AreNumbered tasks → IsAt tasks n p → flat_map (told_of_number n f) tasks ≡ f (get_or tasks p d)
+pub told_at : (f : Task → List Happened) (n : ℕ) (tasks : List Task) (p : ℕ) (d : Task) → AreNumbered tasks → IsListedAt tasks n p → flat_map (told_of_number n f) tasks ≡ f (get_or tasks p d)
 told_at f n [] p d numbered is = let no : p < 0 = is.within in absurd (omega (arith, no))
 told_at f n (t ∷ tasks) zero d numbered is =
     let here : told_of_number n f t ≡ f t = ap (λ b. cond b (f t) []) (eq-eqb t.number n (is.is t)) in
-    let none : IsAbsent tasks n = λ k e h same. numbered zero (suc k) e (omega arith) (omega arith) (is.is t ∙ sym same) in
+    let none : IsUnlisted tasks n = λ k e h same. numbered zero (suc k) e (omega arith) (omega arith) (is.is t ∙ sym same) in
     ap (λ hs. hs ++ flat_map (told_of_number n f) tasks) here ∙ ap (λ hs. f t ++ hs) (told_others f n tasks none) ∙ append-nil (f t)
 told_at f n (t ∷ tasks) (suc p) d numbered is =
     let inside : suc p < suc (length tasks) = is.within in
-    let rest : IsAt tasks n p = record { within = omega (arith, inside); is = is.is } in
+    let rest : IsListedAt tasks n p = record { within = omega (arith, inside); is = is.is } in
     let apart : AreNumbered tasks = λ i j e less within. numbered (suc i) (suc j) e (omega arith) (omega arith) in
     let other : t.number ≢ n = λ e. numbered zero (suc p) t (omega arith) inside (e ∙ sym (is.is t)) in
     ap (λ b. cond b (f t) [] ++ flat_map (told_of_number n f) tasks) (ne_eqb t.number n other) ∙ told_at f n tasks p d apart rest

@@ -20,12 +20,12 @@ use Rattle.domain_run.specs.declared.call.Reply.TheVariants.{Admitted, Full, Twi
 use Rattle.task_script.specs.script.ScriptView.{ScriptView}
 use Rattle.domain_run.specs.Conditions.{is_contending}
 use Rattle.domain_run.specs.Parts.{replenish_due, settled, is_listed, unblocked, with_last_cpu, stopped}
-use Rattle.domain_run.specs.Domain.{Domain, opened}
-use Rattle.domain_run.specs.Tick.{sum_of, candidates, prepared, begun, ran_if, finished, ticked, ticks}
-use Rattle.domain_run.specs.Calls.{admit_reply, new_task, with_number, listed, of_number, changed, regraded, released, ended, with_limit, is_other, departed, reply_to, is_refusal, granted, after_call}
+use Rattle.domain_run.specs.Domain.{Domain, empty_domain}
+use Rattle.domain_run.specs.Tick.{sum_of, candidates, prepared, with_tick_begun, ran_if, finished, ticked, ticks}
+use Rattle.domain_run.specs.Calls.{admit_reply, new_task, with_number, with_task_listed, of_number, with_task_changed, with_new_params, blocked_until, ended_at, with_limit, is_other, after_departure, reply_to, is_refusal, after_granted, after_call}
 use Rattle.domain_run.specs.Run.{after_calls, run_of}
-use Rattle.domain_run.specs.Sound.{IsAdmitted, IsApart}
-use Rattle.domain_run.specs.Happened.{told, told_if_ran, told_by_replenishment, told_by_unblocking, at_home, told_to_begin, told_by_beginning, told_by_end, told_by_tick, told_by_ticks, told_by_cut, told_by_granted, told_by_call, told_by_calls}
+use Rattle.domain_run.specs.Sound.{IsAdmitted, HasNoTaskTwice}
+use Rattle.domain_run.specs.Happened.{happened_to, told_if_ran, told_by_replenishment, told_by_unblocking, with_its_cpu, told_to_begin, told_by_beginning, told_by_end, told_by_tick, told_by_ticks, told_by_cut, told_by_granted, told_by_call, told_by_calls}
 use Rattle.domain_run.proofs.Keeping.{Same, same_itself, same_either, same_replenished, same_settled, same_unblocked, AllPairs-map}
 use Rattle.domain_run.proofs.KeptKeys.{AreNumbered, ticked_numbered}
 use Rattle.domain_run.proofs.Ticking.{same_ran_if}
@@ -47,7 +47,7 @@ pub record IsKnown (cpus : ℕ) (used : List ℕ) (t : Task) : Type 0 where
 pub record HasKnown (d : Domain) : Type 0 where
   pub some : 0 < d.cpus
   pub wide : length d.curr ≡ d.cpus
-  pub apart : IsApart d.curr
+  pub apart : HasNoTaskTwice d.curr
   pub known : All (IsKnown d.cpus d.used) d.tasks
   pub numbered : AreNumbered d.tasks
 
@@ -82,7 +82,7 @@ homed_known cpus used places t wide is =
       admitted = subst (λ (n : ℕ). IsAdmitted used n) (sym (homed_number o t)) is.admitted;
     }
 
-begun_known : (d : Domain) → HasKnown d → All (IsKnown d.cpus d.used) (begun d).tasks
+begun_known : (d : Domain) → HasKnown d → All (IsKnown d.cpus d.used) (with_tick_begun d).tasks
 begun_known d has =
     let tasks = prepared d.time d.tasks in
     let places = placed d.cpus (candidates tasks) d.curr in
@@ -92,7 +92,7 @@ begun_known d has =
 
 has_ticked : (d : Domain) → HasKnown d → HasKnown (ticked d)
 has_ticked d has =
-    let b : Domain = begun d in
+    let b : Domain = with_tick_begun d in
     let seating = placed_is d.cpus (candidates (prepared d.time d.tasks)) d.curr has.wide has.apart in
     record {
       some = has.some;
@@ -108,7 +108,7 @@ has_ticks (suc n) d has = has_ticked (ticks n d) (has_ticks n d has)
 
 -- ---- A CALL
 
-has_changed : (d : Domain) (number : ℕ) (f : Task → Task) → ((t : Task) → Same t (f t)) → HasKnown d → HasKnown (changed d number f)
+has_changed : (d : Domain) (number : ℕ) (f : Task → Task) → ((t : Task) → Same t (f t)) → HasKnown d → HasKnown (with_task_changed d number f)
 has_changed d number f same has =
     let each : (t : Task) → Same t (of_number number f t) = λ t. same_either (eqb t.number number) t (f t) t (same t) (same_itself t) in
     record {
@@ -120,12 +120,12 @@ has_changed d number f same has =
     }
 
 -- a regrade changes the parameters, and nothing that is asked here
-regraded_known : (d : Domain) (number : ℕ) (params : ParamsView) → HasKnown d → HasKnown (changed d number (regraded params))
+regraded_known : (d : Domain) (number : ℕ) (params : ParamsView) → HasKnown d → HasKnown (with_task_changed d number (with_new_params params))
 regraded_known d number params has =
-    let f = of_number number (regraded params) in
-    let same_number : (t : Task) → (f t).number ≡ t.number = λ t. elim (eqb t.number number) as (λ b. (cond b (regraded params t) t).number ≡ t.number) [ true ↦ refl | false ↦ refl ] in
+    let f = of_number number (with_new_params params) in
+    let same_number : (t : Task) → (f t).number ≡ t.number = λ t. elim (eqb t.number number) as (λ b. (cond b (with_new_params params t) t).number ≡ t.number) [ true ↦ refl | false ↦ refl ] in
     let still : (t : Task) → IsKnown d.cpus d.used t → IsKnown d.cpus d.used (f t) = λ t is.
-    elim (eqb t.number number) as (λ b. IsKnown d.cpus d.used (cond b (regraded params t) t)) [ true ↦ record { home = is.home; admitted = is.admitted } | false ↦ is ] in
+    elim (eqb t.number number) as (λ b. IsKnown d.cpus d.used (cond b (with_new_params params t) t)) [ true ↦ record { home = is.home; admitted = is.admitted } | false ↦ is ] in
     record {
       some = has.some;
       wide = has.wide;
@@ -134,10 +134,10 @@ regraded_known d number params has =
       numbered = numbered_map f same_number d.tasks has.numbered;
     }
 
-same_ended : (time : ℕ) (t : Task) → Same t (ended time t)
+same_ended : (time : ℕ) (t : Task) → Same t (ended_at time t)
 same_ended time t = same_either (is_contending t.condition) t (stopped time Leaving t) (record t { condition = Leaving }) (record { number = refl; params = refl; cpu = refl }) (record { number = refl; params = refl; cpu = refl })
 
-has_departed : (d : Domain) (number : ℕ) → HasKnown d → HasKnown (departed d number)
+has_departed : (d : Domain) (number : ℕ) → HasKnown d → HasKnown (after_departure d number)
 has_departed d number has = record {
   some = has.some;
   wide = has.wide;
@@ -166,11 +166,11 @@ fresh_by false false c s e = refl
 fresh : (d : Domain) (number : ℕ) (params : ParamsView) → is_refusal (admit_reply d number params) ≡ false → list_any (λ (n : ℕ). eqb n number) d.used ≡ false
 fresh d number params e = fresh_by (leb 256 (length d.tasks)) (list_any (λ (n : ℕ). eqb n number) d.used) (ltb (cap d.cpus d.limit) (sum_of d.tasks + params.bw)) (sum_of d.tasks) e
 
-has_listed : (d : Domain) (number : ℕ) (name : List ℕ) (params : ParamsView) (delay : ℕ) (script : ScriptView) → is_refusal (admit_reply d number params) ≡ false → HasKnown d → HasKnown (listed d (new_task d number name params delay script))
-has_listed d number name params delay script granted has =
+has_listed : (d : Domain) (number : ℕ) (name : List ℕ) (params : ParamsView) (delay : ℕ) (script : ScriptView) → is_refusal (admit_reply d number params) ≡ false → HasKnown d → HasKnown (with_task_listed d (new_task d number name params delay script))
+has_listed d number name params delay script after_granted has =
     let t : Task = new_task d number name params delay script in
     let used = with_number number d.used in
-    let new : list_any (λ (n : ℕ). eqb n number) d.used ≡ false = fresh d number params granted in
+    let new : list_any (λ (n : ℕ). eqb n number) d.used ≡ false = fresh d number params after_granted in
     record {
       some = has.some;
       wide = has.wide;
@@ -181,11 +181,11 @@ has_listed d number name params delay script granted has =
           (λ k x h e. let no : true ≡ false = sym (has.known k x h).admitted ∙ ap (λ (m : ℕ). list_any (λ (n : ℕ). eqb n m) d.used) e ∙ new in absurd cc);
     }
 
-has_granted : (d : Domain) (c : Call) → is_refusal (reply_to d c) ≡ false → HasKnown d → HasKnown (granted d c)
+has_granted : (d : Domain) (c : Call) → is_refusal (reply_to d c) ≡ false → HasKnown d → HasKnown (after_granted d c)
 has_granted d (Admit number name params delay script) is has = has_listed d number name params delay script is has
 has_granted d (Regrade number params word) is has = regraded_known d number params has
-has_granted d (Wake number) is has = has_changed d number (released d.time) (λ t. record { number = refl; params = refl; cpu = refl }) has
-has_granted d (Leave number) is has = has_changed d number (ended d.time) (same_ended d.time) has
+has_granted d (Wake number) is has = has_changed d number (blocked_until d.time) (λ t. record { number = refl; params = refl; cpu = refl }) has
+has_granted d (Leave number) is has = has_changed d number (ended_at d.time) (same_ended d.time) has
 has_granted d (Advance n) is has = has_ticks n d has
 has_granted d (Limit limit word) is has = record { some = has.some; wide = has.wide; apart = has.apart; known = has.known; numbered = has.numbered }
 has_granted d (Depart number) is has = has_departed d number has
@@ -196,9 +196,9 @@ has_either d e true has more = has
 has_either d e false has more = more refl
 
 pub has_call : (d : Domain) (c : Call) → HasKnown d → HasKnown (after_call d c)
-has_call d c has = has_either d (granted d c) (is_refusal (reply_to d c)) has (λ is. has_granted d c is has)
+has_call d c has = has_either d (after_granted d c) (is_refusal (reply_to d c)) has (λ is. has_granted d c is has)
 
-pub has_opened : (cpus limit : ℕ) → 0 < cpus → HasKnown (opened cpus limit)
+pub has_opened : (cpus limit : ℕ) → 0 < cpus → HasKnown (empty_domain cpus limit)
 has_opened cpus limit some = record {
   some = some;
   wide = length-replicate cpus None;
@@ -215,7 +215,7 @@ pub record IsToldIn (d : Domain) (h : Happened) : Type 0 where
   pub inside : h.cpu < d.cpus
   pub admitted : IsAdmitted d.used h.number
 
-told_known : (d : Domain) (time : ℕ) (t : Task) (w : What) → time ≤ d.time → IsKnown d.cpus d.used t → IsToldIn d (told time t w)
+told_known : (d : Domain) (time : ℕ) (t : Task) (w : What) → time ≤ d.time → IsKnown d.cpus d.used t → IsToldIn d (happened_to time t w)
 told_known d time t w past is = record { past = past; inside = is.home; admitted = is.admitted }
 
 -- on the CPU on which its task stands it is inside too
@@ -223,7 +223,7 @@ home_within : (cpus : ℕ) (o : Option ℕ) (before : ℕ) → ((cpu : ℕ) → 
 home_within cpus None before inside is = is
 home_within cpus (Some cpu) before inside is = inside cpu refl
 
-home_in : (d : Domain) (places : Places) (h : Happened) → length places ≡ d.cpus → IsToldIn d h → IsToldIn d (at_home places h)
+home_in : (d : Domain) (places : Places) (h : Happened) → length places ≡ d.cpus → IsToldIn d h → IsToldIn d (with_its_cpu places h)
 home_in d places h wide is = record {
   past = is.past;
   inside = home_within d.cpus (position (is_task h.number) places) h.cpu (λ cpu e. subst (λ (n : ℕ). cpu < n) wide (position_within h.number places cpu e)) is.inside;
@@ -236,13 +236,13 @@ beginning_in d has =
     let back = flat_map (told_by_replenishment d.time) d.tasks in
     let woken = flat_map (told_by_unblocking d.time) left in
     let same : d.time ≤ d.time = omega arith in
-    let places : Places = (begun d).curr in
+    let places : Places = (with_tick_begun d).curr in
     let wide : length places ≡ d.cpus = (placed_is d.cpus (candidates (prepared d.time d.tasks)) d.curr has.wide has.apart).wide in
     let all : All (IsToldIn d) (told_to_begin d) = All-append (IsToldIn d) back woken
     (each_task (IsKnown d.cpus d.used) (IsToldIn d) (told_by_replenishment d.time) d.tasks (λ t is. each_replenishment (IsToldIn d) d.time t (λ w at. told_known d d.time t w same is)) has.known)
     (each_task (IsKnown d.cpus d.used) (IsToldIn d) (told_by_unblocking d.time) left (λ t is. each_unblocking (IsToldIn d) d.time t (λ w at. told_known d d.time t w same is)) (left_known d.cpus d.used d.time d.tasks has.known)) in
-    each_in_order (IsToldIn d) (map (at_home places) (told_to_begin d))
-    (All-map (IsToldIn d) (at_home places) (told_to_begin d) (All-weaker (IsToldIn d) (λ h. IsToldIn d (at_home places h)) (λ h is. home_in d places h wide is) (told_to_begin d) all))
+    each_in_order (IsToldIn d) (map (with_its_cpu places) (told_to_begin d))
+    (All-map (IsToldIn d) (with_its_cpu places) (told_to_begin d) (All-weaker (IsToldIn d) (λ h. IsToldIn d (with_its_cpu places h)) (λ h is. home_in d places h wide is) (told_to_begin d) all))
 
 ending_in : (d : Domain) → All (IsKnown d.cpus d.used) d.tasks → All (IsToldIn (finished d)) (told_by_end d)
 ending_in d known =
@@ -266,17 +266,17 @@ follows_ticks : (n : ℕ) (d : Domain) → Follows d (ticks n d)
 follows_ticks zero d = follows_still d d refl refl refl
 follows_ticks (suc n) d = follows_tick d (ticks n d) (follows_ticks n d)
 
-follows_listed : (d : Domain) (t : Task) → Follows d (listed d t)
+follows_listed : (d : Domain) (t : Task) → Follows d (with_task_listed d t)
 follows_listed d t = record { later = omega arith; cpus = refl; used = λ n is. admitted_more d.used t.number n is }
 
-follows_granted : (d : Domain) (c : Call) → Follows d (granted d c)
+follows_granted : (d : Domain) (c : Call) → Follows d (after_granted d c)
 follows_granted d (Admit number name params delay script) = follows_listed d (new_task d number name params delay script)
-follows_granted d (Regrade number params word) = follows_still d (changed d number (regraded params)) refl refl refl
-follows_granted d (Wake number) = follows_still d (changed d number (released d.time)) refl refl refl
-follows_granted d (Leave number) = follows_still d (changed d number (ended d.time)) refl refl refl
+follows_granted d (Regrade number params word) = follows_still d (with_task_changed d number (with_new_params params)) refl refl refl
+follows_granted d (Wake number) = follows_still d (with_task_changed d number (blocked_until d.time)) refl refl refl
+follows_granted d (Leave number) = follows_still d (with_task_changed d number (ended_at d.time)) refl refl refl
 follows_granted d (Advance n) = follows_ticks n d
 follows_granted d (Limit limit word) = follows_still d (with_limit limit d) refl refl refl
-follows_granted d (Depart number) = follows_still d (departed d number) refl refl refl
+follows_granted d (Depart number) = follows_still d (after_departure d number) refl refl refl
 follows_granted d (Arrive number name params script) = follows_listed d (new_task d number name params 0 script)
 
 follows_either : (b : Bool) (d e : Domain) → Follows d e → Follows d (cond b d e)
@@ -284,7 +284,7 @@ follows_either true d e f = follows_still d d refl refl refl
 follows_either false d e f = f
 
 follows_call : (d : Domain) (c : Call) → Follows d (after_call d c)
-follows_call d c = follows_either (is_refusal (reply_to d c)) d (granted d c) (follows_granted d c)
+follows_call d c = follows_either (is_refusal (reply_to d c)) d (after_granted d c) (follows_granted d c)
 
 told_later : (d e : Domain) (hs : List Happened) → Follows d e → All (IsToldIn d) hs → All (IsToldIn e) hs
 told_later d e hs f are =
@@ -294,7 +294,7 @@ tick_in : (d : Domain) → HasKnown d → All (IsToldIn (ticked d)) (told_by_tic
 tick_in d has =
     let e : Domain = ticked d in
     let f : Follows d e = follows_tick d d (follows_still d d refl refl refl) in
-    All-append (IsToldIn e) (told_by_beginning d) (told_by_end (begun d)) (told_later d e (told_by_beginning d) f (beginning_in d has)) (ending_in (begun d) (begun_known d has))
+    All-append (IsToldIn e) (told_by_beginning d) (told_by_end (with_tick_begun d)) (told_later d e (told_by_beginning d) f (beginning_in d has)) (ending_in (with_tick_begun d) (begun_known d has))
 
 ticks_in : (n : ℕ) (d : Domain) → HasKnown d → All (IsToldIn (ticks n d)) (told_by_ticks n d)
 ticks_in zero d has = All-nil (IsToldIn d)
@@ -307,25 +307,25 @@ cut_in : (d : Domain) (number : ℕ) → HasKnown d → All (IsToldIn d) (told_b
 cut_in d number has =
     let test : Task → Bool = λ t. eqb t.number number in
     let ts = filter test d.tasks in
-    All-map (IsToldIn d) (λ (t : Task). told d.time t Cut) ts
-    (All-weaker (IsKnown d.cpus d.used) (λ t. IsToldIn d (told d.time t Cut)) (λ t is. told_known d d.time t Cut (omega arith) is) ts (All-filter test (IsKnown d.cpus d.used) d.tasks has.known))
+    All-map (IsToldIn d) (λ (t : Task). happened_to d.time t Cut) ts
+    (All-weaker (IsKnown d.cpus d.used) (λ t. IsToldIn d (happened_to d.time t Cut)) (λ t is. told_known d d.time t Cut (omega arith) is) ts (All-filter test (IsKnown d.cpus d.used) d.tasks has.known))
 
-granted_in : (d : Domain) (c : Call) → HasKnown d → All (IsToldIn (granted d c)) (told_by_granted d c)
-granted_in d (Admit number name params delay script) has = All-nil (IsToldIn (granted d (Admit number name params delay script)))
-granted_in d (Regrade number params word) has = All-nil (IsToldIn (granted d (Regrade number params word)))
-granted_in d (Wake number) has = All-nil (IsToldIn (granted d (Wake number)))
-granted_in d (Leave number) has = told_later d (granted d (Leave number)) (told_by_cut d number) (follows_granted d (Leave number)) (cut_in d number has)
+granted_in : (d : Domain) (c : Call) → HasKnown d → All (IsToldIn (after_granted d c)) (told_by_granted d c)
+granted_in d (Admit number name params delay script) has = All-nil (IsToldIn (after_granted d (Admit number name params delay script)))
+granted_in d (Regrade number params word) has = All-nil (IsToldIn (after_granted d (Regrade number params word)))
+granted_in d (Wake number) has = All-nil (IsToldIn (after_granted d (Wake number)))
+granted_in d (Leave number) has = told_later d (after_granted d (Leave number)) (told_by_cut d number) (follows_granted d (Leave number)) (cut_in d number has)
 granted_in d (Advance n) has = ticks_in n d has
-granted_in d (Limit limit word) has = All-nil (IsToldIn (granted d (Limit limit word)))
-granted_in d (Depart number) has = told_later d (granted d (Depart number)) (told_by_cut d number) (follows_granted d (Depart number)) (cut_in d number has)
-granted_in d (Arrive number name params script) has = All-nil (IsToldIn (granted d (Arrive number name params script)))
+granted_in d (Limit limit word) has = All-nil (IsToldIn (after_granted d (Limit limit word)))
+granted_in d (Depart number) has = told_later d (after_granted d (Depart number)) (told_by_cut d number) (follows_granted d (Depart number)) (cut_in d number has)
+granted_in d (Arrive number name params script) has = All-nil (IsToldIn (after_granted d (Arrive number name params script)))
 
 either_in : (b : Bool) (d e : Domain) (hs : List Happened) → All (IsToldIn e) hs → All (IsToldIn (cond b d e)) (cond b [] hs)
 either_in true d e hs are = All-nil (IsToldIn d)
 either_in false d e hs are = are
 
 call_in : (d : Domain) (c : Call) → HasKnown d → All (IsToldIn (after_call d c)) (told_by_call d c)
-call_in d c has = either_in (is_refusal (reply_to d c)) d (granted d c) (told_by_granted d c) (granted_in d c has)
+call_in d c has = either_in (is_refusal (reply_to d c)) d (after_granted d c) (told_by_granted d c) (granted_in d c has)
 
 -- ---- A RUN
 
@@ -351,12 +351,12 @@ calls_rise d (c ∷ calls) hs has to =
     (calls_rise e calls (hs ++ told_by_call d c) (has_call d c has) (call_rises d c hs has.numbered to))
 
 -- what a run tells: until its time, on its CPUs, of those whom it admitted
-pub run_tells : (cpus limit : ℕ) (calls : List Call) → 0 < cpus → All (IsToldIn (run_of cpus limit calls)) (told_by_calls (opened cpus limit) calls)
-run_tells cpus limit calls some = calls_in (opened cpus limit) calls (has_opened cpus limit some)
+pub run_tells : (cpus limit : ℕ) (calls : List Call) → 0 < cpus → All (IsToldIn (run_of cpus limit calls)) (told_by_calls (empty_domain cpus limit) calls)
+run_tells cpus limit calls some = calls_in (empty_domain cpus limit) calls (has_opened cpus limit some)
 
 -- and it rises
-pub run_rises : (cpus limit : ℕ) (calls : List Call) → 0 < cpus → IsRising (told_by_calls (opened cpus limit) calls)
-run_rises cpus limit calls some = (calls_rise (opened cpus limit) calls [] (has_opened cpus limit some) (none_rises 0)).rising
+pub run_rises : (cpus limit : ℕ) (calls : List Call) → 0 < cpus → IsRising (told_by_calls (empty_domain cpus limit) calls)
+run_rises cpus limit calls some = (calls_rise (empty_domain cpus limit) calls [] (has_opened cpus limit some) (none_rises 0)).rising
 
 pub run_cpus : (cpus limit : ℕ) (calls : List Call) → (run_of cpus limit calls).cpus ≡ cpus
-run_cpus cpus limit calls = (follows_calls (opened cpus limit) calls).cpus
+run_cpus cpus limit calls = (follows_calls (empty_domain cpus limit) calls).cpus

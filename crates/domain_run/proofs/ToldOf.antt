@@ -11,12 +11,12 @@ use Rattle.task_script.specs.declared.script.Segment.TheVariants.{Run as RunFor,
 use Rattle.domain_run.specs.declared.happened.What.{What}
 use Rattle.domain_run.specs.declared.happened.What.TheVariants.{JobEnds, NextReleased, Spent, Replenished, Released, WokenSpent}
 use Rattle.domain_run.specs.declared.happened.Happened.{Happened}
-use Rattle.task_script.specs.script.Segments.{passes_late_timer, asked}
+use Rattle.task_script.specs.script.Segments.{passes_late_timer, next_segment}
 use Rattle.domain_run.specs.Conditions.{is_throttled, is_over, has_come}
 use Rattle.domain_run.specs.Parts.{replenish_due, unblocked, ran}
 use Rattle.domain_run.specs.Domain.{Domain}
 use Rattle.domain_run.specs.Tick.{rate_of}
-use Rattle.domain_run.specs.Happened.{told, due, job_due, told_by_segment, told_by_work, told_by_budget, told_by_run, told_if_ran, told_by_replenishment, told_by_wake, told_by_unblocking, rank, with_happened, in_order, is_first}
+use Rattle.domain_run.specs.Happened.{happened_to, due, job_due, told_by_segment, told_by_work, told_by_budget, told_by_run, told_if_ran, told_by_replenishment, told_by_wake, told_by_unblocking, kind_rank, with_happened, in_order, is_first}
 use Rattle.domain_run.proofs.Keeping.{Same, same_ran}
 
 -- ---- each of a list
@@ -56,47 +56,47 @@ each_task Q P f (t ∷ tasks) tells all = All-append P (f t) (flat_map f tasks) 
 
 -- ---- WHERE A TICK BEGINS
 
-pub each_replenishment : (P : Happened → Type 0) (time : ℕ) (t : Task) → ((w : What) → rank w ≡ 4 → P (told time t w)) → All P (told_by_replenishment time t)
+pub each_replenishment : (P : Happened → Type 0) (time : ℕ) (t : Task) → ((w : What) → kind_rank w ≡ 4 → P (happened_to time t w)) → All P (told_by_replenishment time t)
 each_replenishment P time t is =
     let w : What = Replenished (due (replenish_due time t)) in
-    each_if P (is_throttled t.condition && has_come time t.server.deadline) (told time t w ∷ []) (each_one P (told time t w) (is w refl))
+    each_if P (is_throttled t.condition && has_come time t.server.deadline) (happened_to time t w ∷ []) (each_one P (happened_to time t w) (is w refl))
 
-pub each_wake : (P : Happened → Type 0) (time : ℕ) (t woken : Task) (s : Segment) → ((w : What) → 4 < rank w → P (told time t w)) → All P (told_by_wake time t woken s)
+pub each_wake : (P : Happened → Type 0) (time : ℕ) (t woken : Task) (s : Segment) → ((w : What) → 4 < kind_rank w → P (happened_to time t w)) → All P (told_by_wake time t woken s)
 each_wake P time t woken (RunFor n) is =
     let v : What = Released (job_due time t) in
     let w : What = WokenSpent (due woken) in
-    All-cons P (told time t v) (cond (is_throttled woken.condition) (told time t w ∷ []) []) (is v (omega arith)) (each_if P (is_throttled woken.condition) (told time t w ∷ []) (each_one P (told time t w) (is w (omega arith))))
+    All-cons P (happened_to time t v) (cond (is_throttled woken.condition) (happened_to time t w ∷ []) []) (is v (omega arith)) (each_if P (is_throttled woken.condition) (happened_to time t w ∷ []) (each_one P (happened_to time t w) (is w (omega arith))))
 each_wake P time t woken (Until n) is = All-nil P
 each_wake P time t woken WaitFor is = All-nil P
 each_wake P time t woken EndNow is = All-nil P
 
-pub each_unblocking : (P : Happened → Type 0) (time : ℕ) (t : Task) → ((w : What) → 4 < rank w → P (told time t w)) → All P (told_by_unblocking time t)
+pub each_unblocking : (P : Happened → Type 0) (time : ℕ) (t : Task) → ((w : What) → 4 < kind_rank w → P (happened_to time t w)) → All P (told_by_unblocking time t)
 each_unblocking P time t is =
-    each_if P (is_over time t.condition) (told_by_wake time t (unblocked time t) (asked t.cursor time).segment) (each_wake P time t (unblocked time t) (asked t.cursor time).segment is)
+    each_if P (is_over time t.condition) (told_by_wake time t (unblocked time t) (next_segment t.cursor time).segment) (each_wake P time t (unblocked time t) (next_segment t.cursor time).segment is)
 
 -- ---- WHERE A TICK ENDS
 
-pub each_segment : (P : Happened → Type 0) (time : ℕ) (t : Task) (late : Bool) (s : Segment) → ((w : What) → rank w < 2 → P (told time t w)) → All P (told_by_segment time t late s)
+pub each_segment : (P : Happened → Type 0) (time : ℕ) (t : Task) (late : Bool) (s : Segment) → ((w : What) → kind_rank w < 2 → P (happened_to time t w)) → All P (told_by_segment time t late s)
 each_segment P time t late (RunFor n) is =
     let w : What = NextReleased (job_due time t) in
-    each_if P late (told time t JobEnds ∷ told time t w ∷ []) (each_two P (told time t JobEnds) (told time t w) (is JobEnds (omega arith)) (is w (omega arith)))
-each_segment P time t late (Until n) is = each_one P (told time t JobEnds) (is JobEnds (omega arith))
-each_segment P time t late WaitFor is = each_one P (told time t JobEnds) (is JobEnds (omega arith))
-each_segment P time t late EndNow is = each_one P (told time t JobEnds) (is JobEnds (omega arith))
+    each_if P late (happened_to time t JobEnds ∷ happened_to time t w ∷ []) (each_two P (happened_to time t JobEnds) (happened_to time t w) (is JobEnds (omega arith)) (is w (omega arith)))
+each_segment P time t late (Until n) is = each_one P (happened_to time t JobEnds) (is JobEnds (omega arith))
+each_segment P time t late WaitFor is = each_one P (happened_to time t JobEnds) (is JobEnds (omega arith))
+each_segment P time t late EndNow is = each_one P (happened_to time t JobEnds) (is JobEnds (omega arith))
 
-pub each_work : (P : Happened → Type 0) (time : ℕ) (t : Task) → ((w : What) → rank w < 2 → P (told time t w)) → All P (told_by_work time t)
+pub each_work : (P : Happened → Type 0) (time : ℕ) (t : Task) → ((w : What) → kind_rank w < 2 → P (happened_to time t w)) → All P (told_by_work time t)
 each_work P time t is =
     let late = passes_late_timer t.cursor time in
-    let s = (asked t.cursor time).segment in
+    let s = (next_segment t.cursor time).segment in
     each_if P (eqb t.work 0) (told_by_segment time t late s) (each_segment P time t late s is)
 
-pub each_budget : (P : Happened → Type 0) (time : ℕ) (t : Task) → ((w : What) → rank w ≡ 2 → P (told time t w)) → All P (told_by_budget time t)
+pub each_budget : (P : Happened → Type 0) (time : ℕ) (t : Task) → ((w : What) → kind_rank w ≡ 2 → P (happened_to time t w)) → All P (told_by_budget time t)
 each_budget P time t is =
     let w : What = Spent (due t) in
-    each_if P (is_throttled t.condition) (told time t w ∷ []) (each_one P (told time t w) (is w refl))
+    each_if P (is_throttled t.condition) (happened_to time t w ∷ []) (each_one P (happened_to time t w) (is w refl))
 
 -- of the same task, as far as who it is
-pub each_run : (P : Happened → Type 0) (time rate : ℕ) (t : Task) → ((u : Task) → Same t u → (w : What) → rank w < 3 → P (told (time + 1) u w)) → All P (told_by_run time rate t)
+pub each_run : (P : Happened → Type 0) (time rate : ℕ) (t : Task) → ((u : Task) → Same t u → (w : What) → kind_rank w < 3 → P (happened_to (time + 1) u w)) → All P (told_by_run time rate t)
 each_run P time rate t is =
     let x : Task = record t { server = charged rate 1 t.server; work = t.work - 1 } in
     let y : Task = ran time rate t in
@@ -104,5 +104,5 @@ each_run P time rate t is =
     (each_work P (time + 1) x (λ w low. is x (record { number = refl; params = refl; cpu = refl }) w (omega (arith, low))))
     (each_budget P (time + 1) y (λ w at. is y (same_ran time rate t) w (omega (arith, at))))
 
-pub each_end : (P : Happened → Type 0) (d : Domain) (t : Task) → ((u : Task) → Same t u → (w : What) → rank w < 3 → P (told (d.time + 1) u w)) → All P (told_if_ran d t)
+pub each_end : (P : Happened → Type 0) (d : Domain) (t : Task) → ((u : Task) → Same t u → (w : What) → kind_rank w < 3 → P (happened_to (d.time + 1) u w)) → All P (told_if_ran d t)
 each_end P d t is = each_if P (stands t.number d.curr) (told_by_run d.time (rate_of d t) t) (each_run P d.time (rate_of d t) t is)

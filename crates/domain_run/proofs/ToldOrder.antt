@@ -4,24 +4,24 @@ use Rattle.std.specs.Prelude.{All, ◌⊎◌}
 use Rattle.std.specs.Cmp.{IsStrictWeakOrder}
 use Rattle.std.proofs.lemmas.Bool.{or_cases, or_left, or_right, and_parts, and_from, ltb-true, eqb-true, lt-ltb, both_ways, false_from_ne_true, cases_order}
 use Rattle.domain_run.specs.declared.happened.Happened.{Happened}
-use Rattle.domain_run.specs.Happened.{rank, is_first}
+use Rattle.domain_run.specs.Happened.{kind_rank, is_first}
 use Rattle.domain_run.specs.private.Telling.{IsApart}
 
 -- ---- the test, of three numbers each
 
 abbrev pub Precedes : Happened → Happened → Type 0
-Precedes a b = (rank a.what < rank b.what) ⊎ ((rank a.what ≡ rank b.what) × ((a.cpu < b.cpu) ⊎ ((a.cpu ≡ b.cpu) × (a.number < b.number))))
+Precedes a b = (kind_rank a.what < kind_rank b.what) ⊎ ((kind_rank a.what ≡ kind_rank b.what) × ((a.cpu < b.cpu) ⊎ ((a.cpu ≡ b.cpu) × (a.number < b.number))))
 
 tells : (a b : Happened) → is_first a b ≡ true → Precedes a b
 tells a b h =
-    let same = eqb (rank a.what) (rank b.what) in
+    let same = eqb (kind_rank a.what) (kind_rank b.what) in
     let behind = ltb a.cpu b.cpu || (eqb a.cpu b.cpu && ltb a.number b.number) in
-    elim (or_cases (ltb (rank a.what) (rank b.what)) (same && behind) h) [
-      | inl x ↦ inl (ltb-true (rank a.what) (rank b.what) x)
+    elim (or_cases (ltb (kind_rank a.what) (kind_rank b.what)) (same && behind) h) [
+      | inl x ↦ inl (ltb-true (kind_rank a.what) (kind_rank b.what) x)
       | inr y ↦
           let p = and_parts same behind y in
           inr (
-            eqb-true (rank a.what) (rank b.what) p.0,
+            eqb-true (kind_rank a.what) (kind_rank b.what) p.0,
             elim (or_cases (ltb a.cpu b.cpu) (eqb a.cpu b.cpu && ltb a.number b.number) p.1) [
               | inl x ↦ inl (ltb-true a.cpu b.cpu x)
               | inr z ↦ let q = and_parts (eqb a.cpu b.cpu) (ltb a.number b.number) z in inr (eqb-true a.cpu b.cpu q.0, ltb-true a.number b.number q.1)
@@ -30,11 +30,11 @@ tells a b h =
     ]
 
 pub passes : (a b : Happened) → Precedes a b → is_first a b ≡ true
-passes a b (inl x) = or_left (ltb (rank a.what) (rank b.what)) (eqb (rank a.what) (rank b.what) && (ltb a.cpu b.cpu || (eqb a.cpu b.cpu && ltb a.number b.number))) (lt-ltb (rank a.what) (rank b.what) x)
+passes a b (inl x) = or_left (ltb (kind_rank a.what) (kind_rank b.what)) (eqb (kind_rank a.what) (kind_rank b.what) && (ltb a.cpu b.cpu || (eqb a.cpu b.cpu && ltb a.number b.number))) (lt-ltb (kind_rank a.what) (kind_rank b.what) x)
 passes a b (inr (same, rest)) =
     let behind = ltb a.cpu b.cpu || (eqb a.cpu b.cpu && ltb a.number b.number) in
-    or_right (ltb (rank a.what) (rank b.what)) (eqb (rank a.what) (rank b.what) && behind)
-    (and_from (eqb (rank a.what) (rank b.what)) behind (eq-eqb (rank a.what) (rank b.what) same) (elim rest [
+    or_right (ltb (kind_rank a.what) (kind_rank b.what)) (eqb (kind_rank a.what) (kind_rank b.what) && behind)
+    (and_from (eqb (kind_rank a.what) (kind_rank b.what)) behind (eq-eqb (kind_rank a.what) (kind_rank b.what) same) (elim rest [
       | inl x ↦ or_left (ltb a.cpu b.cpu) (eqb a.cpu b.cpu && ltb a.number b.number) (lt-ltb a.cpu b.cpu x)
       | inr y ↦ or_right (ltb a.cpu b.cpu) (eqb a.cpu b.cpu && ltb a.number b.number) (and_from (eqb a.cpu b.cpu) (ltb a.number b.number) (eq-eqb a.cpu b.cpu y.0) (lt-ltb a.number b.number y.1))
     ]))
@@ -63,7 +63,7 @@ reverse a b h = false_from_ne_true (is_first b a) (λ k. never a (through a b a 
 
 either : (a b : Happened) → IsApart a b → Precedes a b ⊎ Precedes b a
 either a b apart =
-    elim (cases_order (rank a.what) (rank b.what)) [
+    elim (cases_order (kind_rank a.what) (kind_rank b.what)) [
       | inl s ↦ elim (cases_order a.cpu b.cpu) [
         | inl u ↦ elim (cases_order a.number b.number) [
           | inl e ↦ elim apart [ inl x ↦ absurd (x s) | inr y ↦ absurd (y e) ]
@@ -90,23 +90,23 @@ AreApart hs gs = All (λ a. All (IsApart a) gs) hs
 
 -- ---- where one precedes another, it precedes whatever does not precede that one
 
-rank_past : (a b c : Happened) → rank b.what < rank a.what → Precedes a c → Precedes b c
+rank_past : (a b c : Happened) → kind_rank b.what < kind_rank a.what → Precedes a c → Precedes b c
 rank_past a b c x (inl y) = inl (omega (arith, x, y))
 rank_past a b c x (inr (s, r)) = inl (omega (arith, x, s))
 
-cpu_past : (a b c : Happened) → rank a.what ≡ rank b.what → b.cpu < a.cpu → Precedes a c → Precedes b c
+cpu_past : (a b c : Happened) → kind_rank a.what ≡ kind_rank b.what → b.cpu < a.cpu → Precedes a c → Precedes b c
 cpu_past a b c e x (inl y) = inl (omega (arith, e, y))
 cpu_past a b c e x (inr (s, inl y)) = inr (sym e ∙ s, inl (omega (arith, x, y)))
 cpu_past a b c e x (inr (s, inr (u, y))) = inr (sym e ∙ s, inl (omega (arith, x, u)))
 
-number_past : (a b c : Happened) → rank a.what ≡ rank b.what → a.cpu ≡ b.cpu → b.number ≤ a.number → Precedes a c → Precedes b c
+number_past : (a b c : Happened) → kind_rank a.what ≡ kind_rank b.what → a.cpu ≡ b.cpu → b.number ≤ a.number → Precedes a c → Precedes b c
 number_past a b c e f x (inl y) = inl (omega (arith, e, y))
 number_past a b c e f x (inr (s, inl y)) = inr (sym e ∙ s, inl (omega (arith, f, y)))
 number_past a b c e f x (inr (s, inr (u, y))) = inr (sym e ∙ s, inr (sym f ∙ u, omega (arith, x, y)))
 
 between : (a b c : Happened) → Precedes a c → Precedes a b ⊎ Precedes b c
 between a b c less =
-    elim (cases_order (rank a.what) (rank b.what)) [
+    elim (cases_order (kind_rank a.what) (kind_rank b.what)) [
       | inl e ↦ elim (cases_order a.cpu b.cpu) [
         | inl f ↦ elim (cases_order a.number b.number) [
           | inl g ↦ inr (number_past a b c e f (omega (arith, g)) less)

@@ -15,13 +15,13 @@ use Rattle.domain_run.specs.declared.happened.What.TheVariants.{JobEnds, NextRel
 use Rattle.domain_run.specs.declared.happened.Happened.{Happened}
 use Rattle.domain_run.specs.declared.call.Call.{Call}
 use Rattle.domain_run.specs.declared.call.Call.TheVariants.{Admit, Regrade, Wake, Leave, Advance, Limit, Depart, Arrive}
-use Rattle.task_script.specs.script.Segments.{passes_late_timer, asked}
+use Rattle.task_script.specs.script.Segments.{passes_late_timer, next_segment}
 use Rattle.domain_run.specs.Conditions.{is_throttled, is_over, has_come}
 use Rattle.domain_run.specs.Parts.{replenish_due, settled, is_listed, unblocked, with_last_cpu, ran}
 use Rattle.domain_run.specs.Domain.{Domain}
-use Rattle.domain_run.specs.Tick.{begun, prepared, rate_of, ticks}
-use Rattle.domain_run.specs.Calls.{reply_to, is_refusal, granted, after_call}
-use Rattle.domain_run.specs.Happened.{told, due, job_due, told_by_segment, told_by_work, told_by_budget, told_by_run, told_if_ran, told_by_replenishment, told_by_wake, told_by_unblocking, rank, is_first, at_home, told_to_begin, told_by_beginning, told_by_end, told_by_tick, told_by_ticks, told_by_cut, told_by_granted, told_by_call}
+use Rattle.domain_run.specs.Tick.{with_tick_begun, prepared, rate_of, ticks}
+use Rattle.domain_run.specs.Calls.{reply_to, is_refusal, after_granted, after_call}
+use Rattle.domain_run.specs.Happened.{happened_to, due, job_due, told_by_segment, told_by_work, told_by_budget, told_by_run, told_if_ran, told_by_replenishment, told_by_wake, told_by_unblocking, kind_rank, is_first, with_its_cpu, told_to_begin, told_by_beginning, told_by_end, told_by_tick, told_by_ticks, told_by_cut, told_by_granted, told_by_call}
 use Rattle.domain_run.proofs.Keeping.{same_replenished, same_settled, AllPairs-map}
 use Rattle.domain_run.proofs.KeptKeys.{AreNumbered, ticks_numbered, others_first, others_rest}
 use Rattle.domain_run.proofs.OrderTicks.{prepared_apart}
@@ -41,11 +41,11 @@ abbrev pub IsSooner : Happened → Happened → Type 0
 IsSooner a b = (a.time < b.time) ⊎ ((a.time ≡ b.time) × (is_first a b ≡ true))
 
 abbrev pub IsCut : Happened → Type 0
-IsCut h = rank h.what ≡ 3
+IsCut h = kind_rank h.what ≡ 3
 
 -- where neither is a cut, the first is sooner
 abbrev pub IsSoonerUnlessCut : Happened → Happened → Type 0
-IsSoonerUnlessCut a b = (rank a.what ≢ 3) → (rank b.what ≢ 3) → IsSooner a b
+IsSoonerUnlessCut a b = (kind_rank a.what ≢ 3) → (kind_rank b.what ≢ 3) → IsSooner a b
 
 abbrev pub IsRising : List Happened → Type 0
 IsRising hs = AllPairs IsSoonerUnlessCut hs
@@ -67,13 +67,13 @@ rising_at time hs at before i j d less within x y = inr (at i d (omega (arith, l
 
 -- ---- of one task
 
-by_rank : (a b : Happened) → rank a.what < rank b.what → IsApart a b
+by_rank : (a b : Happened) → kind_rank a.what < kind_rank b.what → IsApart a b
 by_rank a b less = inl (λ e. absurd (omega (arith, less, e)))
 
 apart_one : (h : Happened) → AllPairs IsApart (h ∷ [])
 apart_one h = AllPairs-cons IsApart h [] (All-nil (IsApart h)) (pairs_none IsApart)
 
-apart_two : (h g : Happened) → rank h.what < rank g.what → AllPairs IsApart (h ∷ g ∷ [])
+apart_two : (h g : Happened) → kind_rank h.what < kind_rank g.what → AllPairs IsApart (h ∷ g ∷ [])
 apart_two h g less = AllPairs-cons IsApart h (g ∷ []) (All-cons (IsApart h) g [] (by_rank h g less) (All-nil (IsApart h))) (apart_one g)
 
 apart_if : (b : Bool) (hs : List Happened) → AllPairs IsApart hs → AllPairs IsApart (cond b hs [])
@@ -82,17 +82,17 @@ apart_if false hs apart = pairs_none IsApart
 
 apart_replenishment : (time : ℕ) (t : Task) → AllPairs IsApart (told_by_replenishment time t)
 apart_replenishment time t =
-    let h : Happened = told time t (Replenished (due (replenish_due time t))) in
+    let h : Happened = happened_to time t (Replenished (due (replenish_due time t))) in
     apart_if (is_throttled t.condition && has_come time t.server.deadline) (h ∷ []) (apart_one h)
 
 apart_wake : (time : ℕ) (t woken : Task) (s : Segment) → AllPairs IsApart (told_by_wake time t woken s)
 apart_wake time t woken (RunFor n) = by_throttle (is_throttled woken.condition)
   where
     h : Happened
-    h = told time t (Released (job_due time t))
+    h = happened_to time t (Released (job_due time t))
 
     g : Happened
-    g = told time t (WokenSpent (due woken))
+    g = happened_to time t (WokenSpent (due woken))
 
     by_throttle : (b : Bool) → AllPairs IsApart (h ∷ cond b (g ∷ []) [])
     by_throttle true = apart_two h g (omega arith)
@@ -103,26 +103,26 @@ apart_wake time t woken EndNow = pairs_none IsApart
 
 apart_unblocking : (time : ℕ) (t : Task) → AllPairs IsApart (told_by_unblocking time t)
 apart_unblocking time t =
-    let s = (asked t.cursor time).segment in
+    let s = (next_segment t.cursor time).segment in
     apart_if (is_over time t.condition) (told_by_wake time t (unblocked time t) s) (apart_wake time t (unblocked time t) s)
 
 apart_segment : (time : ℕ) (t : Task) (late : Bool) (s : Segment) → AllPairs IsApart (told_by_segment time t late s)
 apart_segment time t late (RunFor n) =
-    let h : Happened = told time t JobEnds in
-    let g : Happened = told time t (NextReleased (job_due time t)) in
+    let h : Happened = happened_to time t JobEnds in
+    let g : Happened = happened_to time t (NextReleased (job_due time t)) in
     apart_if late (h ∷ g ∷ []) (apart_two h g (omega arith))
-apart_segment time t late (Until n) = apart_one (told time t JobEnds)
-apart_segment time t late WaitFor = apart_one (told time t JobEnds)
-apart_segment time t late EndNow = apart_one (told time t JobEnds)
+apart_segment time t late (Until n) = apart_one (happened_to time t JobEnds)
+apart_segment time t late WaitFor = apart_one (happened_to time t JobEnds)
+apart_segment time t late EndNow = apart_one (happened_to time t JobEnds)
 
 -- work that ends, and a budget that does
 apart_both : (later : ℕ) (x y : Task) → AllPairs IsApart (told_by_work later x ++ told_by_budget later y)
 apart_both later x y =
     let late = passes_late_timer x.cursor later in
-    let s = (asked x.cursor later).segment in
-    let h : Happened = told later y (Spent (due y)) in
-    let low : Happened → Type 0 = λ g. rank g.what < 2 in
-    let high : Happened → Type 0 = λ g. rank g.what ≡ 2 in
+    let s = (next_segment x.cursor later).segment in
+    let h : Happened = happened_to later y (Spent (due y)) in
+    let low : Happened → Type 0 = λ g. kind_rank g.what < 2 in
+    let high : Happened → Type 0 = λ g. kind_rank g.what ≡ 2 in
     pairs_append IsApart (told_by_work later x) (told_by_budget later y)
     (apart_if (eqb x.work 0) (told_by_segment later x late s) (apart_segment later x late s))
     (apart_if (is_throttled y.condition) (h ∷ []) (apart_one h))
@@ -169,10 +169,10 @@ paying_apart time running ticks budgets tasks numbered = apart_tasks (told_paid 
 -- ---- WHERE A TICK BEGINS, and where it ends
 
 abbrev pub IsBeginning : ℕ → Happened → Type 0
-IsBeginning time h = (h.time ≡ time) × (3 < rank h.what)
+IsBeginning time h = (h.time ≡ time) × (3 < kind_rank h.what)
 
 abbrev pub IsEnd : ℕ → Happened → Type 0
-IsEnd time h = (h.time ≡ time) × (rank h.what < 3)
+IsEnd time h = (h.time ≡ time) × (kind_rank h.what < 3)
 
 -- what parts 1 to 3 tell, before it is in its order
 abbrev replenished_tell : Domain → List Happened
@@ -192,10 +192,10 @@ whichever : (tasks : List Task) → All IsWhichever tasks
 whichever tasks k d h = tt
 
 abbrev IsReplenishment : ℕ → Happened → Type 0
-IsReplenishment time h = (h.time ≡ time) × (rank h.what ≡ 4)
+IsReplenishment time h = (h.time ≡ time) × (kind_rank h.what ≡ 4)
 
 abbrev IsWake : ℕ → Happened → Type 0
-IsWake time h = (h.time ≡ time) × (4 < rank h.what)
+IsWake time h = (h.time ≡ time) × (4 < kind_rank h.what)
 
 replenished_are : (d : Domain) → All (IsReplenishment d.time) (replenished_tell d)
 replenished_are d = each_task IsWhichever (IsReplenishment d.time) (told_by_replenishment d.time) d.tasks (λ t which. each_replenishment (IsReplenishment d.time) d.time t (λ w at. (refl, at))) (whichever d.tasks)
@@ -204,9 +204,9 @@ woken_are : (d : Domain) → All (IsWake d.time) (woken_tell d)
 woken_are d = each_task IsWhichever (IsWake d.time) (told_by_unblocking d.time) (left_listed d) (λ t which. each_unblocking (IsWake d.time) d.time t (λ w at. (refl, at))) (whichever (left_listed d))
 
 -- on another CPU each is what it was, of its kind and its number
-each_home : (P : Happened → Type 0) (d : Domain) → ((h : Happened) → P h → P (at_home (begun d).curr h)) → All P (told_to_begin d) → All P (told_by_beginning d)
+each_home : (P : Happened → Type 0) (d : Domain) → ((h : Happened) → P h → P (with_its_cpu (with_tick_begun d).curr h)) → All P (told_to_begin d) → All P (told_by_beginning d)
 each_home P d keeps all =
-    let f = at_home (begun d).curr in
+    let f = with_its_cpu (with_tick_begun d).curr in
     each_in_order P (map f (told_to_begin d)) (All-map P f (told_to_begin d) (All-weaker P (λ h. P (f h)) keeps (told_to_begin d) all))
 
 pub beginning_is : (d : Domain) → All (IsBeginning d.time) (told_by_beginning d)
@@ -240,7 +240,7 @@ beginning_apart d numbered =
 
 beginning_rises : (d : Domain) → AreNumbered d.tasks → IsRising (told_by_beginning d)
 beginning_rises d numbered =
-    let f = at_home (begun d).curr in
+    let f = with_its_cpu (with_tick_begun d).curr in
     let apart : AllPairs IsApart (map f (told_to_begin d)) = AllPairs-map IsApart f (λ a b h. h) (told_to_begin d) (beginning_apart d numbered) in
     rising_at d.time (told_by_beginning d) (All-weaker (IsBeginning d.time) (λ h. h.time ≡ d.time) (λ h p. p.0) (told_by_beginning d) (beginning_is d)) (in_order_first (map f (told_to_begin d)) apart)
 
@@ -256,7 +256,7 @@ ending_rises d numbered =
 -- ---- TICKS: what is told is told until a time, and the next beginning is behind it
 
 abbrev IsPast : ℕ → Happened → Type 0
-IsPast time h = (h.time < time) ⊎ ((h.time ≡ time) × (rank h.what < 4))
+IsPast time h = (h.time < time) ⊎ ((h.time ≡ time) × (kind_rank h.what < 4))
 
 pub record RisesTo (time : ℕ) (hs : List Happened) : Type 0 where
   pub rising : IsRising hs
@@ -283,8 +283,8 @@ begins_past time a is = inl (omega (arith, is.0))
 ends_past : (time : ℕ) (a : Happened) → IsEnd time a → IsPast time a
 ends_past time a is = inr (is.0, omega (arith, is.1))
 
-begun_numbered : (d : Domain) → AreNumbered d.tasks → AreNumbered (begun d).tasks
-begun_numbered d numbered = numbered_map (with_last_cpu (begun d).curr) (homed_keeps (begun d).curr) (prepared d.time d.tasks) (prepared_apart d.time d.tasks numbered)
+begun_numbered : (d : Domain) → AreNumbered d.tasks → AreNumbered (with_tick_begun d).tasks
+begun_numbered d numbered = numbered_map (with_last_cpu (with_tick_begun d).curr) (homed_keeps (with_tick_begun d).curr) (prepared d.time d.tasks) (prepared_apart d.time d.tasks numbered)
 
 with_beginning : (d : Domain) (hs : List Happened) → AreNumbered d.tasks → RisesTo d.time hs → IsRising (hs ++ told_by_beginning d)
 with_beginning d hs numbered to =
@@ -311,7 +311,7 @@ all_before d hs to =
 tick_rises : (d : Domain) (hs : List Happened) → AreNumbered d.tasks → RisesTo d.time hs → RisesTo (d.time + 1) (hs ++ told_by_tick d)
 tick_rises d hs numbered to =
     let front = told_by_beginning d in
-    let b : Domain = begun d in
+    let b : Domain = with_tick_begun d in
     let back = told_by_end b in
     let later : ℕ = d.time + 1 in
     let ends : All (IsEnd later) back = ending_is b in
@@ -334,13 +334,13 @@ ticks_rise (suc n) d hs numbered to =
 
 -- ---- A CALL
 
-cuts_are : (time : ℕ) (tasks : List Task) → All (λ h. (h.time ≡ time) × IsCut h) (map (λ t. told time t Cut) tasks)
-cuts_are time tasks = All-map (λ (h : Happened). (h.time ≡ time) × IsCut h) (λ (t : Task). told time t Cut) tasks (λ k d h. (refl, refl))
+cuts_are : (time : ℕ) (tasks : List Task) → All (λ h. (h.time ≡ time) × IsCut h) (map (λ t. happened_to time t Cut) tasks)
+cuts_are time tasks = All-map (λ (h : Happened). (h.time ≡ time) × IsCut h) (λ (t : Task). happened_to time t Cut) tasks (λ k d h. (refl, refl))
 
 cut_rises : (d : Domain) (number : ℕ) (hs : List Happened) → RisesTo d.time hs → RisesTo d.time (hs ++ told_by_cut d number)
 cut_rises d number hs to =
     let ts = filter (λ (t : Task). eqb t.number number) d.tasks in
-    let cuts = map (λ (t : Task). told d.time t Cut) ts in
+    let cuts = map (λ (t : Task). happened_to d.time t Cut) ts in
     let are : All (λ h. (h.time ≡ d.time) × IsCut h) cuts = cuts_are d.time ts in
     record {
       rising = pairs_append IsSoonerUnlessCut hs cuts to.rising (λ i j x less within a b. absurd (b (are j x within).1))
@@ -348,7 +348,7 @@ cut_rises d number hs to =
       past = All-append (IsPast d.time) hs cuts to.past (All-weaker (λ h. (h.time ≡ d.time) × IsCut h) (IsPast d.time) (λ h p. inr (p.0, omega (arith, p.1))) cuts are);
     }
 
-granted_rises : (d : Domain) (c : Call) (hs : List Happened) → AreNumbered d.tasks → RisesTo d.time hs → RisesTo (granted d c).time (hs ++ told_by_granted d c)
+granted_rises : (d : Domain) (c : Call) (hs : List Happened) → AreNumbered d.tasks → RisesTo d.time hs → RisesTo (after_granted d c).time (hs ++ told_by_granted d c)
 granted_rises d (Admit number name params delay script) hs numbered to = with_none d.time hs to
 granted_rises d (Regrade number params word) hs numbered to = with_none d.time hs to
 granted_rises d (Wake number) hs numbered to = with_none d.time hs to
@@ -364,7 +364,7 @@ either_rises false d e hs gs to more = more
 
 -- what a call tells is behind all that was told before
 pub call_rises : (d : Domain) (c : Call) (hs : List Happened) → AreNumbered d.tasks → RisesTo d.time hs → RisesTo (after_call d c).time (hs ++ told_by_call d c)
-call_rises d c hs numbered to = either_rises (is_refusal (reply_to d c)) d (granted d c) hs (told_by_granted d c) to (granted_rises d c hs numbered to)
+call_rises d c hs numbered to = either_rises (is_refusal (reply_to d c)) d (after_granted d c) hs (told_by_granted d c) to (granted_rises d c hs numbered to)
 
 -- nothing was told at first
 pub none_rises : (time : ℕ) → RisesTo time []

@@ -12,13 +12,13 @@ use Rattle.domain_run.specs.declared.task.Task.{Task}
 use Rattle.domain_run.specs.declared.happened.Happened.{Happened}
 use Rattle.domain_run.specs.declared.happened.What.TheVariants.{Spent, Replenished}
 use Rattle.domain_run.specs.Conditions.{is_throttled}
-use Rattle.task_script.specs.script.Segments.{passes_late_timer, asked}
+use Rattle.task_script.specs.script.Segments.{passes_late_timer, next_segment}
 use Rattle.domain_run.specs.Parts.{replenish_due, settled, is_listed, unblocked}
 use Rattle.domain_run.specs.Domain.{Domain}
-use Rattle.domain_run.specs.Tick.{begun, rate_of, ticks}
+use Rattle.domain_run.specs.Tick.{with_tick_begun, rate_of, ticks}
 use Rattle.domain_run.specs.Jump.{under_way, ticks_to_due, ticks_to_due_of, ticks_to_event, running_numbers, AreCharged}
 use Rattle.domain_run.specs.Sound.{IsSteady, IsPlacement}
-use Rattle.domain_run.specs.Happened.{told, due, told_by_segment, told_by_work, told_by_budget, told_by_run, told_if_ran, told_by_replenishment, told_by_wake, told_by_unblocking, in_order, at_home, told_by_beginning, told_by_end, told_by_tick, told_by_ticks, told_by_last_end}
+use Rattle.domain_run.specs.Happened.{happened_to, due, told_by_segment, told_by_work, told_by_budget, told_by_run, told_if_ran, told_by_replenishment, told_by_wake, told_by_unblocking, in_order, with_its_cpu, told_by_beginning, told_by_end, told_by_tick, told_by_ticks, told_by_last_end}
 use Rattle.domain_run.specs.private.Paying.{ran_until, index_of}
 use Rattle.domain_run.specs.private.Telling.{told_until, told_paid, told_paid_at, told_of_parts, told_in_pay}
 use Rattle.domain_run.proofs.Staying.{map_itself}
@@ -31,22 +31,22 @@ use Rattle.domain_run.proofs.ToldChanges.{told_nothing, told_alike}
 pub parts_still : (time : ℕ) (tasks : List Task) → All (IsStill time) tasks → told_of_parts time tasks ≡ []
 parts_still time tasks still =
     let due_none : flat_map (told_by_replenishment time) tasks ≡ [] = told_nothing (told_by_replenishment time) tasks
-    (All-weaker (IsStill time) (λ t. told_by_replenishment time t ≡ []) (λ t is. ap (λ b. cond b (told time t (Replenished (due (replenish_due time t))) ∷ []) []) is.due) tasks still) in
+    (All-weaker (IsStill time) (λ t. told_by_replenishment time t ≡ []) (λ t is. ap (λ b. cond b (happened_to time t (Replenished (due (replenish_due time t))) ∷ []) []) is.due) tasks still) in
     let over_none : flat_map (told_by_unblocking time) tasks ≡ [] = told_nothing (told_by_unblocking time) tasks
-    (All-weaker (IsStill time) (λ t. told_by_unblocking time t ≡ []) (λ t is. ap (λ b. cond b (told_by_wake time t (unblocked time t) (asked t.cursor time).segment) []) is.over) tasks still) in
+    (All-weaker (IsStill time) (λ t. told_by_unblocking time t ≡ []) (λ t is. ap (λ b. cond b (told_by_wake time t (unblocked time t) (next_segment t.cursor time).segment) []) is.over) tasks still) in
     let due : map (replenish_due time) tasks ≡ tasks = map_itself (replenish_due time) tasks (λ k d h. let t = get_or tasks k d in rw (still k d h).due refl) in
     let lag : map (settled time) tasks ≡ tasks = map_itself (settled time) tasks (λ k d h. let t = get_or tasks k d in rw (still k d h).lag refl) in
     let listed : filter is_listed tasks ≡ tasks = filter_whole is_listed tasks (λ k d h. (still k d h).listed) in
     let same : filter is_listed (map (settled time) (map (replenish_due time) tasks)) ≡ tasks = ap (λ ts. filter is_listed (map (settled time) ts)) due ∙ ap (λ ts. filter is_listed ts) lag ∙ listed in
     (λ i. due_none i ++ flat_map (told_by_unblocking time) (same i)) ∙ over_none
 
-beginning_still : (d : Domain) (j : ℕ) → 0 < j → j ≤ ticks_to_due (d.time + 1) (begun d).tasks → told_by_beginning (slid_all (begun d) j) ≡ []
+beginning_still : (d : Domain) (j : ℕ) → 0 < j → j ≤ ticks_to_due (d.time + 1) (with_tick_begun d).tasks → told_by_beginning (slid_all (with_tick_begun d) j) ≡ []
 beginning_still d j some h =
-    let b = begun d in
+    let b = with_tick_begun d in
     let f = slid b j in
     let same = alike_slid b j in
     let c = slid_all b j in
-    ap (λ hs. in_order (map (at_home (begun c).curr) hs)) (parts_still c.time c.tasks (All-map (IsStill c.time) f b.tasks
+    ap (λ hs. in_order (map (with_its_cpu (with_tick_begun c).curr) hs)) (parts_still c.time c.tasks (All-map (IsStill c.time) f b.tasks
     (All-weaker (λ t. j ≤ ticks_to_due_of (d.time + 1) t) (λ t. IsStill c.time (f t)) (λ t k. still_before d.time j (f t) some (rw (rest_alike (d.time + 1) t (f t) (same t)) k)) b.tasks (rest_each (d.time + 1) j b.tasks h))))
 
 -- ---- a tick of running, behind so many
@@ -81,9 +81,9 @@ quiet_until b j k t less is =
     let left = t.server.left -ℤ pos (rate_of b t * suc j) in
     let x : Task = record t { server = record t.server { left = left }; work = t.work - suc j } in
     let more : eqb (t.work - suc j) 0 ≡ false = ne_eqb (t.work - suc j) 0 (λ q. absurd (omega (arith, q, less, is.worked))) in
-    ap (λ w. cond w (told_by_segment time x (passes_late_timer x.cursor time) (asked x.cursor time).segment) [] ++ told_by_budget time (ran_until time (suc j) left t)) more
+    ap (λ w. cond w (told_by_segment time x (passes_late_timer x.cursor time) (next_segment x.cursor time).segment) [] ++ told_by_budget time (ran_until time (suc j) left t)) more
     ∙ ap (told_by_budget time) (run_on b j k t less is)
-    ∙ ap (λ c. cond (is_throttled c) (told time x (Spent (due x)) ∷ []) []) is.ready
+    ∙ ap (λ c. cond (is_throttled c) (happened_to time x (Spent (due x)) ∷ []) []) is.ready
 
 quiet_end : (b : Domain) (j k : ℕ) → suc j < k → All (RunsIf b k) b.tasks → told_by_end (slid_all b j) ≡ []
 quiet_end b j k less runs =
@@ -97,20 +97,20 @@ quiet_end b j k less runs =
 
 -- ---- THE TICKS of a jump
 
-begun_ticks : (d : Domain) (k j : ℕ) → j < k → k - 1 ≤ ticks_to_due (d.time + 1) (begun d).tasks → All (RunsIf (begun d) k) (begun d).tasks → begun (ticks j d) ≡ slid_all (begun d) j
-begun_ticks d k zero h quiet runs = sym (slid_none (begun d))
+begun_ticks : (d : Domain) (k j : ℕ) → j < k → k - 1 ≤ ticks_to_due (d.time + 1) (with_tick_begun d).tasks → All (RunsIf (with_tick_begun d) k) (with_tick_begun d).tasks → with_tick_begun (ticks j d) ≡ slid_all (with_tick_begun d) j
+begun_ticks d k zero h quiet runs = sym (slid_none (with_tick_begun d))
 begun_ticks d k (suc j) h quiet runs =
-    ap begun (ticks_slid d k j (omega (arith, h)) quiet runs ∙ finished_slid (begun d) j k h runs)
+    ap with_tick_begun (ticks_slid d k j (omega (arith, h)) quiet runs ∙ finished_slid (with_tick_begun d) j k h runs)
     ∙ begun_still d (suc j) (omega arith) (omega (arith, quiet, h))
 
-told_jump : (d : Domain) (k j : ℕ) → j < k → k - 1 ≤ ticks_to_due (d.time + 1) (begun d).tasks → All (RunsIf (begun d) k) (begun d).tasks → told_by_ticks (suc j) d ≡ told_by_beginning d ++ told_by_end (slid_all (begun d) j)
-told_jump d k zero h quiet runs = ap (λ e. told_by_beginning d ++ told_by_end e) (sym (slid_none (begun d)))
+told_jump : (d : Domain) (k j : ℕ) → j < k → k - 1 ≤ ticks_to_due (d.time + 1) (with_tick_begun d).tasks → All (RunsIf (with_tick_begun d) k) (with_tick_begun d).tasks → told_by_ticks (suc j) d ≡ told_by_beginning d ++ told_by_end (slid_all (with_tick_begun d) j)
+told_jump d k zero h quiet runs = ap (λ e. told_by_beginning d ++ told_by_end e) (sym (slid_none (with_tick_begun d)))
 told_jump d k (suc j) h quiet runs =
-    let b = begun d in
+    let b = with_tick_begun d in
     let e = slid_all b (suc j) in
     let before : told_by_ticks (suc j) d ≡ told_by_beginning d = told_jump d k j (omega (arith, h)) quiet runs ∙ ap (λ hs. told_by_beginning d ++ hs) (quiet_end b j k h runs) ∙ append-nil (told_by_beginning d) in
     let at : ticks (suc j) d ≡ e = ticks_slid d k j (omega (arith, h)) quiet runs ∙ finished_slid b j k h runs in
-    let still : begun e ≡ e = begun_still d (suc j) (omega arith) (omega (arith, quiet, h)) in
+    let still : with_tick_begun e ≡ e = begun_still d (suc j) (omega arith) (omega (arith, quiet, h)) in
     let last : told_by_tick e ≡ told_by_end e = (λ i. beginning_still d (suc j) (omega arith) (omega (arith, quiet, h)) i ++ told_by_end (still i)) in
     (λ i. before i ++ told_by_tick (at i)) ∙ ap (λ hs. told_by_beginning d ++ hs) last
 
@@ -137,7 +137,7 @@ pub told_pay_is : (d : Domain) (k : ℕ) (budgets : List ℤ) (time : ℕ) → I
 told_pay_is d zero budgets time steady placed some quiet are at = absurd (omega (arith, some))
 told_pay_is d (suc j) budgets time steady placed some quiet are at =
     let e = under_way d in
-    let b = begun d in
+    let b = with_tick_begun d in
     let c = slid_all b j in
     let clock : time ≡ b.time + suc j = omega (arith, at) in
     let runs : All (RunsIf b (suc j)) b.tasks = λ i x h stand. let r = runs_each e (suc j) budgets steady.numbered placed are i x h stand in record { ready = r.ready; worked = r.worked; lasted = r.lasted } in
@@ -146,14 +146,14 @@ told_pay_is d (suc j) budgets time steady placed some quiet are at =
     (λ i x h. told_each e time (suc j) budgets steady.numbered are i x h ∙ ap (λ n. let t = get_or b.tasks i x in cond (stands t.number b.curr) (told_until n (suc j) (t.server.left -ℤ pos (rate_of b t * suc j)) t) []) clock ∙ sym (told_slid b j (get_or b.tasks i x))) in
     ap in_order (alike ∙ sym (flat_map-map (told_if_ran c) (slid b j) b.tasks))
     ∙ ap told_by_end (sym (begun_ticks d (suc j) j (omega arith) (omega (arith, quiet)) runs))
-    ∙ (let same : j ≡ suc j - 1 = omega arith in ap (λ n. told_by_end (begun (ticks n d))) same)
+    ∙ (let same : j ≡ suc j - 1 = omega arith in ap (λ n. told_by_end (with_tick_begun (ticks n d))) same)
 
 -- and its ticks tell this alone behind the first beginning
 pub told_ticks_is : (d : Domain) (k : ℕ) (budgets : List ℤ) → IsSteady (under_way d) → IsPlacement (under_way d) → 0 < k → k ≤ ticks_to_event (under_way d) → AreCharged (under_way d) k budgets
     → told_by_ticks k d ≡ told_by_beginning d ++ told_by_last_end k d
 told_ticks_is d zero budgets steady placed some quiet are = absurd (omega (arith, some))
 told_ticks_is d (suc j) budgets steady placed some quiet are =
-    let runs : All (RunsIf (begun d) (suc j)) (begun d).tasks = λ i x h stand. let r = runs_each (under_way d) (suc j) budgets steady.numbered placed are i x h stand in record { ready = r.ready; worked = r.worked; lasted = r.lasted } in
+    let runs : All (RunsIf (with_tick_begun d) (suc j)) (with_tick_begun d).tasks = λ i x h stand. let r = runs_each (under_way d) (suc j) budgets steady.numbered placed are i x h stand in record { ready = r.ready; worked = r.worked; lasted = r.lasted } in
     told_jump d (suc j) j (omega arith) (omega (arith, quiet)) runs
     ∙ ap (λ e. told_by_beginning d ++ told_by_end e) (sym (begun_ticks d (suc j) j (omega arith) (omega (arith, quiet)) runs))
-    ∙ (let same : j ≡ suc j - 1 = omega arith in ap (λ n. told_by_beginning d ++ told_by_end (begun (ticks n d))) same)
+    ∙ (let same : j ≡ suc j - 1 = omega arith in ap (λ n. told_by_beginning d ++ told_by_end (with_tick_begun (ticks n d))) same)

@@ -9,7 +9,8 @@ use Rattle.std.proofs.lemmas.List.Kept.{AllPairs-cons}
 use Rattle.domain_run.specs.declared.task.Task.{Task}
 use Rattle.domain_run.specs.Switch.{Switch}
 use Rattle.edf_pick.specs.Places.{Places}
-use Rattle.domain_run.specs.Switches.{same_occupant, state_of, switches_from, is_before}
+use Rattle.edf_pick.specs.Moves.{same_occupant}
+use Rattle.domain_run.specs.Switches.{prev_state_of, switches_from, is_switch_before}
 use Rattle.domain_run.specs.Domain.{Domain}
 use Rattle.domain_run.specs.Sound.{occupant, IsAdmitted, IsSwitch, IsTraced}
 
@@ -44,9 +45,9 @@ here_all time tasks used cpu (p ∷ before) (n ∷ after) a b =
     let rest : All P (switches_from time tasks (cpu + 1) before after) =
     All-weaker (IsHere time (cpu + 1) (cpu + 1 + length before) used) P (λ s h. rw e (here_later time cpu (cpu + 1 + length before) used s h)) (switches_from time tasks (cpu + 1) before after)
     (here_all time tasks used (cpu + 1) before after (standing_rest used p before a) (standing_rest used n after b)) in
-    let one : P (record { time = time; prev = p; next = n; cpu = cpu; state = state_of tasks p }) =
+    let one : P (record { time = time; prev = p; next = n; cpu = cpu; state = prev_state_of tasks p }) =
     record { at = refl; not_below = omega arith; below = omega arith; prev = standing_first used p before a; next = standing_first used n after b } in
-    elim (same_occupant p n) as (λ b. All P (cond b (switches_from time tasks (cpu + 1) before after) (record { time = time; prev = p; next = n; cpu = cpu; state = state_of tasks p } ∷ switches_from time tasks (cpu + 1) before after))) [
+    elim (same_occupant p n) as (λ b. All P (cond b (switches_from time tasks (cpu + 1) before after) (record { time = time; prev = p; next = n; cpu = cpu; state = prev_state_of tasks p } ∷ switches_from time tasks (cpu + 1) before after))) [
       | true ↦ rest
       | false ↦ All-cons P _ _ one rest
     ]
@@ -55,14 +56,14 @@ or_true : (b : Bool) → (b || true) ≡ true
 or_true true = refl
 or_true false = refl
 
-before_same : (a b : Switch) → a.time ≡ b.time → a.cpu < b.cpu → is_before a b ≡ true
+before_same : (a b : Switch) → a.time ≡ b.time → a.cpu < b.cpu → is_switch_before a b ≡ true
 before_same a b e h = rw (eq-eqb a.time b.time e, lt-ltb a.cpu b.cpu h) (or_true (ltb a.time b.time))
 
-pub before_time : (a b : Switch) → a.time < b.time → is_before a b ≡ true
+pub before_time : (a b : Switch) → a.time < b.time → is_switch_before a b ≡ true
 before_time a b h = rw (lt-ltb a.time b.time h) refl
 
 abbrev Rises : Switch → Switch → Type 0
-Rises a b = IsTrue (is_before a b)
+Rises a b = IsTrue (is_switch_before a b)
 
 rising_here : (time : ℕ) (tasks : List Task) (used : List ℕ) (cpu : ℕ) (before after : Places) → AreStanding used before → AreStanding used after
     → AllPairs Rises (switches_from time tasks cpu before after)
@@ -71,7 +72,7 @@ rising_here time tasks used cpu (p ∷ before) [] a b = λ i j d less within. ab
 rising_here time tasks used cpu (p ∷ before) (n ∷ after) a b =
     let more = switches_from time tasks (cpu + 1) before after in
     let rest : AllPairs Rises more = rising_here time tasks used (cpu + 1) before after (standing_rest used p before a) (standing_rest used n after b) in
-    let s : Switch = record { time = time; prev = p; next = n; cpu = cpu; state = state_of tasks p } in
+    let s : Switch = record { time = time; prev = p; next = n; cpu = cpu; state = prev_state_of tasks p } in
     let first : All (Rises s) more =
     All-weaker (IsHere time (cpu + 1) (cpu + 1 + length before) used) (Rises s) (λ x h. before_same s x (sym h.at) (omega (arith, h.not_below))) more
     (here_all time tasks used (cpu + 1) before after (standing_rest used p before a) (standing_rest used n after b)) in

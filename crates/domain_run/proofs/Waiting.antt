@@ -5,21 +5,21 @@ use Rattle.std.proofs.lemmas.Bool.{cases_eq, cases_lt, eqb-true, ne_eqb}
 use Rattle.std.proofs.lemmas.List.{get_or-set_same, get_or-set_other, get_or_past, get_or_default, get_or-map, length-map, length-set}
 use Rattle.domain_run.specs.declared.task.Task.{Task}
 use Rattle.due_times.specs.declared.seats.Seat.{Seat}
-use Rattle.due_times.specs.Seats.{seat_by, left_if, left}
-use Rattle.domain_run.specs.private.Waiting.{left_of, seat_of, owed_by, owed, Waits, WaitsIf, AllWait}
+use Rattle.due_times.specs.Seats.{seat_by, left_if, without_seat}
+use Rattle.domain_run.specs.private.Waiting.{seats_without, seat_of_task, owed_by, owed, Waits, WaitsIf, AllWait}
 use Rattle.std.proofs.lemmas.List.Elements.{All-push}
 use Rattle.attr_check.specs.ParamsView.{ParamsView}
 use Rattle.grub_rules.specs.Accounts.{AreAccounts}
-use Rattle.edf_pick.specs.Order.{ordered}
+use Rattle.edf_pick.specs.Order.{by_deadline}
 use Rattle.domain_run.specs.declared.run_queue.RunQueue.{RunQueue}
 use Rattle.domain_run.specs.Conditions.{is_ready, is_throttled, is_leaving}
 use Rattle.domain_run.specs.Parts.{is_listed, with_last_cpu}
 use Rattle.domain_run.proofs.Homes.{still_homed, homed_map}
 use Rattle.domain_run.specs.Calls.{is_other}
 use Rattle.domain_run.specs.Jump.{asks_at}
-use Rattle.domain_run.specs.private.Index.{IsAt, IsAbsent}
+use Rattle.domain_run.specs.private.Index.{IsListedAt, IsUnlisted}
 use Rattle.domain_run.specs.private.RunQueue.{IsCounted}
-use Rattle.domain_run.specs.private.Timers.{moment_of, due_of}
+use Rattle.domain_run.specs.private.Timers.{due_moment, due_of}
 use Rattle.domain_run.proofs.Keeping.{AllPairs-map}
 use Rattle.domain_run.specs.private.Roster.{IsSeenAs}
 use Rattle.domain_run.proofs.Finding.{find_at, unless_ended, find_live}
@@ -53,14 +53,14 @@ within_seats number cpu seats s e =
 
 -- ---- one leaves
 
-pub left_here : (cpu number : ℕ) (seats : List (Option Seat)) → seat_by number (get_or (left cpu number seats) cpu None) ≡ None
+pub left_here : (cpu number : ℕ) (seats : List (Option Seat)) → seat_by number (get_or (without_seat cpu number seats) cpu None) ≡ None
 left_here cpu number seats = by_seat (seat_by number (get_or seats cpu None)) refl
   where
     by_seat : (o : Option Seat) → seat_by number (get_or seats cpu None) ≡ o → seat_by number (get_or (left_if cpu seats o) cpu None) ≡ None
     by_seat None e = e
     by_seat (Some s) e = ap (seat_by number) (get_or-set_same seats cpu None None (within_seats number cpu seats s e))
 
-pub left_other : (cpu number d m : ℕ) (seats : List (Option Seat)) → m ≢ number → seat_by m (get_or (left cpu number seats) d None) ≡ seat_by m (get_or seats d None)
+pub left_other : (cpu number d m : ℕ) (seats : List (Option Seat)) → m ≢ number → seat_by m (get_or (without_seat cpu number seats) d None) ≡ seat_by m (get_or seats d None)
 left_other cpu number d m seats other = by_seat (seat_by number (get_or seats cpu None)) refl
   where
     here : (s : Seat) → seat_by number (get_or seats cpu None) ≡ Some s → d ≡ cpu → seat_by m (get_or (set seats cpu None) d None) ≡ seat_by m (get_or seats d None)
@@ -84,7 +84,7 @@ alike_by upto None t = record { number = refl; params = refl; cpu = refl; condit
 alike_by upto (Some s) t = record { number = refl; params = refl; cpu = refl; condition = refl; zero_lag = refl; deadline = refl }
 
 pub alike_owed : (upto : ℕ) (seats : List (Option Seat)) (t : Task) → Alike t (owed upto seats t)
-alike_owed upto seats t = alike_by upto (seat_of seats t) t
+alike_owed upto seats t = alike_by upto (seat_of_task seats t) t
 
 cursor_by : (upto : ℕ) (o : Option Seat) (t : Task) → (owed_by upto o t).cursor ≡ t.cursor
 cursor_by upto None t = refl
@@ -96,7 +96,7 @@ module _ (f : Task → Task) (same : (t : Task) → Alike t (f t)) where
   due_alike : (t : Task) → due_of (f t) ≡ due_of t
   due_alike t =
       let a = same t in
-      λ i. min (min (moment_of (cond (is_throttled (a.condition i)) (a.deadline i) None)) (moment_of (a.zero_lag i))) (min (moment_of (asks_at (a.condition i))) (moment_of (cond (not (is_leaving (a.condition i) && is_none (a.zero_lag i))) None (Some 0))))
+      λ i. min (min (due_moment (cond (is_throttled (a.condition i)) (a.deadline i) None)) (due_moment (a.zero_lag i))) (min (due_moment (asks_at (a.condition i))) (due_moment (cond (not (is_leaving (a.condition i) && is_none (a.zero_lag i))) None (Some 0))))
 
   pub dues_alike : (tasks : List Task) → map due_of (map f tasks) ≡ map due_of tasks
   dues_alike [] = refl
@@ -140,7 +140,7 @@ module _ (f : Task → Task) (same : (t : Task) → Alike t (f t)) where
         wide = is.wide;
         counts = record {
           sums = subst (AreAccounts queue.accounts) (sym (shares_alike f same tasks)) is.counts.sums;
-          order = is.counts.order ∙ ap ordered (sym (candidates_alike f same tasks));
+          order = is.counts.order ∙ ap by_deadline (sym (candidates_alike f same tasks));
           due = is.counts.due ∙ sym (dues_alike tasks);
         };
         roster = record {
@@ -158,7 +158,7 @@ module _ (f : Task → Task) (same : (t : Task) → Alike t (f t)) where
         wide = is.wide;
         counts = record {
           sums = subst (AreAccounts queue.accounts) (shares_alike f same tasks) is.counts.sums;
-          order = is.counts.order ∙ ap ordered (candidates_alike f same tasks);
+          order = is.counts.order ∙ ap by_deadline (candidates_alike f same tasks);
           due = is.counts.due ∙ dues_alike tasks;
         };
         roster = record {
@@ -177,18 +177,18 @@ module _ (f : Task → Task) (same : (t : Task) → Alike t (f t)) where
       sym (ap is_ready (ap (λ (t : Task). t.condition) read ∙ a.condition))
       ∙ idle k (f d) (omega (arith, h, len)) (ap (λ (t : Task). t.number) read ∙ a.number ∙ e)
 
-  pub absent_unlike : (number : ℕ) (tasks : List Task) → IsAbsent (map f tasks) number → IsAbsent tasks number
+  pub absent_unlike : (number : ℕ) (tasks : List Task) → IsUnlisted (map f tasks) number → IsUnlisted tasks number
   absent_unlike number tasks absent k d h e =
       let len : length (map f tasks) ≡ length tasks = simp length-map in
       absent k (f d) (omega (arith, h, len)) (ap (λ (t : Task). t.number) (get_or-map f tasks k d (f d) h) ∙ (same (get_or tasks k d)).number ∙ e)
 
-  pub absent_like : (number : ℕ) (tasks : List Task) → IsAbsent tasks number → IsAbsent (map f tasks) number
+  pub absent_like : (number : ℕ) (tasks : List Task) → IsUnlisted tasks number → IsUnlisted (map f tasks) number
   absent_like number tasks absent k d h e =
       let len : length (map f tasks) ≡ length tasks = simp length-map in
       let inside : k < length tasks = omega (arith, h, len) in
       absent k d inside (sym (ap (λ (t : Task). t.number) (get_or-map f tasks k d d inside) ∙ (same (get_or tasks k d)).number) ∙ e)
 
-  pub at_unlike : (number p : ℕ) (tasks : List Task) → IsAt (map f tasks) number p → IsAt tasks number p
+  pub at_unlike : (number p : ℕ) (tasks : List Task) → IsListedAt (map f tasks) number p → IsListedAt tasks number p
   at_unlike number p tasks at =
       let len : length (map f tasks) ≡ length tasks = simp length-map in
       let inside : p < length tasks = let h = at.within in omega (arith, h, len) in
@@ -197,7 +197,7 @@ module _ (f : Task → Task) (same : (t : Task) → Alike t (f t)) where
         is = λ d. sym (ap (λ (t : Task). t.number) (get_or-map f tasks p d d inside) ∙ (same (get_or tasks p d)).number) ∙ at.is d;
       }
 
-  pub at_like : (number p : ℕ) (tasks : List Task) → IsAt tasks number p → IsAt (map f tasks) number p
+  pub at_like : (number p : ℕ) (tasks : List Task) → IsListedAt tasks number p → IsListedAt (map f tasks) number p
   at_like number p tasks at =
       let len : length (map f tasks) ≡ length tasks = simp length-map in
       record {
@@ -208,7 +208,7 @@ module _ (f : Task → Task) (same : (t : Task) → Alike t (f t)) where
 -- ---- the tasks, where one is charged and leaves its seat
 
 pub owed_set : (upto : ℕ) (seats new : List (Option Seat)) (tasks : List Task) (p : ℕ) (y z : Task)
-    → ((k : ℕ) (d : Task) → k < length tasks → k ≢ p → seat_of new (get_or tasks k d) ≡ seat_of seats (get_or tasks k d))
+    → ((k : ℕ) (d : Task) → k < length tasks → k ≢ p → seat_of_task new (get_or tasks k d) ≡ seat_of_task seats (get_or tasks k d))
     → owed upto new y ≡ z
     → map (owed upto new) (set tasks p y) ≡ set (map (owed upto seats) tasks) p z
 owed_set upto seats new [] p y z others is = refl
@@ -216,7 +216,7 @@ owed_set upto seats new (t ∷ tasks) zero y z others is =
     let more = map_others tasks (λ k d h. others (suc k) d (omega arith) (λ e. absurd (omega (arith, e)))) in
     λ i. is i ∷ more i
   where
-    map_others : (ts : List Task) → ((k : ℕ) (d : Task) → k < length ts → seat_of new (get_or ts k d) ≡ seat_of seats (get_or ts k d)) → map (owed upto new) ts ≡ map (owed upto seats) ts
+    map_others : (ts : List Task) → ((k : ℕ) (d : Task) → k < length ts → seat_of_task new (get_or ts k d) ≡ seat_of_task seats (get_or ts k d)) → map (owed upto new) ts ≡ map (owed upto seats) ts
     map_others [] same = refl
     map_others (u ∷ ts) same =
         let first : owed upto new u ≡ owed upto seats u = ap (λ o. owed_by upto o u) (same zero u (omega arith)) in
@@ -229,7 +229,7 @@ owed_set upto seats new (t ∷ tasks) (suc p) y z others is =
 
 -- ---- ONE TASK CHANGES: it is charged, leaves its seat, and has none where it belongs then
 
-pub length_left : (cpu number : ℕ) (seats : List (Option Seat)) → length (left cpu number seats) ≡ length seats
+pub length_left : (cpu number : ℕ) (seats : List (Option Seat)) → length (without_seat cpu number seats) ≡ length seats
 length_left cpu number seats = by_seat (seat_by number (get_or seats cpu None))
   where
     by_seat : (o : Option Seat) → length (left_if cpu seats o) ≡ length seats
@@ -238,26 +238,26 @@ length_left cpu number seats = by_seat (seat_by number (get_or seats cpu None))
 
 -- all that is kept of the seats, where a task with the number of x turned to y
 abbrev pub left_twice : Task → Task → List (Option Seat) → List (Option Seat)
-left_twice x y seats = left y.cpu x.number (left x.cpu x.number seats)
+left_twice x y seats = without_seat y.cpu x.number (without_seat x.cpu x.number seats)
 
 -- which is one, where it belongs to the same CPU
-pub left_once : (x y : Task) (seats : List (Option Seat)) → y.cpu ≡ x.cpu → left_twice x y seats ≡ left_of x seats
+pub left_once : (x y : Task) (seats : List (Option Seat)) → y.cpu ≡ x.cpu → left_twice x y seats ≡ seats_without x seats
 left_once x y seats same =
-    ap (λ (cpu : ℕ). left cpu x.number (left x.cpu x.number seats)) same
-    ∙ ap (left_if x.cpu (left x.cpu x.number seats)) (left_here x.cpu x.number seats)
+    ap (λ (cpu : ℕ). without_seat cpu x.number (without_seat x.cpu x.number seats)) same
+    ∙ ap (left_if x.cpu (without_seat x.cpu x.number seats)) (left_here x.cpu x.number seats)
 
-pub none_there : (x y : Task) (seats : List (Option Seat)) → y.number ≡ x.number → seat_of (left_twice x y seats) y ≡ None
-none_there x y seats same = ap (λ n. seat_by n (get_or (left_twice x y seats) y.cpu None)) same ∙ left_here y.cpu x.number (left x.cpu x.number seats)
+pub none_there : (x y : Task) (seats : List (Option Seat)) → y.number ≡ x.number → seat_of_task (left_twice x y seats) y ≡ None
+none_there x y seats same = ap (λ n. seat_by n (get_or (left_twice x y seats) y.cpu None)) same ∙ left_here y.cpu x.number (without_seat x.cpu x.number seats)
 
-pub same_there : (x y u : Task) (seats : List (Option Seat)) → u.number ≢ x.number → seat_of (left_twice x y seats) u ≡ seat_of seats u
-same_there x y u seats other = left_other y.cpu x.number u.cpu u.number (left x.cpu x.number seats) other ∙ left_other x.cpu x.number u.cpu u.number seats other
+pub same_there : (x y u : Task) (seats : List (Option Seat)) → u.number ≢ x.number → seat_of_task (left_twice x y seats) u ≡ seat_of_task seats u
+same_there x y u seats other = left_other y.cpu x.number u.cpu u.number (without_seat x.cpu x.number seats) other ∙ left_other x.cpu x.number u.cpu u.number seats other
 
 -- a task of the list, as it is seen
 pub read_owed : (upto : ℕ) (seats : List (Option Seat)) (tasks : List Task) (p : ℕ) (x : Task) → p < length tasks → x ≡ get_or tasks p x → owed upto seats x ≡ get_or (map (owed upto seats) tasks) p (owed upto seats x)
 read_owed upto seats tasks p x h read = sym (get_or-map (owed upto seats) tasks p x (owed upto seats x) h ∙ ap (owed upto seats) (sym read))
 
 module _ (upto : ℕ) (seats : List (Option Seat)) (tasks : List Task) (p : ℕ) (x y : Task) (h : p < length tasks) (read : x ≡ get_or tasks p x) (numbered : AllPairs (λ a b. a.number ≢ b.number) tasks) (same : y.number ≡ x.number) where
-  others : (k : ℕ) (d : Task) → k < length tasks → k ≢ p → seat_of (left_twice x y seats) (get_or tasks k d) ≡ seat_of seats (get_or tasks k d)
+  others : (k : ℕ) (d : Task) → k < length tasks → k ≢ p → seat_of_task (left_twice x y seats) (get_or tasks k d) ≡ seat_of_task seats (get_or tasks k d)
   others k d inside apart = same_there x y (get_or tasks k d) seats (λ e. apart (one_index tasks k p d d numbered inside h (e ∙ ap (λ (t : Task). t.number) (read ∙ get_or_default tasks p x d h))))
 
   pub turned_owed : map (owed upto (left_twice x y seats)) (set tasks p y) ≡ set (map (owed upto seats) tasks) p y
@@ -275,40 +275,40 @@ module _ (upto : ℕ) (seats : List (Option Seat)) (tasks : List Task) (p : ℕ)
   ]
 
   -- the seats, told by the tasks as they are seen
-  pub seats_seen : (d : Task) → left_twice x y seats ≡ left_of (get_or (set (map (owed upto seats) tasks) p y) p d) (left_of (get_or (map (owed upto seats) tasks) p d) seats)
+  pub seats_seen : (d : Task) → left_twice x y seats ≡ seats_without (get_or (set (map (owed upto seats) tasks) p y) p d) (seats_without (get_or (map (owed upto seats) tasks) p d) seats)
   seats_seen d =
       let many : length (map (owed upto seats) tasks) ≡ length tasks = simp length-map in
       let inside : p < length (map (owed upto seats) tasks) = omega (arith, h, many) in
       let a = alike_owed upto seats x in
       let before : get_or (map (owed upto seats) tasks) p d ≡ owed upto seats x = get_or_default (map (owed upto seats) tasks) p d (owed upto seats x) inside ∙ sym (read_owed upto seats tasks p x h read) in
       let after : get_or (set (map (owed upto seats) tasks) p y) p d ≡ y = get_or-set_same (map (owed upto seats) tasks) p y d inside in
-      sym (ap (λ (t : Task). left_of t (left_of (get_or (map (owed upto seats) tasks) p d) seats)) after
-      ∙ ap (λ (t : Task). left_of y (left_of t seats)) before
-      ∙ (λ i. left y.cpu (same i) (left (a.cpu i) (a.number i) seats)))
+      sym (ap (λ (t : Task). seats_without t (seats_without (get_or (map (owed upto seats) tasks) p d) seats)) after
+      ∙ ap (λ (t : Task). seats_without y (seats_without t seats)) before
+      ∙ (λ i. without_seat y.cpu (same i) (without_seat (a.cpu i) (a.number i) seats)))
 
 -- ---- one task more
 
-pub pushed_owed : (upto : ℕ) (seats : List (Option Seat)) (tasks : List Task) (t : Task) → IsAbsent tasks t.number → map (owed upto (left_of t seats)) (tasks ++ t ∷ []) ≡ map (owed upto seats) tasks ++ t ∷ []
+pub pushed_owed : (upto : ℕ) (seats : List (Option Seat)) (tasks : List Task) (t : Task) → IsUnlisted tasks t.number → map (owed upto (seats_without t seats)) (tasks ++ t ∷ []) ≡ map (owed upto seats) tasks ++ t ∷ []
 pushed_owed upto seats [] t absent = ap (λ (u : Task). u ∷ []) (ap (λ o. owed_by upto o t) (left_here t.cpu t.number seats))
 pushed_owed upto seats (u ∷ tasks) t absent =
-    let first : owed upto (left_of t seats) u ≡ owed upto seats u = ap (λ o. owed_by upto o u) (left_other t.cpu t.number u.cpu u.number seats (absent zero u (omega arith))) in
+    let first : owed upto (seats_without t seats) u ≡ owed upto seats u = ap (λ o. owed_by upto o u) (left_other t.cpu t.number u.cpu u.number seats (absent zero u (omega arith))) in
     let more = pushed_owed upto seats tasks t (λ k d h. absent (suc k) d (omega arith)) in
     λ i. first i ∷ more i
 
-pub pushed_waits : (seats : List (Option Seat)) (tasks : List Task) (t : Task) → IsAbsent tasks t.number → AllWait seats tasks → AllWait (left_of t seats) (tasks ++ t ∷ [])
+pub pushed_waits : (seats : List (Option Seat)) (tasks : List Task) (t : Task) → IsUnlisted tasks t.number → AllWait seats tasks → AllWait (seats_without t seats) (tasks ++ t ∷ [])
 pushed_waits seats tasks t absent waits =
-    All-push (WaitsIf (left_of t seats)) tasks t
+    All-push (WaitsIf (seats_without t seats)) tasks t
     (λ k d h. let u = get_or tasks k d in subst (λ o. IfSome o (λ s. Waits s u)) (sym (left_other t.cpu t.number u.cpu u.number seats (absent k d h))) (waits k d h))
     (subst (λ o. IfSome o (λ s. Waits s t)) (sym (left_here t.cpu t.number seats)) tt)
 
 -- ---- the task of a number, as it is seen
 
 module _ (f : Task → Task) (same : (t : Task) → Alike t (f t)) (tasks : List Task) (number : ℕ) where
-  pub some_like : (o : Option ℕ) → IfSome o (IsAt tasks number) → IfSome o (IsAt (map f tasks) number)
+  pub some_like : (o : Option ℕ) → IfSome o (IsListedAt tasks number) → IfSome o (IsListedAt (map f tasks) number)
   some_like None h = tt
   some_like (Some p) h = at_like f same number p tasks h
 
-  pub none_like : (o : Option ℕ) → IfNone o (IsAbsent tasks number) → IfNone o (IsAbsent (map f tasks) number)
+  pub none_like : (o : Option ℕ) → IfNone o (IsUnlisted tasks number) → IfNone o (IsUnlisted (map f tasks) number)
   none_like None h = absent_like f same number tasks h
   none_like (Some p) h = tt
 
@@ -317,7 +317,7 @@ seen_by upto None t = refl
 seen_by upto (Some s) t = refl
 
 -- the task at a place is found, all but what it owes
-pub found_owed : (upto : ℕ) (seats : List (Option Seat)) (tasks : List Task) (number p : ℕ) (x : Task) → AllPairs (λ a b. a.number ≢ b.number) (map (owed upto seats) tasks) → IsAt (map (owed upto seats) tasks) number p → x ≡ get_or tasks p x → find (λ t. eqb t.number number) (map (owed upto seats) tasks) ≡ Some (owed upto seats x)
+pub found_owed : (upto : ℕ) (seats : List (Option Seat)) (tasks : List Task) (number p : ℕ) (x : Task) → AllPairs (λ a b. a.number ≢ b.number) (map (owed upto seats) tasks) → IsListedAt (map (owed upto seats) tasks) number p → x ≡ get_or tasks p x → find (λ t. eqb t.number number) (map (owed upto seats) tasks) ≡ Some (owed upto seats x)
 found_owed upto seats tasks number p x numbered at read =
     let many : length (map (owed upto seats) tasks) ≡ length tasks = simp length-map in
     find_at (map (owed upto seats) tasks) number p (owed upto seats x) numbered at
@@ -327,7 +327,7 @@ pub seen_owed : (upto : ℕ) (seats : List (Option Seat)) (x : Task) (o : Option
 seen_owed upto seats x o is = record {
   left = (owed upto seats x).server.left;
   work = (owed upto seats x).work;
-  is = is ∙ ap (λ (t : Task). Some t) (seen_by upto (seat_of seats x) x);
+  is = is ∙ ap (λ (t : Task). Some t) (seen_by upto (seat_of_task seats x) x);
 }
 
 -- where it has not ended

@@ -10,8 +10,8 @@ use Rattle.domain_run.specs.declared.task.Task.{Task}
 use Rattle.domain_run.specs.Calls.{is_other}
 use Rattle.domain_run.specs.Parts.{replenish_due, settled, is_listed, unblocked}
 use Rattle.domain_run.specs.Tick.{prepared}
-use Rattle.domain_run.specs.private.Roster.{served, IsWoken}
-use Rattle.domain_run.specs.private.Timers.{due_of, IsStep, AreNotDue}
+use Rattle.domain_run.specs.private.Roster.{timers_served, IsWoken}
+use Rattle.domain_run.specs.private.Timers.{due_of, IsTimerStep, AreNotDue}
 use Rattle.domain_run.proofs.Due.{some_task, still_at}
 use Rattle.domain_run.proofs.Jumping.{IsStill, filter_whole, prepared_still}
 
@@ -22,18 +22,18 @@ prepared_append time [] ys = refl
 prepared_append time (x ∷ xs) ys =
     let more = prepared_append time xs ys in
     let behind : List Task → List Task = λ ts. filter is_listed (map (settled time) (map (replenish_due time) ts)) in
-    elim (is_listed (served time x)) as (λ b. map (unblocked time) (cond b (served time x ∷ behind (xs ++ ys)) (behind (xs ++ ys)))
-    ≡ map (unblocked time) (cond b (served time x ∷ behind xs) (behind xs)) ++ prepared time ys) [
-      | true ↦ ap (λ ts. unblocked time (served time x) ∷ ts) more
+    elim (is_listed (timers_served time x)) as (λ b. map (unblocked time) (cond b (timers_served time x ∷ behind (xs ++ ys)) (behind (xs ++ ys)))
+    ≡ map (unblocked time) (cond b (timers_served time x ∷ behind xs) (behind xs)) ++ prepared time ys) [
+      | true ↦ ap (λ ts. unblocked time (timers_served time x) ∷ ts) more
       | false ↦ more
     ]
 
 -- one that stays, one that goes, and one that is not due
-kept : (time : ℕ) (t : Task) → is_listed (served time t) ≡ true → prepared time (t ∷ []) ≡ unblocked time (served time t) ∷ []
-kept time t h = ap (λ b. map (unblocked time) (cond b (served time t ∷ []) [])) h
+kept : (time : ℕ) (t : Task) → is_listed (timers_served time t) ≡ true → prepared time (t ∷ []) ≡ unblocked time (timers_served time t) ∷ []
+kept time t h = ap (λ b. map (unblocked time) (cond b (timers_served time t ∷ []) [])) h
 
-gone : (time : ℕ) (t : Task) → is_listed (served time t) ≡ false → prepared time (t ∷ []) ≡ []
-gone time t h = ap (λ b. map (unblocked time) (cond b (served time t ∷ []) [])) h
+gone : (time : ℕ) (t : Task) → is_listed (timers_served time t) ≡ false → prepared time (t ∷ []) ≡ []
+gone time t h = ap (λ b. map (unblocked time) (cond b (timers_served time t ∷ []) [])) h
 
 alone : (time : ℕ) (t : Task) → time < due_of t → prepared time (t ∷ []) ≡ t ∷ []
 alone time t h = prepared_still time (t ∷ []) (All-cons (IsStill time) t [] (still_at time t h) (All-nil (IsStill time)))
@@ -65,24 +65,24 @@ woken_still time now p h later = record {
   next = λ d. sym (ap (λ (ts : List Task). p + length ts) (alone time (get_or now p d) (later d)));
 }
 
-pub woken_stays : (time : ℕ) (old new : List Task) (p : ℕ) → p < length old → IsStep (λ t. unblocked time (served time t)) p old new → ((d : Task) → is_listed (served time (get_or old p d)) ≡ true) → IsWoken time p old new (p + 1)
+pub woken_stays : (time : ℕ) (old new : List Task) (p : ℕ) → p < length old → IsTimerStep (λ t. unblocked time (timers_served time t)) p old new → ((d : Task) → is_listed (timers_served time (get_or old p d)) ≡ true) → IsWoken time p old new (p + 1)
 woken_stays time old new p h step listed = record {
   tasks = λ d.
       step.is d
-      ∙ set_at old p (unblocked time (served time (get_or old p d))) h
+      ∙ set_at old p (unblocked time (timers_served time (get_or old p d))) h
       ∙ sym (ap (λ ts. take p old ++ (ts ++ drop (p + 1) old)) (kept time (get_or old p d) (listed d)));
   next = λ d. sym (ap (λ (ts : List Task). p + length ts) (kept time (get_or old p d) (listed d)));
 }
 
 -- as it is behind parts 1 and 2
-pub served_at : (time : ℕ) (old mid : List Task) (p : ℕ) (d : Task) → p < length old → IsStep (served time) p old mid → get_or mid p d ≡ served time (get_or old p d)
-served_at time old mid p d h step = ap (λ (ts : List Task). get_or ts p d) (step.is d) ∙ get_or-set_same old p (served time (get_or old p d)) d h
+pub served_at : (time : ℕ) (old mid : List Task) (p : ℕ) (d : Task) → p < length old → IsTimerStep (timers_served time) p old mid → get_or mid p d ≡ timers_served time (get_or old p d)
+served_at time old mid p d h step = ap (λ (ts : List Task). get_or ts p d) (step.is d) ∙ get_or-set_same old p (timers_served time (get_or old p d)) d h
 
-pub woken_goes : (time : ℕ) (old mid new : List Task) (p n : ℕ) → p < length old → p < length mid → IsStep (served time) p old mid → AllPairs (λ a b. a.number ≢ b.number) mid
+pub woken_goes : (time : ℕ) (old mid new : List Task) (p n : ℕ) → p < length old → p < length mid → IsTimerStep (timers_served time) p old mid → AllPairs (λ a b. a.number ≢ b.number) mid
     → ((d : Task) → n ≡ (get_or mid p d).number) → ((d : Task) → is_listed (get_or mid p d) ≡ false) → new ≡ filter (is_other n) mid → IsWoken time p old new p
 woken_goes time old mid new p n h within step numbered is left filtered = record {
   tasks = λ d.
-      let x = served time (get_or old p d) in
+      let x = timers_served time (get_or old p d) in
       filtered
       ∙ others_at mid p n numbered within is
       ∙ ap (λ (ts : List Task). take p ts ++ drop (p + 1) ts) (step.is d)

@@ -46,8 +46,8 @@ abbrev pub with_number : ℕ → List ℕ → List ℕ
 with_number n [] = n ∷ []
 with_number n (m ∷ ms) = if nat_lt n m then n ∷ m ∷ ms else m ∷ with_number n ms
 
-abbrev pub listed : Domain → Task → Domain
-listed d t = record d { tasks = d.tasks ++ t ∷ []; used = with_number t.number d.used }
+abbrev pub with_task_listed : Domain → Task → Domain
+with_task_listed d t = record d { tasks = d.tasks ++ t ∷ []; used = with_number t.number d.used }
 
 -- the task of a number, where it is listed and has not ended
 abbrev pub task_of : Domain → ℕ → Option Task
@@ -57,8 +57,8 @@ task_of d number = find (λ t. t.number == number && not (is_leaving t.condition
 abbrev pub of_number : ℕ → (Task → Task) → Task → Task
 of_number number f t = if t.number == number then f t else t
 
-abbrev pub changed : Domain → ℕ → (Task → Task) → Domain
-changed d number f = record d { tasks = map (of_number number f) d.tasks }
+abbrev pub with_task_changed : Domain → ℕ → (Task → Task) → Domain
+with_task_changed d number f = record d { tasks = map (of_number number f) d.tasks }
 
 -- REGRADE. The bandwidth does not fit the domain, or the domain's bandwidth word refused it
 abbrev pub word_reply : Option ℕ → Reply
@@ -72,8 +72,8 @@ regrade_reply d params word (Some t) =
     then Busy (sum_of d.tasks) else word_reply word
 
 -- the new parameters hold at once; deadline, budget and an armed zero-lag time stay
-abbrev pub regraded : ParamsView → Task → Task
-regraded params t = record t { params = params }
+abbrev pub with_new_params : ParamsView → Task → Task
+with_new_params params t = record t { params = params }
 
 -- WAKE. A task that waits is released: its time of blocking is over, so it asks its script in the
 -- next tick. It wakes there, where the script has it run
@@ -81,16 +81,16 @@ abbrev pub wake_reply : Option Task → Reply
 wake_reply None = NotListed
 wake_reply (Some t) = if is_waiting t.condition then Woken else NotWaiting
 
-abbrev pub released : ℕ → Task → Task
-released time t = record t { condition = Blocked time }
+abbrev pub blocked_until : ℕ → Task → Task
+blocked_until time t = record t { condition = Blocked time }
 
 -- LEAVE. A task that contends stops; any other keeps its zero-lag time
 abbrev pub leave_reply : Option Task → Reply
 leave_reply None = NotListed
 leave_reply (Some t) = Left
 
-abbrev pub ended : ℕ → Task → Task
-ended time t =
+abbrev pub ended_at : ℕ → Task → Task
+ended_at time t =
     if is_contending t.condition then stopped time Leaving t else record t { condition = Leaving }
 
 -- LIMIT. The bandwidth of the listed tasks is above CPUs times the new limit, or the domain's
@@ -117,8 +117,8 @@ depart_reply (Some t) = Departed
 abbrev pub is_other : ℕ → Task → Bool
 is_other number t = not (t.number == number)
 
-abbrev pub departed : Domain → ℕ → Domain
-departed d number = record d { tasks = filter (is_other number) d.tasks }
+abbrev pub after_departure : Domain → ℕ → Domain
+after_departure d number = record d { tasks = filter (is_other number) d.tasks }
 
 -- ARRIVE. A task comes from another domain. The clocks of two domains are apart, so it begins anew:
 -- as one that is admitted without a delay (own)
@@ -145,18 +145,18 @@ is_refusal Departed = false
 is_refusal _ = true
 
 -- what a call does where it is not refused
-abbrev pub granted : Domain → Call → Domain
-granted d (Admit number name params delay script) =
-    listed d (new_task d number name params delay script)
-granted d (Regrade number params word) = changed d number (regraded params)
-granted d (Wake number) = changed d number (released d.time)
-granted d (Leave number) = changed d number (ended d.time)
-granted d (Advance n) = ticks n d
-granted d (Limit limit word) = with_limit limit d
-granted d (Depart number) = departed d number
-granted d (Arrive number name params script) =
-    listed d (new_task d number name params 0 script)
+abbrev pub after_granted : Domain → Call → Domain
+after_granted d (Admit number name params delay script) =
+    with_task_listed d (new_task d number name params delay script)
+after_granted d (Regrade number params word) = with_task_changed d number (with_new_params params)
+after_granted d (Wake number) = with_task_changed d number (blocked_until d.time)
+after_granted d (Leave number) = with_task_changed d number (ended_at d.time)
+after_granted d (Advance n) = ticks n d
+after_granted d (Limit limit word) = with_limit limit d
+after_granted d (Depart number) = after_departure d number
+after_granted d (Arrive number name params script) =
+    with_task_listed d (new_task d number name params 0 script)
 
 -- a refused call changes nothing
 abbrev pub after_call : Domain → Call → Domain
-after_call d c = if is_refusal (reply_to d c) then d else granted d c
+after_call d c = if is_refusal (reply_to d c) then d else after_granted d c

@@ -28,8 +28,8 @@ pub record Domain : Type 0 where
   pub switches : List Switch
 
 -- nothing has happened yet
-abbrev pub opened : ℕ → ℕ → Domain
-opened cpus limit =
+abbrev pub empty_domain : ℕ → ℕ → Domain
+empty_domain cpus limit =
     record {
       cpus = cpus;
       limit = limit;

@@ -13,16 +13,16 @@ use Rattle.domain_run.specs.declared.happened.What.TheVariants.{JobEnds, NextRel
 use Rattle.domain_run.specs.declared.happened.Happened.{Happened}
 use Rattle.domain_run.specs.declared.call.Call.{Call}
 use Rattle.domain_run.specs.declared.call.Call.TheVariants.{Leave, Advance, Depart}
-use Rattle.task_script.specs.script.Segments.{passes_late_timer, asked}
+use Rattle.task_script.specs.script.Segments.{passes_late_timer, next_segment}
 use Rattle.domain_run.specs.Conditions.{is_throttled, is_over, has_come}
 use Rattle.domain_run.specs.Parts.{replenish_due, settled, is_listed, unblocked, ran}
 use Rattle.domain_run.specs.Domain.{Domain}
-use Rattle.domain_run.specs.Tick.{begun, rate_of, ticks}
+use Rattle.domain_run.specs.Tick.{with_tick_begun, rate_of, ticks}
 use Rattle.domain_run.specs.Calls.{reply_to, is_refusal, after_call}
 
 -- something that happens to a task at a time
-abbrev pub told : ℕ → Task → What → Happened
-told time t what = record { time = time; what = what; number = t.number; cpu = t.cpu }
+abbrev pub happened_to : ℕ → Task → What → Happened
+happened_to time t what = record { time = time; what = what; number = t.number; cpu = t.cpu }
 
 -- the deadline of its server
 abbrev pub due : Task → ℕ
@@ -36,21 +36,24 @@ job_due time t = time + t.params.deadline
 -- more work, or has that behind a late timer: so much work is the next job's
 abbrev pub told_by_segment : ℕ → Task → Bool → Segment → List Happened
 told_by_segment time t late (RunFor n) =
-    if late then told time t JobEnds ∷ told time t (NextReleased (job_due time t)) ∷ [] else []
-told_by_segment time t late (Until u) = told time t JobEnds ∷ []
-told_by_segment time t late WaitFor = told time t JobEnds ∷ []
-told_by_segment time t late End = told time t JobEnds ∷ []
+    if late then
+    happened_to time t JobEnds ∷ happened_to time t (NextReleased (job_due time t)) ∷ []
+    else []
+told_by_segment time t late (Until u) = happened_to time t JobEnds ∷ []
+told_by_segment time t late WaitFor = happened_to time t JobEnds ∷ []
+told_by_segment time t late End = happened_to time t JobEnds ∷ []
 
 abbrev pub told_by_work : ℕ → Task → List Happened
 told_by_work time t =
     if t.work == 0
-    then told_by_segment time t (passes_late_timer t.cursor time) (asked t.cursor time).segment
+    then told_by_segment time t (passes_late_timer t.cursor time)
+    (next_segment t.cursor time).segment
     else []
 
 -- a running task that is throttled now has spent its budget
 abbrev pub told_by_budget : ℕ → Task → List Happened
 told_by_budget time t =
-    if is_throttled t.condition then told time t (Spent (due t)) ∷ [] else []
+    if is_throttled t.condition then happened_to time t (Spent (due t)) ∷ [] else []
 
 -- of a task that ran a tick up to a time, at a rate
 abbrev pub told_by_run : ℕ → ℕ → Task → List Happened
@@ -65,34 +68,35 @@ told_if_ran d t = if stands t.number d.curr then told_by_run d.time (rate_of d t
 abbrev pub told_by_replenishment : ℕ → Task → List Happened
 told_by_replenishment time t =
     if is_throttled t.condition && has_come time t.server.deadline
-    then told time t (Replenished (due (replenish_due time t))) ∷ [] else []
+    then happened_to time t (Replenished (due (replenish_due time t))) ∷ [] else []
 
 -- a job is released where a script that was asked has work; a server without budget is throttled
 -- then
 abbrev pub told_by_wake : ℕ → Task → Task → Segment → List Happened
 told_by_wake time t woken (RunFor n) =
-    told time t (Released (job_due time t))
-    ∷ (if is_throttled woken.condition then told time t (WokenSpent (due woken)) ∷ [] else [])
+    happened_to time t (Released (job_due time t))
+    ∷ (if is_throttled woken.condition then happened_to time t (WokenSpent (due woken)) ∷ []
+    else [])
 told_by_wake time t woken _ = []
 
 abbrev pub told_by_unblocking : ℕ → Task → List Happened
 told_by_unblocking time t =
     if is_over time t.condition
-    then told_by_wake time t (unblocked time t) (asked t.cursor time).segment else []
+    then told_by_wake time t (unblocked time t) (next_segment t.cursor time).segment else []
 
 -- THE ORDER: by what happens, then by CPU, then by number
-abbrev pub rank : What → ℕ
-rank JobEnds = 0
-rank (NextReleased deadline) = 1
-rank (Spent deadline) = 2
-rank Cut = 3
-rank (Replenished deadline) = 4
-rank (Released deadline) = 5
-rank (WokenSpent deadline) = 6
+abbrev pub kind_rank : What → ℕ
+kind_rank JobEnds = 0
+kind_rank (NextReleased deadline) = 1
+kind_rank (Spent deadline) = 2
+kind_rank Cut = 3
+kind_rank (Replenished deadline) = 4
+kind_rank (Released deadline) = 5
+kind_rank (WokenSpent deadline) = 6
 
 abbrev pub is_first : Happened → Happened → Bool
 is_first a b =
-    nat_lt (rank a.what) (rank b.what) || (rank a.what == rank b.what
+    nat_lt (kind_rank a.what) (kind_rank b.what) || (kind_rank a.what == kind_rank b.what
     && (nat_lt a.cpu b.cpu || (a.cpu == b.cpu && nat_lt a.number b.number)))
 
 -- in its place among others in order
@@ -106,8 +110,8 @@ in_order [] = []
 in_order (h ∷ others) = with_happened h (in_order others)
 
 -- where its task stands on a CPU, on that one: the task belongs to it from then on
-abbrev pub at_home : Places → Happened → Happened
-at_home places h =
+abbrev pub with_its_cpu : Places → Happened → Happened
+with_its_cpu places h =
     record h { cpu = unwrap_or (position (is_task h.number) places) h.cpu }
 
 -- A TICK: what its beginning tells, each on the CPU of its task behind the placement, and what its
@@ -118,13 +122,13 @@ told_to_begin d = flat_map (told_by_replenishment d.time) d.tasks
     (filter is_listed (map (settled d.time) (map (replenish_due d.time) d.tasks)))
 
 abbrev pub told_by_beginning : Domain → List Happened
-told_by_beginning d = in_order (map (at_home (begun d).curr) (told_to_begin d))
+told_by_beginning d = in_order (map (with_its_cpu (with_tick_begun d).curr) (told_to_begin d))
 
 abbrev pub told_by_end : Domain → List Happened
 told_by_end d = in_order (flat_map (told_if_ran d) d.tasks)
 
 abbrev pub told_by_tick : Domain → List Happened
-told_by_tick d = told_by_beginning d ++ told_by_end (begun d)
+told_by_tick d = told_by_beginning d ++ told_by_end (with_tick_begun d)
 
 -- of so many ticks
 abbrev pub told_by_ticks : ℕ → Domain → List Happened
@@ -133,12 +137,12 @@ told_by_ticks (suc n) d = told_by_ticks n d ++ told_by_tick (ticks n d)
 
 -- of so many ticks at once, the end of the last
 abbrev pub told_by_last_end : ℕ → Domain → List Happened
-told_by_last_end n d = told_by_end (begun (ticks (n - 1) d))
+told_by_last_end n d = told_by_end (with_tick_begun (ticks (n - 1) d))
 
 -- A CALL. Where a task ends by a call, or goes to another domain, its job is cut
 abbrev pub told_by_cut : Domain → ℕ → List Happened
 told_by_cut d number =
-    map (λ t. told d.time t Cut) (filter (λ t. t.number == number) d.tasks)
+    map (λ t. happened_to d.time t Cut) (filter (λ t. t.number == number) d.tasks)
 
 abbrev pub told_by_granted : Domain → Call → List Happened
 told_by_granted d (Advance n) = told_by_ticks n d

@@ -11,12 +11,12 @@ use Rattle.domain_run.specs.declared.running.Running.{Running}
 use Rattle.domain_run.specs.Conditions.{is_throttled}
 use Rattle.domain_run.specs.Parts.{is_listed}
 use Rattle.domain_run.specs.Domain.{Domain}
-use Rattle.domain_run.specs.Tick.{shares, sum_of, begun}
+use Rattle.domain_run.specs.Tick.{shares, sum_of, with_tick_begun}
 use Rattle.domain_run.specs.Sound.{IsPlacement}
 
 -- A TICK UNDER WAY: its parts 1 to 5 are done, and the clock stands at its end
 abbrev pub under_way : Domain → Domain
-under_way d = record (begun d) { time = d.time + 1 }
+under_way d = record (with_tick_begun d) { time = d.time + 1 }
 
 -- such a domain, where each task that stands on a CPU may
 pub record IsUnderWay (d : Domain) : Type 0 where

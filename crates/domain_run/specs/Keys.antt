@@ -25,5 +25,5 @@ abbrev pub AreKept : List Task → List Task → Type 0
 AreKept before after = keys after ≡ listed_keys (keys before) after
 
 -- a key with another bandwidth, where it is that of a number
-abbrev pub with_bw : ℕ → ℕ → ℕ × ℕ → ℕ × ℕ
-with_bw number bw k = if k.0 == number then (k.0, bw) else k
+abbrev pub key_with_bw : ℕ → ℕ → ℕ × ℕ → ℕ × ℕ
+key_with_bw number bw k = if k.0 == number then (k.0, bw) else k

@@ -12,18 +12,18 @@ pub record LogView : Type 0 where
   pub room : ℕ
 
 -- what it keeps of what it is told
-abbrev pub kept : LogView → List Happened → List Happened
-kept log told = if log.wanted then told else []
+abbrev pub if_wanted : LogView → List Happened → List Happened
+if_wanted log told = if log.wanted then told else []
 
 -- a log that was told this, and nothing else
 pub record Tells (before : LogView) (told : List Happened) (after : LogView) : Type 0 where
   pub wanted : after.wanted ≡ before.wanted
-  pub happened : after.happened ≡ before.happened ++ kept before told
+  pub happened : after.happened ≡ before.happened ++ if_wanted before told
 
 -- room for so much, where it keeps it
-abbrev pub HasRoom : ℕ → LogView → Type 0
-HasRoom count log = IsTrue log.wanted → count ≤ log.room
+abbrev pub LogHasRoom : ℕ → LogView → Type 0
+LogHasRoom count log = IsTrue log.wanted → count ≤ log.room
 
 -- for the end of a tick: three for each of 64 CPUs
 abbrev pub HasRoomToEnd : LogView → Type 0
-HasRoomToEnd log = HasRoom 192 log
+HasRoomToEnd log = LogHasRoom 192 log

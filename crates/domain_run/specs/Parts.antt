@@ -10,7 +10,7 @@ use Rattle.domain_run.specs.declared.task.Condition.{Condition}
 use Rattle.domain_run.specs.declared.task.Condition.TheVariants.{Ready, Throttled, Blocked, Waiting, Leaving}
 use Rattle.task_script.specs.declared.script.Segment.{Segment}
 use Rattle.task_script.specs.declared.script.Segment.TheVariants.{Run as RunFor, Until, Wait as WaitFor, End}
-use Rattle.task_script.specs.script.Segments.{Asked, asked}
+use Rattle.task_script.specs.script.Segments.{SegmentAndCursor, next_segment}
 use Rattle.domain_run.specs.Conditions.{is_throttled, is_leaving, is_over, has_come}
 
 -- PART 1. A throttled task whose deadline has come is replenished, and ready
@@ -48,13 +48,14 @@ started time (Until u) t = record t { condition = Blocked u }
 started time WaitFor t = record t { condition = Waiting }
 started time End t = record t { condition = Leaving }
 
-abbrev pub starts : ℕ → Task → Asked → Task
+abbrev pub starts : ℕ → Task → SegmentAndCursor → Task
 starts time t a = started time a.segment (record t { cursor = a.cursor })
 
 -- a task whose time of blocking is over is unblocked: it asks its script, and wakes where that has
 -- it run
 abbrev pub unblocked : ℕ → Task → Task
-unblocked time t = if is_over time t.condition then starts time t (asked t.cursor time) else t
+unblocked time t =
+    if is_over time t.condition then starts time t (next_segment t.cursor time) else t
 
 -- PART 4. A task that is placed belongs to its CPU
 abbrev pub with_cpu : Option ℕ → Task → Task
@@ -79,12 +80,13 @@ went_on time (Until u) t = stopped time (Blocked u) t
 went_on time WaitFor t = stopped time Waiting t
 went_on time End t = stopped time Leaving t
 
-abbrev pub goes_on : ℕ → Task → Asked → Task
+abbrev pub goes_on : ℕ → Task → SegmentAndCursor → Task
 goes_on time t a = went_on time a.segment (record t { cursor = a.cursor })
 
 -- at the end of its work a task asks its script
 abbrev pub after_charge : ℕ → Task → Task
-after_charge time t = if t.work == 0 then goes_on time t (asked t.cursor time) else running_on t
+after_charge time t =
+    if t.work == 0 then goes_on time t (next_segment t.cursor time) else running_on t
 
 -- a tick of running at a rate: the budget falls by the rate, and the work by one
 abbrev pub ran : ℕ → ℕ → Task → Task

@@ -6,5 +6,5 @@ use Rattle.domain_run.specs.Domain.{Domain}
 abbrev pub without_switches : Domain → Domain
 without_switches d = record d { switches = [] }
 
-abbrev pub behind : List Switch → Domain → Domain
-behind past d = record d { switches = past ++ d.switches }
+abbrev pub with_past : List Switch → Domain → Domain
+with_past past d = record d { switches = past ++ d.switches }

@@ -2,7 +2,7 @@
 use Rattle.std.specs.Prelude.{ℕ, List, [], ◌∷◌}
 use Rattle.domain_run.specs.declared.call.Call.{Call}
 use Rattle.domain_run.specs.declared.call.Reply.{Reply}
-use Rattle.domain_run.specs.Domain.{Domain, opened}
+use Rattle.domain_run.specs.Domain.{Domain, empty_domain}
 use Rattle.domain_run.specs.Calls.{reply_to, after_call}
 
 -- the domain that the calls leave
@@ -17,4 +17,4 @@ replies_to d (c ∷ cs) = reply_to d c ∷ replies_to (after_call d c) cs
 
 -- from the empty domain
 abbrev pub run_of : ℕ → ℕ → List Call → Domain
-run_of cpus limit calls = after_calls (opened cpus limit) calls
+run_of cpus limit calls = after_calls (empty_domain cpus limit) calls

@@ -8,7 +8,7 @@ use Rattle.domain_run.specs.declared.task.Condition.{Condition}
 use Rattle.domain_run.specs.declared.task.Condition.TheVariants.{Ready, Throttled, Blocked, Waiting, Leaving}
 use Rattle.domain_run.specs.Conditions.{is_ready, is_throttled, is_contending}
 use Rattle.domain_run.specs.Switch.{Switch}
-use Rattle.domain_run.specs.Switches.{is_before}
+use Rattle.domain_run.specs.Switches.{is_switch_before}
 use Rattle.domain_run.specs.Domain.{Domain, IsCpus, IsLimit}
 use Rattle.domain_run.specs.Bounds.{IsEarly, IsSoon, IsServed}
 use Rattle.domain_run.specs.Tick.{sum_of}
@@ -36,7 +36,7 @@ abbrev pub occupant : Places → ℕ → Option ℕ
 occupant places cpu = slice_index_or places cpu None
 
 -- no task stands on two CPUs
-pub record IsApart (places : Places) : Type 0 where
+pub record HasNoTaskTwice (places : Places) : Type 0 where
   pub once : (i j n : ℕ) → occupant places i ≡ Some n → occupant places j ≡ Some n → i ≡ j
 
 -- a task of this number that may stand on a CPU: it is ready, has budget left and belongs to that
@@ -48,7 +48,7 @@ MayStand cpu n t =
 -- what is placed: on each CPU stands nobody, or a listed task that may; and no task stands on two
 pub record IsPlacement (d : Domain) : Type 0 where
   pub running : (cpu n : ℕ) → occupant d.curr cpu ≡ Some n → Any (MayStand cpu n) d.tasks
-  pub apart : IsApart d.curr
+  pub apart : HasNoTaskTwice d.curr
 
 -- the number was admitted
 abbrev pub IsAdmitted : List ℕ → ℕ → Type 0
@@ -68,7 +68,7 @@ pub record IsSteady (d : Domain) : Type 0 where
   pub numbered : AllPairs (λ a b. a.number ≢ b.number) d.tasks
   pub known : All (λ t. IsAdmitted d.used t.number) d.tasks
   pub wide : length d.curr ≡ d.cpus
-  pub apart : IsApart d.curr
+  pub apart : HasNoTaskTwice d.curr
 
 -- a switch of an earlier tick, on a CPU of the domain, between tasks that were admitted
 pub record IsSwitch (cpus time : ℕ) (used : List ℕ) (s : Switch) : Type 0 where
@@ -80,7 +80,7 @@ pub record IsSwitch (cpus time : ℕ) (used : List ℕ) (s : Switch) : Type 0 wh
 -- the switches rise strictly by time and CPU, and who stands on a CPU was admitted
 pub record IsTraced (d : Domain) : Type 0 where
   pub switches : All (IsSwitch d.cpus d.time d.used) d.switches
-  pub rising : AllPairs (λ a b. IsTrue (is_before a b)) d.switches
+  pub rising : AllPairs (λ a b. IsTrue (is_switch_before a b)) d.switches
   pub standing : (cpu n : ℕ) → occupant d.curr cpu ≡ Some n → IsAdmitted d.used n
 
 -- what every domain keeps between two ticks

@@ -15,8 +15,8 @@ pub record Switch : Type 0 where
   -- in which state the previous occupant leaves
   pub state : PrevState
 
--- idle leaves in the state Running (the event's prev_state R), and no task does: one that still wants
--- the CPU is told as preempted (R+)
+-- idle leaves in the state Running (the event's prev_state R), and no task does: one that still
+-- wants the CPU is told as preempted (R+)
 abbrev pub IsLeftIn : PrevState → Option ℕ → Type 0
 IsLeftIn state None = state ≡ Running
 IsLeftIn state (Some n) = state ≢ Running

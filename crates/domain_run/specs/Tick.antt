@@ -53,8 +53,8 @@ abbrev pub with_prepared : Domain → List Task → Domain
 with_prepared d tasks = with_places d tasks (placed d.cpus (candidates tasks) d.curr)
 
 -- what begins in a tick: parts 1 to 5
-abbrev pub begun : Domain → Domain
-begun d = with_prepared d (prepared d.time d.tasks)
+abbrev pub with_tick_begun : Domain → Domain
+with_tick_begun d = with_prepared d (prepared d.time d.tasks)
 
 -- the rate of a running task, from the sums as they are after part 4
 abbrev pub rate_of : Domain → Task → ℕ
@@ -70,7 +70,7 @@ finished d = record d { time = d.time + 1; tasks = map (ran_if d) d.tasks }
 
 -- one tick
 abbrev pub ticked : Domain → Domain
-ticked d = finished (begun d)
+ticked d = finished (with_tick_begun d)
 
 -- so many ticks
 abbrev pub ticks : ℕ → Domain → Domain

@@ -43,14 +43,14 @@ pub(crate) fn new_task(
 
 /// A regrade: new parameters.
 pub(crate) fn regrade(task: &mut Task, params: &Params)
-    ensures { task.new ≡ calls.regraded params.now task.old }
+    ensures { task.new ≡ calls.with_new_params params.now task.old }
 {
     task.params = *params;
 }
 
 /// A wake: it asks its script in the next tick.
 pub(crate) fn release(task: &mut Task, time: u64)
-    ensures { task.new ≡ calls.released time task.old }
+    ensures { task.new ≡ calls.blocked_until time task.old }
 {
     task.condition = Condition::Blocked(time);
 }
@@ -58,7 +58,7 @@ pub(crate) fn release(task: &mut Task, time: u64)
 /// The end of a task: where it contends, its zero-lag time is told from now.
 pub(crate) fn end(task: &mut Task, time: u64)
     requires { IsSound time task.old }
-    ensures task { task.new ≡ calls.ended time task.old }
+    ensures task { task.new ≡ calls.ended_at time task.old }
     ensures sound { IsSound time task.new }
 {
     if task.condition.is_contending() {

@@ -5,7 +5,7 @@ ghost use Rattle.domain_run.specs.Conditions.{is_ready};
 ghost use Rattle.domain_run.specs.Sound.{IsSound};
 ghost use Rattle.domain_run.specs.private.Paying.{ran_until};
 ghost use Rattle.domain_run.specs.private.RunQueue as spec;
-ghost use Rattle.domain_run.specs.private.Roster.{after_change, put_aside, bared, MayMake, MayRun, HasStood};
+ghost use Rattle.domain_run.specs.private.Roster.{task_after, put_aside, without_zero_lag, MayMake, MayRun, HasStood};
 ghost use Rattle.domain_run.specs.private.Waiting.{owed_by};
 ghost use Rattle.due_times.specs.declared.seats.Seat.{Seat};
 
@@ -45,7 +45,7 @@ pub(crate) enum Change {
 #[inline(always)]
 pub(crate) fn does_nothing(task: &Task, time: u64, change: &Change) -> bool
     ensures { IsTrue result → (upto : ℕ) (seat : Option Seat)
-        → after_change time change.now (owed_by upto seat task.now) ≡ owed_by upto seat task.now }
+        → task_after time change.now (owed_by upto seat task.now) ≡ owed_by upto seat task.now }
 {
     match change {
         Change::Replenish => !task.condition.is_throttled(),
@@ -74,7 +74,7 @@ fn slide(task: &mut Task, time: u64, ticks: u64, left: i128)
 /// The zero-lag time of a task, which has it no more.
 #[inline(always)]
 fn take_lag(task: &mut Task) -> Option<u64>
-    ensures task { task.new ≡ bared task.old }
+    ensures task { task.new ≡ without_zero_lag task.old }
     ensures lag { result ≡ task.old.zero_lag }
 {
     let lag = task.zero_lag;
@@ -88,7 +88,7 @@ fn run_aside(task: &mut Task, time: u64, ticks: u64, left: i128) -> Option<u64>
     requires sound { IsSound time task.old }
     requires may { MayRun time ticks left task.old }
     requires small { task.old.params.bw ≤ 2 ^ 20 }
-    ensures task { task.new ≡ bared (ran_until time ticks left task.old) }
+    ensures task { task.new ≡ without_zero_lag (ran_until time ticks left task.old) }
     ensures aside { result ≡ (ran_until time ticks left task.old).zero_lag }
     ensures sound { IsSound time task.new }
 {
@@ -101,7 +101,7 @@ fn run_aside(task: &mut Task, time: u64, ticks: u64, left: i128) -> Option<u64>
 fn act(task: &mut Task, time: u64, change: &Change) -> Option<u64>
     requires sound { IsSound time task.old }
     requires may { MayMake time change.now task.old }
-    ensures task { task.new ≡ after_change time change.now task.old }
+    ensures task { task.new ≡ task_after time change.now task.old }
     ensures aside { result ≡ put_aside time change.now task.old }
     ensures sound { IsSound time task.new }
 {
@@ -136,7 +136,7 @@ pub(crate) struct Made {
 pub(crate) fn make(task: &mut Task, time: u64, change: &Change) -> Option<Made>
     requires sound { IsSound time task.old }
     requires may { MayMake time change.now task.old }
-    ensures task { task.new ≡ after_change time change.now task.old }
+    ensures task { task.new ≡ task_after time change.now task.old }
     ensures sound { IsSound time task.new }
     ensures stood { HasStood (option_map (λ m. m.before) result) task.old task.new }
     ensures aside { IfSome result (λ m. m.aside ≡ put_aside time change.now task.old) }

@@ -29,7 +29,7 @@ impl What {
     /// Its place, 0 to 6, in the order of what happens at one time: what ends a tick comes first,
     /// then the calls between two ticks, then what begins a tick.
     pub fn rank(self) -> u8
-        ensures { result ≡ happened_spec.rank self }
+        ensures { result ≡ happened_spec.kind_rank self }
     {
         match self {
             What::JobEnds => 0,

@@ -3,7 +3,7 @@
 //! else.
 
 ghost use Rattle.std.specs.Prelude.{◌≡◌, IfOk, IfSome, IfNone, vec_capacity, vec_len};
-ghost use Rattle.domain_run.specs.private.Index.{IsAt, IsAbsent};
+ghost use Rattle.domain_run.specs.private.Index.{IsListedAt, IsUnlisted};
 
 use crate::task::Task;
 use no_memory::NoMemory;
@@ -22,13 +22,13 @@ pub(crate) struct Index {
 
 impl Model for Index {
     ghost use Rattle.std.specs.Prelude.{ℕ, List, vec_capacity};
-    ghost use Rattle.domain_run.specs.private.Index.{IsIndex};
+    ghost use Rattle.domain_run.specs.private.Index.{IsNumberIndex};
 
     ghost Value = { List ℕ };
 
     ghost view = { λ i. i.noted.items };
 
-    ghost invariant = { λ i. IsIndex i.noted.items (vec_capacity i.noted) };
+    ghost invariant = { λ i. IsNumberIndex i.noted.items (vec_capacity i.noted) };
 }
 
 // A place for each number, with room for no more.
@@ -66,8 +66,8 @@ impl Index {
 
     /// The place of the task of a number, where it is listed.
     pub(crate) fn place(&self, tasks: &SlotList<Task>, number: u32) -> Option<usize>
-        ensures there { IfSome result (IsAt tasks.now number) }
-        ensures absent { IfNone result (IsAbsent tasks.now number) }
+        ensures there { IfSome result (IsListedAt tasks.now number) }
+        ensures absent { IfNone result (IsUnlisted tasks.now number) }
     {
         let place = self.noted_place(number);
         if place < tasks.len() && tasks.at(place).number == number {
@@ -79,8 +79,8 @@ impl Index {
 
 // The same by a look at each task.
 fn searched(tasks: &SlotList<Task>, number: u32) -> Option<usize>
-    ensures there { IfSome result (IsAt tasks.now number) }
-    ensures absent { IfNone result (IsAbsent tasks.now number) }
+    ensures there { IfSome result (IsListedAt tasks.now number) }
+    ensures absent { IfNone result (IsUnlisted tasks.now number) }
 {
     for place in 0..tasks.len() {
         if tasks.at(place).number == number {

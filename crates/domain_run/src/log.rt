@@ -4,10 +4,10 @@ ghost use Rattle.std.specs.Prelude.{◌≡◌, ◌<◌, ◌≤◌, ◌+◌, [], 
 ghost use Rattle.std.specs.Ordering.{is_lt};
 ghost use Rattle.edf_pick.specs.Places.{is_task};
 ghost use Rattle.domain_run.specs.Happened as happened_spec;
-ghost use Rattle.domain_run.specs.Log.{Tells, HasRoom};
-ghost use Rattle.domain_run.specs.Sound.{occupant, IsApart as IsPlacedOnce};
+ghost use Rattle.domain_run.specs.Log.{Tells, LogHasRoom};
+ghost use Rattle.domain_run.specs.Sound.{occupant, HasNoTaskTwice as IsPlacedOnce};
 ghost use Rattle.domain_run.specs.private.RunQueue.{AreHomed};
-ghost use Rattle.domain_run.specs.private.Telling.{IsApart, InOrderFrom, GoHome, one_of, all_of};
+ghost use Rattle.domain_run.specs.private.Telling.{IsApart, InOrderFrom, GoHome, one_of, all_of_told};
 
 use crate::happened::Happened;
 use crate::roster::Roster;
@@ -106,7 +106,7 @@ fn at_home(one: &Happened, places: &[Option<u32>], roster: &Roster) -> Happened
     requires wide { length places.now ≡ roster.now.cpus }
     requires apart { IsPlacedOnce places.now }
     requires homed { AreHomed places.now roster.now.tasks }
-    ensures { result ≡ happened_spec.at_home places.now one.now }
+    ensures { result ≡ happened_spec.with_its_cpu places.now one.now }
 {
     match cpu_of(one.number, places, roster) {
         Some(cpu) => Happened {
@@ -123,7 +123,7 @@ fn all_home(told: &mut [Happened], places: &[Option<u32>], roster: &Roster)
     requires wide { length places.now ≡ roster.now.cpus }
     requires apart { IsPlacedOnce places.now }
     requires homed { AreHomed places.now roster.now.tasks }
-    ensures { told.new ≡ map (happened_spec.at_home places.now) told.old }
+    ensures { told.new ≡ map (happened_spec.with_its_cpu places.now) told.old }
 {
     for one in told.iter_mut() {
         *one = at_home(one, places, roster);
@@ -138,7 +138,7 @@ fn all_home_in_order(told: &mut [Happened], places: &[Option<u32>], roster: &Ros
     requires apart { IsPlacedOnce places.now }
     requires homed { AreHomed places.now roster.now.tasks }
     ensures { AllPairs IsApart told.old
-        → told.new ≡ happened_spec.in_order (map (happened_spec.at_home places.now) told.old) }
+        → told.new ≡ happened_spec.in_order (map (happened_spec.with_its_cpu places.now) told.old) }
 {
     all_home(told, places, roster);
     put_in_order(told);
@@ -203,7 +203,7 @@ impl Log {
     /// was refused; it has what it had then.
     pub fn make_room(&mut self, more: usize) -> Result<(), NoMemory>
         ensures told { Tells self.old [] self.new }
-        ensures ok { OnOk result (HasRoom more self.new) }
+        ensures ok { OnOk result (LogHasRoom more self.new) }
         ensures silent { self.old.wanted ≡ false → self.new ≡ self.old }
     {
         if self.wanted {
@@ -214,7 +214,7 @@ impl Log {
 
     /// Has one more behind all that it was told.
     pub(crate) fn push(&mut self, one: Option<Happened>)
-        requires room { HasRoom 1 self.old }
+        requires room { LogHasRoom 1 self.old }
         ensures told { Tells self.old (one_of one) self.new }
         ensures room { self.old.room ≤ self.new.room + 1 }
         ensures no_more { self.new.room ≤ self.old.room }
@@ -228,8 +228,8 @@ impl Log {
 
     /// Has what a change of a task told behind all that it was told.
     pub(crate) fn push_all(&mut self, told: Told)
-        requires room { HasRoom 3 self.old }
-        ensures told { Tells self.old (all_of told) self.new }
+        requires room { LogHasRoom 3 self.old }
+        ensures told { Tells self.old (all_of_told told) self.new }
         ensures room { self.old.room ≤ self.new.room + 3 }
     {
         self.push(told.first);

@@ -18,13 +18,13 @@ pub(crate) struct Numbers {
 
 impl Model for Numbers {
     ghost use Rattle.std.specs.Prelude.{ℕ, List, vec_len, vec_capacity};
-    ghost use Rattle.domain_run.specs.private.Numbers.{marked, AreMarks};
+    ghost use Rattle.domain_run.specs.private.Numbers.{numbers_marked, AreNumberMarks};
 
     ghost Value = { List ℕ };
 
-    ghost view = { λ n. marked 0 n.marks.items };
+    ghost view = { λ n. numbers_marked 0 n.marks.items };
 
-    ghost invariant = { λ n. AreMarks (vec_len n.marks) (vec_capacity n.marks) };
+    ghost invariant = { λ n. AreNumberMarks (vec_len n.marks) (vec_capacity n.marks) };
 }
 
 // So many places without a mark, with room for no more.

@@ -11,18 +11,18 @@ ghost use Rattle.domain_run.specs.declared.task.Task.{Task};
 ghost use Rattle.domain_run.specs.Conditions.{is_ready, is_leaving};
 ghost use Rattle.domain_run.specs.Domain.{IsLimit};
 ghost use Rattle.domain_run.specs.Parts.{is_listed, with_last_cpu};
-ghost use Rattle.domain_run.specs.Sound.{IsSound, IsApart};
-ghost use Rattle.domain_run.specs.Switches.{state_of};
+ghost use Rattle.domain_run.specs.Sound.{IsSound, HasNoTaskTwice};
+ghost use Rattle.domain_run.specs.Switches.{prev_state_of};
 ghost use Rattle.domain_run.specs.Tick as tick;
 ghost use Rattle.domain_run.specs.Calls.{of_number, is_other};
-ghost use Rattle.domain_run.specs.private.Choosing.{switch_of};
-ghost use Rattle.domain_run.specs.private.Index.{IsAt, IsAbsent};
+ghost use Rattle.domain_run.specs.private.Choosing.{switch_made};
+ghost use Rattle.domain_run.specs.private.Index.{IsListedAt, IsUnlisted};
 ghost use Rattle.domain_run.specs.Views.{view_of};
-ghost use Rattle.domain_run.specs.private.Roster.{after_change, put_aside, MayMake, Fits, HasLeft, IsSeenAs, runner_in};
+ghost use Rattle.domain_run.specs.private.Roster.{task_after, put_aside, MayMake, Fits, HasLeft, IsSeenAs, runner_in};
 ghost use Rattle.domain_run.specs.private.RunQueue.{AreHomed};
-ghost use Rattle.domain_run.specs.private.Waiting.{seat_of, MaySitIfReady};
+ghost use Rattle.domain_run.specs.private.Waiting.{seat_of_task, MaySitIfReady};
 ghost use Rattle.due_times.specs.Timers.{least};
-ghost use Rattle.domain_run.specs.private.Timers.{IsStep, AreNotDue, due_of};
+ghost use Rattle.domain_run.specs.private.Timers.{IsTimerStep, AreNotDue, due_of};
 ghost use Rattle.edf_pick.specs.Moves.{moved_from};
 ghost use Rattle.edf_pick.specs.Places.{placed};
 ghost use Rattle.grub_rules.specs.Sums as sums;
@@ -32,6 +32,7 @@ mod dozing;
 mod lending;
 mod listing;
 mod passing;
+mod rating;
 mod seating;
 mod starting;
 mod turning;
@@ -159,7 +160,7 @@ impl Roster {
     pub(crate) fn at(&self, place: usize) -> &Task
         requires there { place < length self.now.tasks }
         requires free { (d : Task)
-            → seat_of self.now.seats (slice_index_or self.now.tasks place d) ≡ None }
+            → seat_of_task self.now.seats (slice_index_or self.now.tasks place d) ≡ None }
         ensures task { (d : Task) → result.now ≡ slice_index_or self.now.tasks place d }
         ensures home { result.now.cpu < self.now.cpus }
     {
@@ -188,8 +189,8 @@ impl Roster {
     /// The place of the task of a number, where it is listed.
     #[inline(always)]
     pub(crate) fn place(&self, number: u32) -> Option<usize>
-        ensures there { IfSome result (IsAt self.now.tasks number) }
-        ensures absent { IfNone result (IsAbsent self.now.tasks number) }
+        ensures there { IfSome result (IsListedAt self.now.tasks number) }
+        ensures absent { IfNone result (IsUnlisted self.now.tasks number) }
         ensures numbered { AllPairs (λ a b. a.number ≢ b.number) self.now.tasks }
     {
         self.index.place(&self.tasks, number)
@@ -285,7 +286,7 @@ impl Roster {
 
     /// Part 5: the state in which an occupant leaves its CPU.
     pub(crate) fn state_of(&self, occupant: Option<u32>) -> PrevState
-        ensures { result ≡ state_of self.now.tasks occupant }
+        ensures { result ≡ prev_state_of self.now.tasks occupant }
     {
         choosing::state_of(&self.tasks, &self.index, occupant)
     }
@@ -335,7 +336,8 @@ impl Roster {
         requires may { (d : Task) → MayMake time change.now
             (slice_index_or self.old.tasks place d) }
         ensures cpus { self.new.cpus ≡ self.old.cpus }
-        ensures step { IsStep (after_change time change.now) place self.old.tasks self.new.tasks }
+        ensures step { IsTimerStep (task_after time change.now) place self.old.tasks
+            self.new.tasks }
         ensures sound { All (IsSound time) self.new.tasks }
         ensures clock { self.new.clock ≡ self.old.clock }
         ensures places { self.new.places ≡ self.old.places }
@@ -370,7 +372,8 @@ impl Roster {
         requires may { (d : Task) → MayMake time change.now
             (slice_index_or self.old.tasks place d) }
         ensures cpus { self.new.cpus ≡ self.old.cpus }
-        ensures step { IsStep (after_change time change.now) place self.old.tasks self.new.tasks }
+        ensures step { IsTimerStep (task_after time change.now) place self.old.tasks
+            self.new.tasks }
         ensures sound { All (IsSound time) self.new.tasks }
         ensures clock { self.new.clock ≡ self.old.clock }
         ensures places { self.new.places ≡ self.old.places }
@@ -398,7 +401,7 @@ impl Roster {
         ensures cpus { self.new.cpus ≡ self.old.cpus }
         ensures places { self.new.places ≡ self.old.places }
         ensures tasks { self.new.tasks
-            ≡ map (of_number number (after_change time change.now)) self.old.tasks }
+            ≡ map (of_number number (task_after time change.now)) self.old.tasks }
         ensures sound { All (IsSound time) self.new.tasks }
     {
         if let Some(place) = self.place(number) {
@@ -410,14 +413,14 @@ impl Roster {
     /// CPU then belongs to it.
     pub(crate) fn choose(&mut self)
         requires wide { length self.old.places ≡ self.old.cpus }
-        requires apart { IsApart self.old.places }
+        requires apart { HasNoTaskTwice self.old.places }
         ensures cpus { self.new.cpus ≡ self.old.cpus }
         ensures places { self.new.places
             ≡ placed (length self.old.places) (tick.candidates self.old.tasks) self.old.places }
         ensures moves { self.new.moves ≡ moved_from 0 self.old.places self.new.places }
         ensures tasks { self.new.tasks ≡ map (with_last_cpu self.new.places) self.old.tasks }
         ensures wide { length self.new.places ≡ length self.old.places }
-        ensures apart { IsApart self.new.places }
+        ensures apart { HasNoTaskTwice self.new.places }
     {
         self.queue.schedule.pick();
         choosing::home_all(
@@ -436,7 +439,7 @@ impl Roster {
     pub(crate) fn choose_seated(&mut self, moment: Moment, switches: &mut Vec<Switch>)
         requires early { moment.time < 2 ^ 48 }
         requires wide { length self.old.places ≡ self.old.cpus }
-        requires apart { IsApart self.old.places }
+        requires apart { HasNoTaskTwice self.old.places }
         requires cpus { (0 < self.old.cpus) × (self.old.cpus ≤ 64) }
         requires limit { IsLimit moment.limit }
         requires within { tick.sum_of self.old.tasks ≤ cap self.old.cpus moment.limit }
@@ -449,7 +452,7 @@ impl Roster {
         ensures tasks { self.new.tasks ≡ map (with_last_cpu self.new.places) self.old.tasks }
         ensures wide { length self.new.places ≡ length self.old.places }
         ensures switches { switches.new.items ≡ switches.old.items
-            ++ map (switch_of moment.time self.old.tasks self.new.places) self.new.moves }
+            ++ map (switch_made moment.time self.old.tasks self.new.places) self.new.moves }
         ensures spare { vec_capacity switches.new ≡ vec_capacity switches.old }
     {
         self.queue.schedule.pick();
@@ -471,7 +474,7 @@ impl Roster {
         requires idle { is_ready task.condition ≡ false }
         requires home { task.cpu < self.old.cpus }
         requires short { task.params.bw ≤ 2 ^ 26 }
-        requires absent { IsAbsent self.old.tasks task.number }
+        requires absent { IsUnlisted self.old.tasks task.number }
         requires homed { with_last_cpu self.old.places task ≡ task }
         ensures cpus { self.new.cpus ≡ self.old.cpus }
         ensures places { self.new.places ≡ self.old.places }

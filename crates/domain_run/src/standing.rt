@@ -42,7 +42,7 @@ pub(crate) fn share_of(task: &Task) -> Share
 
 #[inline(always)]
 fn moment_of(moment: Option<u64>) -> u64
-    ensures moment { result ≡ timers.moment_of moment }
+    ensures moment { result ≡ timers.due_moment moment }
     ensures short { result < 2 ^ 64 }
 {
     match moment {

@@ -3,7 +3,7 @@
 ghost use Rattle.std.specs.Prelude.{◌≡◌, ◌<◌, ◌≤◌, OnOk, IfOk, length, IsTrue, IfErr};
 ghost use Rattle.domain_run.specs.declared.call.Call.TheVariants as Call;
 ghost use Rattle.domain_run.specs.declared.call.Reply.TheVariants as Reply;
-ghost use Rattle.domain_run.specs.Domain.{IsCpus, IsLimit, opened};
+ghost use Rattle.domain_run.specs.Domain.{IsCpus, IsLimit, empty_domain};
 ghost use Rattle.domain_run.specs.Views.{view_in};
 ghost use Rattle.domain_run.specs.Tick as tick;
 ghost use Rattle.domain_run.specs.Calls as calls;
@@ -91,7 +91,7 @@ impl State {
     pub fn open(alloc: Global, cpus: u32, limit: u64) -> Result<State, NoMemory>
         requires cpus { IsCpus cpus }
         requires limit { IsLimit limit }
-        ensures { IfOk result (λ s. s ≡ opened cpus limit) }
+        ensures { IfOk result (λ s. s ≡ empty_domain cpus limit) }
     {
         let cpus = cpus as usize;
         // The roster comes last, so that there is none to let go of where the room for another part
@@ -186,7 +186,7 @@ impl State {
         requires granted { calls.admit_reply self.old number params ≡ Reply.Admitted }
         requires small { number < 65536 }
         requires delay { delay ≤ 1000000000 }
-        ensures { self.new ≡ calls.listed self.old
+        ensures { self.new ≡ calls.with_task_listed self.old
             (calls.new_task self.old number name params delay script) }
     {
         let task = new_task(number, name, params, self.time + delay, script, self.cpus);

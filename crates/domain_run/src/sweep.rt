@@ -7,17 +7,17 @@ ghost use Rattle.domain_run.specs.declared.task.Task.{Task};
 ghost use Rattle.domain_run.specs.Calls.{of_number};
 ghost use Rattle.domain_run.specs.Domain.{IsLimit};
 ghost use Rattle.domain_run.specs.Happened.{told_by_replenishment};
-ghost use Rattle.domain_run.specs.Log.{HasRoom, Tells};
+ghost use Rattle.domain_run.specs.Log.{LogHasRoom, Tells};
 ghost use Rattle.domain_run.specs.Parts as parts_spec;
 ghost use Rattle.edf_pick.specs.Places as places_spec;
-ghost use Rattle.domain_run.specs.Sound.{IsSound, IsApart};
+ghost use Rattle.domain_run.specs.Sound.{IsSound, HasNoTaskTwice};
 ghost use Rattle.domain_run.specs.Switches as switches_spec;
 ghost use Rattle.domain_run.specs.Tick as tick_spec;
 ghost use Rattle.domain_run.specs.private.Paying.{MayPayIf, paid};
 ghost use Rattle.domain_run.specs.private.Choosing as choosing_spec;
-ghost use Rattle.domain_run.specs.private.Roster.{after_change, served, IsPart, IsWoken, Fits, MayMake};
-ghost use Rattle.domain_run.specs.private.Timers.{IsStep};
-ghost use Rattle.domain_run.specs.private.Waiting.{seat_of};
+ghost use Rattle.domain_run.specs.private.Roster.{task_after, timers_served, IsPart, IsWoken, Fits, MayMake};
+ghost use Rattle.domain_run.specs.private.Timers.{IsTimerStep};
+ghost use Rattle.domain_run.specs.private.Waiting.{seat_of_task};
 ghost use Rattle.domain_run.specs.private.Telling as telling_spec;
 
 use crate::change::Change;
@@ -32,16 +32,17 @@ use edf_pick::Moved;
 fn tell_turn(roster: &mut Roster, place: usize, time: u64, change: &Change, log: &mut Log)
     requires there { place < length roster.old.tasks }
     requires free { (d : Task)
-        → seat_of roster.old.seats (slice_index_or roster.old.tasks place d) ≡ None }
+        → seat_of_task roster.old.seats (slice_index_or roster.old.tasks place d) ≡ None }
     requires early { time < 2 ^ 43 }
     requires narrow { roster.old.cpus ≤ 64 }
     requires fits { Fits roster.old.cpus change.now }
     requires sound { All (IsSound time) roster.old.tasks }
     requires may { (d : Task) → MayMake time change.now (slice_index_or roster.old.tasks place d) }
-    requires room { HasRoom 3 log.old }
+    requires room { LogHasRoom 3 log.old }
     ensures cpus { roster.new.cpus ≡ roster.old.cpus }
     ensures places { roster.new.places ≡ roster.old.places }
-    ensures step { IsStep (after_change time change.now) place roster.old.tasks roster.new.tasks }
+    ensures step { IsTimerStep (task_after time change.now) place roster.old.tasks
+        roster.new.tasks }
     ensures sound { All (IsSound time) roster.new.tasks }
     ensures told { (d : Task) → Tells log.old
         (telling_spec.told_by_change time change.now (slice_index_or roster.old.tasks place d))
@@ -63,10 +64,11 @@ fn turn(roster: &mut Roster, place: usize, time: u64, change: &Change, log: &mut
     requires fits { Fits roster.old.cpus change.now }
     requires sound { All (IsSound time) roster.old.tasks }
     requires may { (d : Task) → MayMake time change.now (slice_index_or roster.old.tasks place d) }
-    requires room { HasRoom 3 log.old }
+    requires room { LogHasRoom 3 log.old }
     ensures cpus { roster.new.cpus ≡ roster.old.cpus }
     ensures places { roster.new.places ≡ roster.old.places }
-    ensures step { IsStep (after_change time change.now) place roster.old.tasks roster.new.tasks }
+    ensures step { IsTimerStep (task_after time change.now) place roster.old.tasks
+        roster.new.tasks }
     ensures sound { All (IsSound time) roster.new.tasks }
     ensures told { (d : Task) → Tells log.old
         (telling_spec.told_by_change time change.now (slice_index_or roster.old.tasks place d))
@@ -96,11 +98,11 @@ fn turn_number(roster: &mut Roster, number: u32, time: u64, change: &Change, log
     requires fits { Fits roster.old.cpus change.now }
     requires sound { All (IsSound time) roster.old.tasks }
     requires may { All (λ t. t.number ≡ number → MayMake time change.now t) roster.old.tasks }
-    requires room { HasRoom 3 log.old }
+    requires room { LogHasRoom 3 log.old }
     ensures cpus { roster.new.cpus ≡ roster.old.cpus }
     ensures places { roster.new.places ≡ roster.old.places }
     ensures tasks { roster.new.tasks
-        ≡ map (of_number number (after_change time change.now)) roster.old.tasks }
+        ≡ map (of_number number (task_after time change.now)) roster.old.tasks }
     ensures sound { All (IsSound time) roster.new.tasks }
     ensures told { Tells log.old
         (flat_map (telling_spec.told_of_number number (telling_spec.told_by_change time change.now))
@@ -119,10 +121,10 @@ fn serve(roster: &mut Roster, place: usize, time: u64, log: &mut Log)
     requires early { time < 2 ^ 42 }
     requires narrow { roster.old.cpus ≤ 64 }
     requires sound { All (IsSound time) roster.old.tasks }
-    requires room { HasRoom 6 log.old }
+    requires room { LogHasRoom 6 log.old }
     ensures cpus { roster.new.cpus ≡ roster.old.cpus }
     ensures places { roster.new.places ≡ roster.old.places }
-    ensures step { IsStep (served time) place roster.old.tasks roster.new.tasks }
+    ensures step { IsTimerStep (timers_served time) place roster.old.tasks roster.new.tasks }
     ensures sound { All (IsSound time) roster.new.tasks }
     ensures told { (d : Task) → Tells log.old
         (told_by_replenishment time (slice_index_or roster.old.tasks place d)) log.new }
@@ -138,10 +140,10 @@ fn serve_due(roster: &mut Roster, time: u64, log: &mut Log)
     requires early { time < 2 ^ 42 }
     requires narrow { roster.old.cpus ≤ 64 }
     requires sound { All (IsSound time) roster.old.tasks }
-    requires room { HasRoom (6 * length roster.old.tasks) log.old }
+    requires room { LogHasRoom (6 * length roster.old.tasks) log.old }
     ensures cpus { roster.new.cpus ≡ roster.old.cpus }
     ensures places { roster.new.places ≡ roster.old.places }
-    ensures tasks { roster.new.tasks ≡ map (served time) roster.old.tasks }
+    ensures tasks { roster.new.tasks ≡ map (timers_served time) roster.old.tasks }
     ensures sound { All (IsSound time) roster.new.tasks }
     ensures told { Tells log.old
         (flat_map (told_by_replenishment time) roster.old.tasks) log.new }
@@ -162,10 +164,10 @@ fn turn_due(roster: &mut Roster, time: u64, change: &Change, log: &mut Log)
     requires part { IsPart time change.now }
     requires quiet { telling_spec.IsQuietPart time change.now }
     requires sound { All (IsSound time) roster.old.tasks }
-    requires room { HasRoom (3 * length roster.old.tasks) log.old }
+    requires room { LogHasRoom (3 * length roster.old.tasks) log.old }
     ensures cpus { roster.new.cpus ≡ roster.old.cpus }
     ensures places { roster.new.places ≡ roster.old.places }
-    ensures tasks { roster.new.tasks ≡ map (after_change time change.now) roster.old.tasks }
+    ensures tasks { roster.new.tasks ≡ map (task_after time change.now) roster.old.tasks }
     ensures sound { All (IsSound time) roster.new.tasks }
     ensures told { Tells log.old
         (flat_map (telling_spec.told_by_change time change.now) roster.old.tasks) log.new }
@@ -183,7 +185,7 @@ fn wake_told(roster: &mut Roster, time: u64, log: &mut Log)
     requires early { time < 2 ^ 42 }
     requires narrow { roster.old.cpus ≤ 64 }
     requires sound { All (IsSound time) roster.old.tasks }
-    requires room { HasRoom (9 * length roster.old.tasks) log.old }
+    requires room { LogHasRoom (9 * length roster.old.tasks) log.old }
     ensures cpus { roster.new.cpus ≡ roster.old.cpus }
     ensures places { roster.new.places ≡ roster.old.places }
     ensures tasks { roster.new.tasks ≡ tick_spec.prepared time roster.old.tasks }
@@ -243,7 +245,7 @@ fn wake_all(roster: &mut Roster, time: u64, log: &mut Log)
     requires early { time < 2 ^ 42 }
     requires narrow { roster.old.cpus ≤ 64 }
     requires sound { All (IsSound time) roster.old.tasks }
-    requires room { HasRoom (9 * length roster.old.tasks) log.old }
+    requires room { LogHasRoom (9 * length roster.old.tasks) log.old }
     ensures cpus { roster.new.cpus ≡ roster.old.cpus }
     ensures places { roster.new.places ≡ roster.old.places }
     ensures tasks { roster.new.tasks ≡ tick_spec.prepared time roster.old.tasks }
@@ -283,7 +285,7 @@ fn add_switch(switches: &mut Vec<Switch>, time: u64, roster: &Roster, moved: &Mo
     requires narrow { moved.now.cpu < 256 }
     requires room { vec_len switches.old < vec_capacity switches.old }
     ensures switches { switches.new.items ≡ switches.old.items
-        ++ choosing_spec.switch_of time roster.now.tasks roster.now.places moved.now ∷ [] }
+        ++ choosing_spec.switch_made time roster.now.tasks roster.now.places moved.now ∷ [] }
     ensures len { vec_len switches.new ≡ vec_len switches.old + 1 }
     ensures room { vec_capacity switches.new ≡ vec_capacity switches.old }
 {
@@ -299,7 +301,8 @@ fn add_switches(switches: &mut Vec<Switch>, time: u64, roster: &Roster)
     requires narrow { choosing_spec.AreWithin 64 roster.now.moves }
     requires room { vec_len switches.old + length roster.now.moves ≤ vec_capacity switches.old }
     ensures switches { switches.new.items ≡ switches.old.items
-        ++ map (choosing_spec.switch_of time roster.now.tasks roster.now.places) roster.now.moves }
+        ++ map (choosing_spec.switch_made time roster.now.tasks roster.now.places)
+        roster.now.moves }
     ensures room { vec_capacity switches.new ≡ vec_capacity switches.old }
 {
     let moves = roster.moves();
@@ -319,11 +322,11 @@ pub(crate) fn begin(
     log: &mut Log,
 ) -> bool
     requires narrow { roster.old.cpus ≤ 64 }
-    requires log { HasRoom (9 * length roster.old.tasks) log.old }
+    requires log { LogHasRoom (9 * length roster.old.tasks) log.old }
     requires early { time < 2 ^ 42 }
     requires sound { All (IsSound time) roster.old.tasks }
     requires cpus { length roster.old.places ≡ roster.old.cpus }
-    requires apart { IsApart roster.old.places }
+    requires apart { HasNoTaskTwice roster.old.places }
     requires numbered { AllPairs (λ a b. a.number ≢ b.number) roster.old.tasks }
     requires room { vec_len switches.old + length roster.old.places ≤ vec_capacity switches.old }
     ensures cpus { roster.new.cpus ≡ roster.old.cpus }
@@ -365,7 +368,7 @@ pub(crate) fn begin_seated(
     requires early { time < 2 ^ 42 }
     requires sound { All (IsSound time) roster.old.tasks }
     requires cpus { length roster.old.places ≡ roster.old.cpus }
-    requires apart { IsApart roster.old.places }
+    requires apart { HasNoTaskTwice roster.old.places }
     requires room { vec_len switches.old + length roster.old.places ≤ vec_capacity switches.old }
     ensures cpus { roster.new.cpus ≡ roster.old.cpus }
     ensures tasks { roster.new.tasks
@@ -403,7 +406,7 @@ pub(crate) fn pay_all(
     requires many { length budgets.now ≡ length running.now }
     requires sound { All (IsSound time) roster.old.tasks }
     requires may { All (MayPayIf running.now ticks budgets.now) roster.old.tasks }
-    requires room { HasRoom (3 * length running.now) log.old }
+    requires room { LogHasRoom (3 * length running.now) log.old }
     ensures cpus { roster.new.cpus ≡ roster.old.cpus }
     ensures places { roster.new.places ≡ roster.old.places }
     ensures tasks { roster.new.tasks

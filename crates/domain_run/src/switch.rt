@@ -53,8 +53,8 @@ fn handover_of(state: PrevState, next: Option<u32>) -> Handover
     }
 }
 
-/// One switch of a CPU from one occupant to another (the event sched_switch), in 16 bytes. Contracts
-/// see it as what its calls tell.
+/// One switch of a CPU from one occupant to another (the event sched_switch), in 16 bytes.
+/// Contracts see it as what its calls tell.
 #[derive(Clone, Copy)]
 pub struct Switch {
     // The lower 32 bits of the time; `high` has the 16 above them.
@@ -70,7 +70,7 @@ pub struct Switch {
 impl Model for Switch {
     ghost use Rattle.std.specs.Prelude.{◌+◌, ◌*◌, ◌/◌, ◌%◌, ◌^◌};
     ghost use Rattle.domain_run.specs.Switch.{Switch};
-    ghost use Rattle.domain_run.specs.private.Packed.{state_in, prev_in, next_in, handover_of, number_of, IsPacked, handed_over, lower_of, higher_of};
+    ghost use Rattle.domain_run.specs.private.Packed.{state_in, prev_in, next_in, handover_of, number_or_0, IsPacked, handed_over, lower_of, higher_of};
 
     ghost Value = { Switch };
 
@@ -86,8 +86,8 @@ impl Model for Switch {
 
     ghost inverse = { λ v. record {
       low = v.time % 2 ^ 32;
-      leaves = number_of v.prev;
-      comes = number_of v.next;
+      leaves = number_or_0 v.prev;
+      comes = number_or_0 v.next;
       high = v.time / 2 ^ 32;
       on = v.cpu;
       handover = handover_of v.state v.next;

@@ -73,7 +73,7 @@ pub(crate) fn tells_nothing(task: &Task, change: &Change) -> bool
 
 fn told_if(test: bool, time: u64, task: &Task, what: What) -> Option<Happened>
     requires { task.now.cpu < 2 ^ 16 }
-    ensures { result ≡ telling.told_if test time task.now what }
+    ensures { result ≡ telling.told_where test time task.now what }
 {
     if !test {
         return None;

@@ -1,10 +1,10 @@
-//! From the beginning of a tick to the next event, or to where a seat ends: who runs is charged only
-//! there.
+//! From the beginning of a tick to the next event, or to where a seat ends: who runs is charged
+//! only there.
 
 ghost use Rattle.std.specs.Prelude.{ℕ, ◌≡◌, ◌<◌, ◌≤◌, ◌+◌, ◌-◌, ◌^◌, All, length, map};
 ghost use Rattle.attr_check.specs.Ratio.{cap};
 ghost use Rattle.domain_run.specs.Domain.{IsLimit};
-ghost use Rattle.domain_run.specs.Sound.{IsSound, IsApart};
+ghost use Rattle.domain_run.specs.Sound.{IsSound, HasNoTaskTwice};
 ghost use Rattle.domain_run.specs.Tick.{sum_of};
 ghost use Rattle.domain_run.specs.private.Roster.{IsSeated, LastsIf, leapt};
 ghost use Rattle.domain_run.specs.private.Dozing.{with_lags, IsBare, leapt_bare};
@@ -55,7 +55,7 @@ pub(crate) fn leap(roster: &mut Roster, limit: u64, most: u64, time: u64) -> u64
     requires within { sum_of roster.old.tasks ≤ cap roster.old.cpus limit }
     requires homes { All (λ t. t.cpu < roster.old.cpus) roster.old.tasks }
     requires may { MaySitOn roster.old.places roster.old.tasks }
-    requires apart { IsApart roster.old.places }
+    requires apart { HasNoTaskTwice roster.old.places }
     requires some { 0 < most }
     requires early { time + most ≤ 2 ^ 42 + 1 }
     requires sound { All (IsSound time) roster.old.tasks }
@@ -93,7 +93,7 @@ pub(crate) fn leap_aside(
     requires within { sum_of roster.old.tasks ≤ cap roster.old.cpus limit }
     requires homes { All (λ t. t.cpu < roster.old.cpus) roster.old.tasks }
     requires may { MaySitOn roster.old.places roster.old.tasks }
-    requires apart { IsApart roster.old.places }
+    requires apart { HasNoTaskTwice roster.old.places }
     requires some { 0 < most }
     requires early { time + most ≤ 2 ^ 42 + 1 }
     requires sound { All (IsSound time) roster.old.tasks }

@@ -5,7 +5,7 @@ use Rattle.std.proofs.lemmas.Bool.{cases_eq}
 use Rattle.std.proofs.lemmas.List.{length-set, length-drop, drop-set-add, get_or-set_same, get_or-set_other}
 use Rattle.std.proofs.lemmas.Nat.{xor_block, xor_lt}
 use Rattle.due_times.specs.Timers.{IsSize}
-use Rattle.due_times.specs.private.Tournament.{IsTree, IsTreeBut, least_below, leaves}
+use Rattle.due_times.specs.private.Tournament.{IsTournamentTree, IsTreeBut, least_below, leaves}
 
 -- within a group of four
 beside : (at q r s : ℕ) → at ≡ 4 * q + r → r < 4 → s < 4 → bit_xor at s ≡ 4 * q + bit_xor r s
@@ -52,7 +52,7 @@ kept nodes at i time other =
     cc (a, b, c, d)
 
 -- a leaf is another, so the node above it may not be right
-pub leaf_changed : (nodes : List ℕ) (at time : ℕ) → IsTree nodes → length nodes / 2 ≤ at → IsTreeBut (at / 4) (set nodes at time)
+pub leaf_changed : (nodes : List ℕ) (at time : ℕ) → IsTournamentTree nodes → length nodes / 2 ≤ at → IsTreeBut (at / 4) (set nodes at time)
 leaf_changed nodes at time is from =
     let long = length-set nodes at time in
     record {
@@ -83,7 +83,7 @@ carried nodes at least is inner there e =
     }
 
 -- where it was right already, each node is
-pub right_already : (nodes : List ℕ) (at : ℕ) → IsTreeBut at nodes → get_or nodes at 0 ≡ least_below nodes at → IsTree nodes
+pub right_already : (nodes : List ℕ) (at : ℕ) → IsTreeBut at nodes → get_or nodes at 0 ≡ least_below nodes at → IsTournamentTree nodes
 right_already nodes at is e = record {
   fours = is.fours;
   each = λ i one within other.
@@ -93,7 +93,7 @@ right_already nodes at is e = record {
       ];
 }
 
-pub leaf_within : (nodes : List ℕ) (leaf : ℕ) → IsTree nodes → leaf < length (leaves nodes) → leaf < length nodes / 2
+pub leaf_within : (nodes : List ℕ) (leaf : ℕ) → IsTournamentTree nodes → leaf < length (leaves nodes) → leaf < length nodes / 2
 leaf_within nodes leaf is h = omega (arith, h, is.fours, length-drop (length nodes / 2) nodes)
 
 pub leaves_set : (nodes : List ℕ) (half leaf time : ℕ) → half ≡ length nodes / 2 → leaves (set nodes (half + leaf) time) ≡ set (leaves nodes) leaf time
@@ -105,7 +105,7 @@ leaves_set nodes half leaf time e =
 pub tree_above : (nodes : List ℕ) (at : ℕ) → IsTreeBut (at / 16) nodes → IsTreeBut (at / 4 / 4) nodes
 tree_above nodes at is = subst (λ (k : ℕ). IsTreeBut k nodes) (omega arith) is
 
-pub tree_whole : (nodes : List ℕ) (at : ℕ) → at < 16 → IsTreeBut (at / 16) nodes → IsTree nodes
+pub tree_whole : (nodes : List ℕ) (at : ℕ) → at < 16 → IsTreeBut (at / 16) nodes → IsTournamentTree nodes
 tree_whole nodes at low is = subst (λ (k : ℕ). IsTreeBut k nodes) (omega (arith, low)) is
 
 -- how many leaves there are, and the first node of a level

@@ -3,7 +3,7 @@ use Rattle.std.proofs.Common.{◌≡◌, ℕ, ◌+◌, ◌*◌, ◌/◌, ◌^◌
 use Rattle.std.proofs.lemmas.Bool.{cases_lt}
 use Rattle.std.proofs.lemmas.List.{length-drop, get_or-drop}
 use Rattle.due_times.specs.Timers.{least, AreLater, IsSize}
-use Rattle.due_times.specs.private.Tournament.{IsLeast, IsTree, AreAhead, ArePassed, IsOnWay, leaves}
+use Rattle.due_times.specs.private.Tournament.{IsLeast, IsTournamentTree, AreAhead, ArePassed, IsOnWay, leaves}
 use Rattle.due_times.proofs.Rooted.{rooted}
 use Rattle.due_times.proofs.Climbing.{Covers, covers_pow, four_times, some_wide, down_low, down_high, down_inner}
 
@@ -17,7 +17,7 @@ ahead_more nodes time low b s covers later ahead node above before within =
           omega (arith, covered, later)
     ]
 
-module _ (nodes : List ℕ) (time at n k : ℕ) (is : IsTree nodes) (one : 1 ≤ at) (passed : ArePassed (get_or nodes (4 * at) 0) (get_or nodes (4 * at + 1) 0) (get_or nodes (4 * at + 2) 0) time n) where
+module _ (nodes : List ℕ) (time at n k : ℕ) (is : IsTournamentTree nodes) (one : 1 ≤ at) (passed : ArePassed (get_or nodes (4 * at) 0) (get_or nodes (4 * at + 1) 0) (get_or nodes (4 * at + 2) 0) time n) where
   -- as many of the four as have not come lie behind
   down_ahead : (low : ℕ) → AreAhead nodes time low (at * (4 ^ k * 4)) → AreAhead nodes time low ((4 * at + n) * 4 ^ k)
   down_ahead low ahead =
@@ -55,7 +55,7 @@ module _ (nodes : List ℕ) (time at n k : ℕ) (is : IsTree nodes) (one : 1 ≤
       ]
 
 -- from a node on the way to that of the four below it which is chosen
-pub way_down : (nodes : List ℕ) (time at n k : ℕ) → IsTree nodes → ArePassed (get_or nodes (4 * at) 0) (get_or nodes (4 * at + 1) 0) (get_or nodes (4 * at + 2) 0) time n → IsOnWay nodes time at (4 ^ (k + 1)) → IsOnWay nodes time (4 * at + n) (4 ^ k)
+pub way_down : (nodes : List ℕ) (time at n k : ℕ) → IsTournamentTree nodes → ArePassed (get_or nodes (4 * at) 0) (get_or nodes (4 * at + 1) 0) (get_or nodes (4 * at + 2) 0) time n → IsOnWay nodes time at (4 ^ (k + 1)) → IsOnWay nodes time (4 * at + n) (4 ^ k)
 way_down nodes time at n k is passed way =
     let wide = four_times k in
     let high : (at + 1) * (4 ^ k * 4) ≤ length nodes = subst (λ n. (at + 1) * n ≤ length nodes) wide way.high in
@@ -69,7 +69,7 @@ way_down nodes time at n k is passed way =
     }
 
 -- the way begins at the root
-pub from_root : (nodes : List ℕ) (time k : ℕ) → IsTree nodes → IsSize (length nodes / 2) → length nodes / 2 ≡ 4 ^ k → get_or nodes 1 0 ≤ 2 ^ 64 - 1 → least (leaves nodes) ≤ time → IsOnWay nodes time 1 (4 ^ k)
+pub from_root : (nodes : List ℕ) (time k : ℕ) → IsTournamentTree nodes → IsSize (length nodes / 2) → length nodes / 2 ≡ 4 ^ k → get_or nodes 1 0 ≤ 2 ^ 64 - 1 → least (leaves nodes) ≤ time → IsOnWay nodes time 1 (4 ^ k)
 from_root nodes time k is size e top come =
     let root = rooted nodes is size top in
     record {
@@ -80,7 +80,7 @@ from_root nodes time k is size e top come =
       come = omega (arith, root, come);
     }
 
-pub leaves_half : (nodes : List ℕ) → IsTree nodes → length (leaves nodes) ≡ length nodes / 2
+pub leaves_half : (nodes : List ℕ) → IsTournamentTree nodes → length (leaves nodes) ≡ length nodes / 2
 leaves_half nodes is = omega (arith, is.fours, length-drop (length nodes / 2) nodes)
 
 -- the sizes, one after another

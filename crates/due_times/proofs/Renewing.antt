@@ -7,7 +7,7 @@ use Rattle.std.proofs.lemmas.Grind.{same_number_lists, get_or-set_at}
 use Rattle.std.proofs.lemmas.List.{get_or-set_other, length-append, length-drop, get_or_append_left, get_or-drop}
 use Rattle.std.proofs.lemmas.List.Edits.{length-remove, get_or-remove_below}
 use Rattle.due_times.specs.Timers.{AreNever, IsSize}
-use Rattle.due_times.specs.private.Tournament.{IsLeast, IsTree, IsTreeOutside, least_below, leaves}
+use Rattle.due_times.specs.private.Tournament.{IsLeast, IsTournamentTree, IsTreeOutside, least_below, leaves}
 use Rattle.due_times.proofs.Leaves.{removed_never}
 
 -- a node, and the four below it, are as they were
@@ -104,11 +104,11 @@ next_short level last (inr (inr (inr (inl e)))) most = omega (arith, e, most)
 next_short level last (inr (inr (inr (inr e)))) most = omega (arith, e, most)
 
 -- above the root nothing is left
-pub all_renewed : (nodes : List ℕ) (first last : ℕ) → IsTreeOutside first last nodes → last ≤ 1 → IsTree nodes
+pub all_renewed : (nodes : List ℕ) (first last : ℕ) → IsTreeOutside first last nodes → last ≤ 1 → IsTournamentTree nodes
 all_renewed nodes first last is none = record { fours = is.fours; each = λ i one within other. is.behind i one within (omega (arith, one, none)) }
 
 -- where a leaf goes, only the nodes above those that move may not be right
-pub left_outside : (old : List ℕ) (half leaf count : ℕ) → IsTree old → half ≡ length old / 2 → leaf < count → count ≤ length (leaves old) → AreNever (leaves old) count
+pub left_outside : (old : List ℕ) (half leaf count : ℕ) → IsTournamentTree old → half ≡ length old / 2 → leaf < count → count ≤ length (leaves old) → AreNever (leaves old) count
     → IsTreeOutside ((half + leaf) / 4) ((half + count + 3) / 4) (remove old (half + leaf) ++ (2 ^ 64 - 1) ∷ [])
 left_outside old half leaf count is half_is there fits never =
     let all = length-drop (length old / 2) old in

@@ -39,5 +39,5 @@ abbrev pub left_if : ℕ → List (Option Seat) → Option Seat → List (Option
 left_if cpu seats None = seats
 left_if cpu seats (Some s) = slice_set seats cpu None
 
-abbrev pub left : ℕ → ℕ → List (Option Seat) → List (Option Seat)
-left cpu number seats = left_if cpu seats (seat_by number (slice_index_or seats cpu None))
+abbrev pub without_seat : ℕ → ℕ → List (Option Seat) → List (Option Seat)
+without_seat cpu number seats = left_if cpu seats (seat_by number (slice_index_or seats cpu None))

@@ -229,7 +229,8 @@ impl Seats {
     /// A task sits on a CPU no more.
     #[inline(always)]
     pub fn leave(&mut self, cpu: usize, number: u32)
-        ensures { self.new ≡ record self.old { seats = spec.left cpu number self.old.seats } }
+        ensures { self.new
+            ≡ record self.old { seats = spec.without_seat cpu number self.old.seats } }
     {
         if self.seat_of(cpu, number).is_some() {
             self.stand_up(cpu);

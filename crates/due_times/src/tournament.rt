@@ -82,7 +82,7 @@ fn carry_on(nodes: &mut Vec<u64>, at: usize, time: u64) -> Option<u64>
     requires inner { 4 ≤ at }
     requires there { at < length nodes.old.items }
     requires time { slice_index_or nodes.old.items at 0 ≡ time }
-    ensures tree { IfNone result (spec.IsTree nodes.new.items) }
+    ensures tree { IfNone result (spec.IsTournamentTree nodes.new.items) }
     ensures but { IfSome result (λ least. spec.IsTreeBut (at / 16) nodes.new.items) }
     ensures time { IfSome result (λ least. slice_index_or nodes.new.items (at / 4) 0 ≡ least) }
     ensures length { length nodes.new.items ≡ length nodes.old.items }
@@ -106,7 +106,7 @@ fn climb_64(nodes: &mut Vec<u64>, half: usize, at: usize, time: u64)
     requires low { half ≤ 16 * at }
     requires high { 8 * at < half }
     requires time { slice_index_or nodes.old.items at 0 ≡ time }
-    ensures tree { spec.IsTree nodes.new.items }
+    ensures tree { spec.IsTournamentTree nodes.new.items }
     ensures length { length nodes.new.items ≡ length nodes.old.items }
     ensures leaves { spec.leaves nodes.new.items ≡ spec.leaves nodes.old.items }
     ensures room { vec_capacity nodes.new ≡ vec_capacity nodes.old }
@@ -130,7 +130,7 @@ fn climb_16(nodes: &mut Vec<u64>, half: usize, at: usize, time: u64)
     requires low { half ≤ 4 * at }
     requires high { 2 * at < half }
     requires time { slice_index_or nodes.old.items at 0 ≡ time }
-    ensures tree { spec.IsTree nodes.new.items }
+    ensures tree { spec.IsTournamentTree nodes.new.items }
     ensures length { length nodes.new.items ≡ length nodes.old.items }
     ensures leaves { spec.leaves nodes.new.items ≡ spec.leaves nodes.old.items }
     ensures room { vec_capacity nodes.new ≡ vec_capacity nodes.old }
@@ -153,10 +153,10 @@ fn half_of(nodes: &[u64]) -> usize
 }
 
 fn set_leaf(nodes: &mut Vec<u64>, leaf: usize, time: u64)
-    requires tree { spec.IsTree nodes.old.items }
+    requires tree { spec.IsTournamentTree nodes.old.items }
     requires size { IsSize (length nodes.old.items / 2) }
     requires leaf { leaf < length (spec.leaves nodes.old.items) }
-    ensures tree { spec.IsTree nodes.new.items }
+    ensures tree { spec.IsTournamentTree nodes.new.items }
     ensures length { length nodes.new.items ≡ length nodes.old.items }
     ensures leaves { spec.leaves nodes.new.items
         ≡ slice_set (spec.leaves nodes.old.items) leaf time }
@@ -175,7 +175,7 @@ fn set_leaf(nodes: &mut Vec<u64>, leaf: usize, time: u64)
 }
 
 fn root(nodes: &[u64]) -> u64
-    requires tree { spec.IsTree nodes.now }
+    requires tree { spec.IsTournamentTree nodes.now }
     requires size { IsSize (length nodes.now / 2) }
     ensures { result ≡ least (spec.leaves nodes.now) }
 {
@@ -209,7 +209,7 @@ fn copy_leaves(nodes: &mut Vec<u64>, half: usize)
 fn build(nodes: &mut Vec<u64>)
     requires fours { length nodes.old.items ≡ 4 * (length nodes.old.items / 4) }
     requires few { length nodes.old.items ≤ 512 }
-    ensures tree { spec.IsTree nodes.new.items }
+    ensures tree { spec.IsTournamentTree nodes.new.items }
     ensures length { length nodes.new.items ≡ length nodes.old.items }
     ensures leaves { spec.leaves nodes.new.items ≡ spec.leaves nodes.old.items }
     ensures room { vec_capacity nodes.new ≡ vec_capacity nodes.old }
@@ -223,10 +223,10 @@ fn build(nodes: &mut Vec<u64>)
 
 // Four times as many leaves; those that are new never come.
 fn widen(nodes: &mut Vec<u64>)
-    requires tree { spec.IsTree nodes.old.items }
+    requires tree { spec.IsTournamentTree nodes.old.items }
     requires few { length nodes.old.items ≤ 128 }
     requires room { vec_capacity nodes.old ≡ 512 }
-    ensures tree { spec.IsTree nodes.new.items }
+    ensures tree { spec.IsTournamentTree nodes.new.items }
     ensures length { length nodes.new.items ≡ 4 * length nodes.old.items }
     ensures leaves { spec.leaves nodes.new.items
         ≡ spec.leaves nodes.old.items
@@ -265,7 +265,7 @@ fn renew_above(nodes: &mut Vec<u64>, from: usize, end: usize)
     requires low { length nodes.old.items / 2 ≤ from }
     requires ordered { from ≤ end }
     requires high { end ≤ length nodes.old.items }
-    ensures tree { spec.IsTree nodes.new.items }
+    ensures tree { spec.IsTournamentTree nodes.new.items }
     ensures length { length nodes.new.items ≡ length nodes.old.items }
     ensures leaves { spec.leaves nodes.new.items ≡ spec.leaves nodes.old.items }
     ensures room { vec_capacity nodes.new ≡ vec_capacity nodes.old }
@@ -285,13 +285,13 @@ fn renew_above(nodes: &mut Vec<u64>, from: usize, end: usize)
 // The time of a leaf goes, where those from `count` on never come: those behind it come one place
 // nearer, and the last never comes. No node but those above the leaves that have moved changes.
 fn remove_leaf(nodes: &mut Vec<u64>, leaf: usize, count: usize)
-    requires tree { spec.IsTree nodes.old.items }
+    requires tree { spec.IsTournamentTree nodes.old.items }
     requires size { IsSize (length nodes.old.items / 2) }
     requires leaf { leaf < count }
     requires fits { count ≤ length (spec.leaves nodes.old.items) }
     requires never { AreNever (spec.leaves nodes.old.items) count }
     requires room { vec_capacity nodes.old ≡ 512 }
-    ensures tree { spec.IsTree nodes.new.items }
+    ensures tree { spec.IsTournamentTree nodes.new.items }
     ensures length { length nodes.new.items ≡ length nodes.old.items }
     ensures leaves { spec.leaves nodes.new.items
         ≡ remove (spec.leaves nodes.old.items) leaf ++ (2 ^ 64 - 1) ∷ [] }
@@ -306,7 +306,7 @@ fn remove_leaf(nodes: &mut Vec<u64>, leaf: usize, count: usize)
 // The first leaf behind the highest node above this one, or itself, that has not come; up to there
 // no leaf has.
 fn behind(nodes: &[u64], from: usize, time: u64) -> usize
-    requires tree { spec.IsTree nodes.now }
+    requires tree { spec.IsTournamentTree nodes.now }
     requires some { 0 < from }
     requires there { from < length nodes.now }
     requires few { length nodes.now ≤ 512 }
@@ -337,7 +337,7 @@ fn passed(first: u64, second: u64, third: u64, time: u64) -> usize
 // others.
 #[inline(always)]
 fn below(nodes: &[u64], at: usize, time: u64) -> usize
-    requires tree { spec.IsTree nodes.now }
+    requires tree { spec.IsTournamentTree nodes.now }
     requires within { 4 * at + 3 < length nodes.now }
     requires few { length nodes.now ≤ 512 }
     ensures high { result ≤ 4 * at + 3 }
@@ -351,7 +351,7 @@ fn below(nodes: &[u64], at: usize, time: u64) -> usize
 // levels there are.
 #[inline(always)]
 fn first_come(nodes: &[u64], time: u64) -> usize
-    requires tree { spec.IsTree nodes.now }
+    requires tree { spec.IsTournamentTree nodes.now }
     requires size { IsSize (length nodes.now / 2) }
     requires come { least (spec.leaves nodes.now) ≤ time }
     ensures { spec.IsOnWay nodes.now time result 1 }

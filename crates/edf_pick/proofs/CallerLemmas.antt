@@ -11,9 +11,9 @@ use Rattle.std.proofs.lemmas.List.Kept.{AllPairs-cons}
 use Rattle.std.proofs.lemmas.List.Sorted.{IsPermutation-refl, IsPermutation-sym, IsPermutation-cons, IsPermutation-trans, IsPermutation-insert, length_permutation, list_any-IsPermutation, sum_by-IsPermutation, Contains-permutation}
 use mathlib.Core.Path.{fun_ext}
 use Rattle.edf_pick.specs.declared.candidate.Candidate.{Candidate}
-use Rattle.edf_pick.specs.Choice.{is_before, rank, ranked}
-use Rattle.edf_pick.specs.Order.{IsRising, is_same, has_candidate, with_candidate, without_candidate, ordered}
-use Rattle.edf_pick.specs.Places.{Places, is_chosen_number, kept, seated_if, seated_upto, placed}
+use Rattle.edf_pick.specs.Choice.{is_before, rank, candidate_at_rank}
+use Rattle.edf_pick.specs.Order.{IsRising, is_same, has_candidate, with_candidate, without_candidate, by_deadline}
+use Rattle.edf_pick.specs.Places.{Places, is_chosen_number, kept_if_chosen, seated_if, seated_upto, placed}
 use Rattle.edf_pick.proofs.Before.{before_reverse, before_other, before_past, same_itself, number_differs}
 use Rattle.edf_pick.proofs.Rising.{place, insert_place, rising_with, without_absent}
 use Rattle.edf_pick.proofs.Picked.{map_same, rank_place, place_at}
@@ -40,23 +40,23 @@ numbered_map {X} f number same (x ∷ xs) numbered =
 
 -- THE SAME TASKS
 -- a list in order has the tasks of the list
-pub permuted : (xs : List Candidate) → IsPermutation xs (ordered xs)
+pub permuted : (xs : List Candidate) → IsPermutation xs (by_deadline xs)
 permuted [] = IsPermutation-refl []
 permuted (c ∷ xs) =
-    IsPermutation-trans (c ∷ xs) (c ∷ ordered xs) (with_candidate c (ordered xs)) (IsPermutation-cons c xs (ordered xs) (permuted xs))
-    (subst (λ ys. IsPermutation (c ∷ ordered xs) ys) (sym (insert_place c (ordered xs))) (IsPermutation-insert (ordered xs) (place c (ordered xs)) c))
+    IsPermutation-trans (c ∷ xs) (c ∷ by_deadline xs) (with_candidate c (by_deadline xs)) (IsPermutation-cons c xs (by_deadline xs) (permuted xs))
+    (subst (λ ys. IsPermutation (c ∷ by_deadline xs) ys) (sym (insert_place c (by_deadline xs))) (IsPermutation-insert (by_deadline xs) (place c (by_deadline xs)) c))
 
-pub length_ordered : (xs : List Candidate) → length (ordered xs) ≡ length xs
-length_ordered xs = length_permutation xs (ordered xs) (permuted xs)
+pub length_ordered : (xs : List Candidate) → length (by_deadline xs) ≡ length xs
+length_ordered xs = length_permutation xs (by_deadline xs) (permuted xs)
 
-pub has_ordered : (c : Candidate) (xs : List Candidate) → has_candidate c (ordered xs) ≡ has_candidate c xs
-has_ordered c xs = sym (list_any-IsPermutation (λ a. is_same a c) xs (ordered xs) (permuted xs))
+pub has_ordered : (c : Candidate) (xs : List Candidate) → has_candidate c (by_deadline xs) ≡ has_candidate c xs
+has_ordered c xs = sym (list_any-IsPermutation (λ a. is_same a c) xs (by_deadline xs) (permuted xs))
 
-pub contains_ordered : (c : Candidate) (xs : List Candidate) → Contains xs c → Contains (ordered xs) c
-contains_ordered c xs h = Contains-permutation xs (ordered xs) c (permuted xs) h
+pub contains_ordered : (c : Candidate) (xs : List Candidate) → Contains xs c → Contains (by_deadline xs) c
+contains_ordered c xs h = Contains-permutation xs (by_deadline xs) c (permuted xs) h
 
-pub contains_from_ordered : (c : Candidate) (xs : List Candidate) → Contains (ordered xs) c → Contains xs c
-contains_from_ordered c xs h = Contains-permutation (ordered xs) xs c (IsPermutation-sym xs (ordered xs) (permuted xs)) h
+pub contains_from_ordered : (c : Candidate) (xs : List Candidate) → Contains (by_deadline xs) c → Contains xs c
+contains_from_ordered c xs h = Contains-permutation (by_deadline xs) xs c (IsPermutation-sym xs (by_deadline xs) (permuted xs)) h
 
 -- ONE MORE, ONE LESS
 all_middle : (P : Candidate → Type 0) (xs : List Candidate) (c : Candidate) (ys : List Candidate) → All P (xs ++ c ∷ ys) → P c
@@ -72,7 +72,7 @@ others_differ c (x ∷ xs) ys numbered =
     (others_differ c xs ys (numbered_rest x (xs ++ c ∷ ys) numbered))
 
 -- the condition of `insert`
-pub ordered_absent : (c : Candidate) (xs ys : List Candidate) → IsNumbered (xs ++ c ∷ ys) → has_candidate c (ordered (xs ++ ys)) ≡ false
+pub ordered_absent : (c : Candidate) (xs ys : List Candidate) → IsNumbered (xs ++ c ∷ ys) → has_candidate c (by_deadline (xs ++ ys)) ≡ false
 ordered_absent c xs ys numbered = has_ordered c (xs ++ ys) ∙ list_any_none (λ a. is_same a c) (xs ++ ys) (others_differ c xs ys numbered)
 
 there : (c : Candidate) (xs ys : List Candidate) → has_candidate c (xs ++ c ∷ ys) ≡ true
@@ -80,7 +80,7 @@ there c [] ys = or_left (is_same c c) (has_candidate c ys) (same_itself c)
 there c (x ∷ xs) ys = or_right (is_same x c) (has_candidate c (xs ++ c ∷ ys)) (there c xs ys)
 
 -- what `remove` answers
-pub ordered_there : (c : Candidate) (xs ys : List Candidate) → has_candidate c (ordered (xs ++ c ∷ ys)) ≡ true
+pub ordered_there : (c : Candidate) (xs ys : List Candidate) → has_candidate c (by_deadline (xs ++ c ∷ ys)) ≡ true
 ordered_there c xs ys = has_ordered c (xs ++ c ∷ ys) ∙ there c xs ys
 
 pub with_later : (a c : Candidate) (queue : List Candidate) → is_before a c ≡ true → with_candidate c (a ∷ queue) ≡ a ∷ with_candidate c queue
@@ -123,11 +123,11 @@ with_swap c x (a ∷ queue) other =
     ]
 
 -- what `insert` leaves is the order of the longer list
-pub ordered_insert : (c : Candidate) (xs ys : List Candidate) → IsNumbered (xs ++ c ∷ ys) → ordered (xs ++ c ∷ ys) ≡ with_candidate c (ordered (xs ++ ys))
+pub ordered_insert : (c : Candidate) (xs ys : List Candidate) → IsNumbered (xs ++ c ∷ ys) → by_deadline (xs ++ c ∷ ys) ≡ with_candidate c (by_deadline (xs ++ ys))
 ordered_insert c [] ys numbered = refl
 ordered_insert c (x ∷ xs) ys numbered =
     taken_in x _ _ (ordered_insert c xs ys (numbered_rest x (xs ++ c ∷ ys) numbered))
-    ∙ with_swap c x (ordered (xs ++ ys)) (number_differs x c (all_middle (λ b. x.number ≢ b.number) xs c ys (numbered_first x (xs ++ c ∷ ys) numbered)))
+    ∙ with_swap c x (by_deadline (xs ++ ys)) (number_differs x c (all_middle (λ b. x.number ≢ b.number) xs c ys (numbered_first x (xs ++ c ∷ ys) numbered)))
 
 without_with : (c : Candidate) (queue : List Candidate) → has_candidate c queue ≡ false → without_candidate c (with_candidate c queue) ≡ queue
 without_with c [] absent = ap (λ (b : Bool). cond (not b) (c ∷ []) []) (same_itself c)
@@ -141,26 +141,26 @@ without_with c (a ∷ queue) absent =
     ]
 
 -- what `remove` leaves is the order of the shorter list
-pub ordered_remove : (c : Candidate) (xs ys : List Candidate) → IsNumbered (xs ++ c ∷ ys) → without_candidate c (ordered (xs ++ c ∷ ys)) ≡ ordered (xs ++ ys)
+pub ordered_remove : (c : Candidate) (xs ys : List Candidate) → IsNumbered (xs ++ c ∷ ys) → without_candidate c (by_deadline (xs ++ c ∷ ys)) ≡ by_deadline (xs ++ ys)
 ordered_remove c xs ys numbered =
-    ap (λ (zs : List Candidate). without_candidate c zs) (ordered_insert c xs ys numbered) ∙ without_with c (ordered (xs ++ ys)) (ordered_absent c xs ys numbered)
+    ap (λ (zs : List Candidate). without_candidate c zs) (ordered_insert c xs ys numbered) ∙ without_with c (by_deadline (xs ++ ys)) (ordered_absent c xs ys numbered)
 
-pub rising_ordered : (xs : List Candidate) → IsNumbered xs → IsRising (ordered xs)
+pub rising_ordered : (xs : List Candidate) → IsNumbered xs → IsRising (by_deadline xs)
 rising_ordered [] numbered = λ i j d h k. absurd (omega arith)
-rising_ordered (c ∷ xs) numbered = rising_with c (ordered xs) (rising_ordered xs (numbered_rest c xs numbered)) (ordered_absent c [] xs numbered)
+rising_ordered (c ∷ xs) numbered = rising_with c (by_deadline xs) (rising_ordered xs (numbered_rest c xs numbered)) (ordered_absent c [] xs numbered)
 
 -- THE SAME PLACEMENT
-ranks : (xs : List Candidate) (c : Candidate) → rank (ordered xs) c ≡ rank xs c
+ranks : (xs : List Candidate) (c : Candidate) → rank (by_deadline xs) c ≡ rank xs c
 ranks xs c =
     let one : Candidate → ℕ = λ a. cond (is_before a c) 1 0 in
-    sum_by-IsPermutation one xs (ordered xs) (permuted xs)
+    sum_by-IsPermutation one xs (by_deadline xs) (permuted xs)
 
-chosen_same : (cpus : ℕ) (xs : List Candidate) (n : ℕ) → is_chosen_number cpus (ordered xs) n ≡ is_chosen_number cpus xs n
+chosen_same : (cpus : ℕ) (xs : List Candidate) (n : ℕ) → is_chosen_number cpus (by_deadline xs) n ≡ is_chosen_number cpus xs n
 chosen_same cpus xs n =
-    ap (λ (f : Candidate → ℕ). list_any (λ c. eqb c.number n && ltb (f c) cpus) (ordered xs)) (fun_ext (ranks xs))
-    ∙ sym (list_any-IsPermutation (λ c. eqb c.number n && ltb (rank xs c) cpus) xs (ordered xs) (permuted xs))
+    ap (λ (f : Candidate → ℕ). list_any (λ c. eqb c.number n && ltb (f c) cpus) (by_deadline xs)) (fun_ext (ranks xs))
+    ∙ sym (list_any-IsPermutation (λ c. eqb c.number n && ltb (rank xs c) cpus) xs (by_deadline xs) (permuted xs))
 
-kept_same : (cpus : ℕ) (xs : List Candidate) (occupant : Option ℕ) → kept cpus (ordered xs) occupant ≡ kept cpus xs occupant
+kept_same : (cpus : ℕ) (xs : List Candidate) (occupant : Option ℕ) → kept_if_chosen cpus (by_deadline xs) occupant ≡ kept_if_chosen cpus xs occupant
 kept_same cpus xs None = refl
 kept_same cpus xs (Some n) = ap (λ (b : Bool). cond b (Some n) None) (chosen_same cpus xs n)
 
@@ -179,16 +179,16 @@ find_with p c (a ∷ queue) single =
     ]
 
 -- a test that at most one passes
-find_ordered : (p : Candidate → Bool) (xs : List Candidate) → AllPairs (λ a b. p a ≡ true → p b ≡ false) xs → find p (ordered xs) ≡ find p xs
+find_ordered : (p : Candidate → Bool) (xs : List Candidate) → AllPairs (λ a b. p a ≡ true → p b ≡ false) xs → find p (by_deadline xs) ≡ find p xs
 find_ordered p [] single = refl
 find_ordered p (c ∷ xs) single =
-    find_with p c (ordered xs) (λ t. sym (list_any-IsPermutation p xs (ordered xs) (permuted xs)) ∙ list_any_none p xs (λ k d h. single 0 (suc k) d (omega arith) (omega arith) t))
+    find_with p c (by_deadline xs) (λ t. sym (list_any-IsPermutation p xs (by_deadline xs) (permuted xs)) ∙ list_any_none p xs (λ k d h. single 0 (suc k) d (omega arith) (omega arith) t))
     ∙ ap (λ (o : Option Candidate). cond (p c) (Some c) o) (find_ordered p xs (λ i j d h k. single (suc i) (suc j) d (omega arith) (omega arith)))
 
 -- a task stands in the order at the place that its rank says
-rank_ordered : (xs : List Candidate) (c : Candidate) → IsNumbered xs → Contains xs c → (rank xs c < length (ordered xs)) × (get_or (ordered xs) (rank xs c) c ≡ c)
+rank_ordered : (xs : List Candidate) (c : Candidate) → IsNumbered xs → Contains xs c → (rank xs c < length (by_deadline xs)) × (get_or (by_deadline xs) (rank xs c) c ≡ c)
 rank_ordered xs c numbered there =
-    let queue = ordered xs in
+    let queue = by_deadline xs in
     let rising = rising_ordered xs numbered in
     let at = contains_ordered c xs there in
     let placed_there : place c queue ≡ at.0 = ap (λ (a : Candidate). place a queue) (sym at.2) ∙ place_at queue at.0 c rising at.1 in
@@ -197,27 +197,27 @@ rank_ordered xs c numbered there =
 
 one_rank : (xs : List Candidate) (a b : Candidate) → IsNumbered xs → Contains xs a → Contains xs b → rank xs a ≡ rank xs b → a ≡ b
 one_rank xs a b numbered ha hb e =
-    let queue = ordered xs in
+    let queue = by_deadline xs in
     let at_a = rank_ordered xs a numbered ha in
     let at_b = rank_ordered xs b numbered hb in
     sym at_a.1 ∙ get_or_default queue (rank xs a) a b at_a.0 ∙ ap (λ (k : ℕ). get_or queue k b) e ∙ at_b.1
 
-ranked_same : (xs : List Candidate) (r : ℕ) → IsNumbered xs → ranked (ordered xs) r ≡ ranked xs r
+ranked_same : (xs : List Candidate) (r : ℕ) → IsNumbered xs → candidate_at_rank (by_deadline xs) r ≡ candidate_at_rank xs r
 ranked_same xs r numbered =
     let single : AllPairs (λ a b. eqb (rank xs a) r ≡ true → eqb (rank xs b) r ≡ false) xs = λ i j d h k t.
     let a = get_or xs i d in
     let b = get_or xs j d in
     ne_eqb (rank xs b) r (λ e. numbered i j d h k (ap (λ (c : Candidate). c.number) (one_rank xs a b numbered (Contains-get_or xs i d (omega arith)) (Contains-get_or xs j d k) (eqb-true (rank xs a) r t ∙ sym e)))) in
-    ap (λ (f : Candidate → ℕ). find (λ c. eqb (f c) r) (ordered xs)) (fun_ext (ranks xs)) ∙ find_ordered (λ c. eqb (rank xs c) r) xs single
+    ap (λ (f : Candidate → ℕ). find (λ c. eqb (f c) r) (by_deadline xs)) (fun_ext (ranks xs)) ∙ find_ordered (λ c. eqb (rank xs c) r) xs single
 
-seated_same : (xs : List Candidate) (places : Places) (r : ℕ) → IsNumbered xs → seated_upto (ordered xs) places r ≡ seated_upto xs places r
+seated_same : (xs : List Candidate) (places : Places) (r : ℕ) → IsNumbered xs → seated_upto (by_deadline xs) places r ≡ seated_upto xs places r
 seated_same xs places zero numbered = refl
 seated_same xs places (suc r) numbered =
-    ap (λ (ps : Places). seated_if ps (ranked (ordered xs) r)) (seated_same xs places r numbered)
+    ap (λ (ps : Places). seated_if ps (candidate_at_rank (by_deadline xs) r)) (seated_same xs places r numbered)
     ∙ ap (λ (o : Option Candidate). seated_if (seated_upto xs places r) o) (ranked_same xs r numbered)
 
 -- what `pick` does with a queue is what the definition says of any list of its tasks
-pub placed_ordered : (cpus : ℕ) (xs : List Candidate) (before : Places) → IsNumbered xs → placed cpus (ordered xs) before ≡ placed cpus xs before
+pub placed_ordered : (cpus : ℕ) (xs : List Candidate) (before : Places) → IsNumbered xs → placed cpus (by_deadline xs) before ≡ placed cpus xs before
 placed_ordered cpus xs before numbered =
-    seated_same xs (map (kept cpus (ordered xs)) before) cpus numbered
-    ∙ ap (λ (ps : Places). seated_upto xs ps cpus) (map_same (kept cpus (ordered xs)) (kept cpus xs) (λ o. kept_same cpus xs o) before)
+    seated_same xs (map (kept_if_chosen cpus (by_deadline xs)) before) cpus numbered
+    ∙ ap (λ (ps : Places). seated_upto xs ps cpus) (map_same (kept_if_chosen cpus (by_deadline xs)) (kept_if_chosen cpus xs) (λ o. kept_same cpus xs o) before)

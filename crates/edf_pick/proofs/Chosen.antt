@@ -16,7 +16,7 @@ use Rattle.edf_pick.specs.Schedule.{IsAtHome}
 use Rattle.edf_pick.specs.private.Choosing.{chosen_stays, chosen_movers, IsChoosing, IsChosen, AreBefore, total}
 use Rattle.edf_pick.specs.private.First.{is_home}
 use Rattle.edf_pick.specs.private.Staying.{bare_key}
-use Rattle.edf_pick.specs.private.Waiting.{held, AreOn, IsWaiting}
+use Rattle.edf_pick.specs.private.Waiting.{all_held, AreOn, IsWaiting}
 use Rattle.edf_pick.proofs.Before.{key, before_tells, before_both, before_other, number_differs}
 use Rattle.edf_pick.proofs.CallerLemmas.{IsNumbered, numbered_rest}
 use Rattle.edf_pick.proofs.Held.{held_more, held_less, held_contains, held_length}
@@ -47,7 +47,7 @@ home_bare stays movers waiting places c is home = by_stay (get_or stays c.home N
         let on = is.on c.home d e in
         let there : Some d.number ≡ Some c.number = sym on.1 ∙ task_is c.number (get_or places c.home None) home in
         let same : d.number ≡ c.number = cc in
-        absurd (numbers_apart (held stays) (movers ++ c ∷ waiting) d c is.numbered (held_contains stays c.home d e) (Contains-append_right movers (c ∷ waiting) c (0, omega arith, refl)) same)
+        absurd (numbers_apart (all_held stays) (movers ++ c ∷ waiting) d c is.numbered (held_contains stays c.home d e) (Contains-append_right movers (c ∷ waiting) c (0, omega arith, refl)) same)
 
 on_home : (stays : List (Option Candidate)) (places : Places) (c : Candidate) → c.home < length stays → is_home places c ≡ true → AreOn stays places → AreOn (set stays c.home (Some c)) places
 on_home stays places c h home on cpu d at = elim (cases_eq cpu c.home) [
@@ -60,36 +60,36 @@ on_home stays places c h home on cpu d at = elim (cases_eq cpu c.home) [
 
 -- the tasks are the same
 pub chosen_same : (stays : List (Option Candidate)) (movers waiting : List Candidate) (places : Places) (c : Candidate) → IsChoosing stays movers (c ∷ waiting) places
-    → IsPermutation (held stays ++ (movers ++ c ∷ waiting)) (held (chosen_stays places c stays) ++ (chosen_movers places c movers ++ waiting))
+    → IsPermutation (all_held stays ++ (movers ++ c ∷ waiting)) (all_held (chosen_stays places c stays) ++ (chosen_movers places c movers ++ waiting))
 chosen_same stays movers waiting places c is =
-    let all = held stays ++ (movers ++ c ∷ waiting) in
-    elim (is_home places c) as (λ b. is_home places c ≡ b → IsPermutation all (held (cond b (set stays c.home (Some c)) stays) ++ (cond b movers (movers ++ c ∷ []) ++ waiting))) [
+    let all = all_held stays ++ (movers ++ c ∷ waiting) in
+    elim (is_home places c) as (λ b. is_home places c ≡ b → IsPermutation all (all_held (cond b (set stays c.home (Some c)) stays) ++ (cond b movers (movers ++ c ∷ []) ++ waiting))) [
       | true ↦ λ e.
           let h = home_within places c e in
           let len = is.len in
           let more = held_more stays c.home c (omega (arith, h, len)) (home_bare stays movers waiting places c is e) in
-          let new = held (set stays c.home (Some c)) in
+          let new = all_held (set stays c.home (Some c)) in
           let rest = movers ++ waiting in
-          IsPermutation-trans all (held stays ++ (c ∷ rest)) (new ++ rest)
-          (IsPermutation-append_right (held stays) (movers ++ c ∷ waiting) (c ∷ rest) (IsPermutation-middle movers c waiting))
-          (IsPermutation-trans (held stays ++ (c ∷ rest)) (c ∷ (held stays ++ rest)) (new ++ rest)
-          (IsPermutation-middle (held stays) c rest)
-          (IsPermutation-append_left rest (c ∷ held stays) new (IsPermutation-sym new (c ∷ held stays) more)))
-      | false ↦ λ e. subst (λ (xs : List Candidate). IsPermutation all (held stays ++ xs)) (sym (append_assoc movers (c ∷ []) waiting)) (IsPermutation-refl all)
+          IsPermutation-trans all (all_held stays ++ (c ∷ rest)) (new ++ rest)
+          (IsPermutation-append_right (all_held stays) (movers ++ c ∷ waiting) (c ∷ rest) (IsPermutation-middle movers c waiting))
+          (IsPermutation-trans (all_held stays ++ (c ∷ rest)) (c ∷ (all_held stays ++ rest)) (new ++ rest)
+          (IsPermutation-middle (all_held stays) c rest)
+          (IsPermutation-append_left rest (c ∷ all_held stays) new (IsPermutation-sym new (c ∷ all_held stays) more)))
+      | false ↦ λ e. subst (λ (xs : List Candidate). IsPermutation all (all_held stays ++ xs)) (sym (append_assoc movers (c ∷ []) waiting)) (IsPermutation-refl all)
     ] refl
 
 -- the first of those who wait has been chosen
-pub chosen_is : (stays : List (Option Candidate)) (movers waiting : List Candidate) (places : Places) (c : Candidate) → IsChoosing stays movers (c ∷ waiting) places → length (held stays) + length movers < length places
+pub chosen_is : (stays : List (Option Candidate)) (movers waiting : List Candidate) (places : Places) (c : Candidate) → IsChoosing stays movers (c ∷ waiting) places → length (all_held stays) + length movers < length places
     → IsChoosing (chosen_stays places c stays) (chosen_movers places c movers) waiting places
 chosen_is stays movers waiting places c is free =
-    let numbered = numbered_same (held stays ++ (movers ++ c ∷ waiting)) (held (chosen_stays places c stays) ++ (chosen_movers places c movers ++ waiting)) (chosen_same stays movers waiting places c is) is.numbered in
+    let numbered = numbered_same (all_held stays ++ (movers ++ c ∷ waiting)) (all_held (chosen_stays places c stays) ++ (chosen_movers places c movers ++ waiting)) (chosen_same stays movers waiting places c is) is.numbered in
     let rest : All (λ a. All (λ b. is_before a b ≡ true) waiting) movers = All-weaker (λ a. All (λ b. is_before a b ≡ true) (c ∷ waiting)) (λ a. All (λ b. is_before a b ≡ true) waiting) (λ a all. All-tail (λ b. is_before a b ≡ true) c waiting all) movers is.before in
     let first : All (λ a. is_before a c ≡ true) movers = All-weaker (λ a. All (λ b. is_before a b ≡ true) (c ∷ waiting)) (λ a. is_before a c ≡ true) (λ a all. All-head (λ b. is_before a b ≡ true) c waiting all) movers is.before in
     let len = is.len in
     let one = All-head (IsAtHome places) c waiting is.homed in
     let others = All-tail (IsAtHome places) c waiting is.homed in
     let rising = rising_rest c waiting is.waits in
-    elim (is_home places c) as (λ b. is_home places c ≡ b → IsNumbered (held (cond b (set stays c.home (Some c)) stays) ++ (cond b movers (movers ++ c ∷ []) ++ waiting))
+    elim (is_home places c) as (λ b. is_home places c ≡ b → IsNumbered (all_held (cond b (set stays c.home (Some c)) stays) ++ (cond b movers (movers ++ c ∷ []) ++ waiting))
     → IsChoosing (cond b (set stays c.home (Some c)) stays) (cond b movers (movers ++ c ∷ [])) waiting places) [
       | true ↦ λ e apart.
           let h = home_within places c e in
@@ -125,10 +125,10 @@ chosen_is stays movers waiting places c is free =
     ] refl numbered
 
 pub chosen_busy : (stays : List (Option Candidate)) (movers waiting : List Candidate) (places : Places) (c : Candidate) → IsChoosing stays movers (c ∷ waiting) places
-    → length (held (chosen_stays places c stays)) + length (chosen_movers places c movers) ≡ length (held stays) + length movers + 1
+    → length (all_held (chosen_stays places c stays)) + length (chosen_movers places c movers) ≡ length (all_held stays) + length movers + 1
 chosen_busy stays movers waiting places c is =
     let len = is.len in
-    elim (is_home places c) as (λ b. is_home places c ≡ b → length (held (cond b (set stays c.home (Some c)) stays)) + length (cond b movers (movers ++ c ∷ [])) ≡ length (held stays) + length movers + 1) [
+    elim (is_home places c) as (λ b. is_home places c ≡ b → length (all_held (cond b (set stays c.home (Some c)) stays)) + length (cond b movers (movers ++ c ∷ [])) ≡ length (all_held stays) + length movers + 1) [
       | true ↦ λ e.
           let h = home_within places c e in
           let more = count_more stays c.home c (omega (arith, h, len)) (home_bare stays movers waiting places c is e) in
@@ -140,20 +140,20 @@ abbrev one_key : Candidate → ℕ
 one_key c = c.deadline * 2 ^ 64 + c.number
 
 pub chosen_total : (stays : List (Option Candidate)) (movers waiting : List Candidate) (places : Places) (c : Candidate) → IsChoosing stays movers (c ∷ waiting) places
-    → total (held (chosen_stays places c stays) ++ chosen_movers places c movers) ≡ total (held stays ++ movers) + key c
+    → total (all_held (chosen_stays places c stays) ++ chosen_movers places c movers) ≡ total (all_held stays ++ movers) + key c
 chosen_total stays movers waiting places c is =
     let len = is.len in
-    let old = sum_by-append one_key (held stays) movers in
-    elim (is_home places c) as (λ b. is_home places c ≡ b → total (held (cond b (set stays c.home (Some c)) stays) ++ cond b movers (movers ++ c ∷ [])) ≡ total (held stays ++ movers) + key c) [
+    let old = sum_by-append one_key (all_held stays) movers in
+    elim (is_home places c) as (λ b. is_home places c ≡ b → total (all_held (cond b (set stays c.home (Some c)) stays) ++ cond b movers (movers ++ c ∷ [])) ≡ total (all_held stays ++ movers) + key c) [
       | true ↦ λ e.
           let h = home_within places c e in
-          let new = held (set stays c.home (Some c)) in
-          let more = sum_by-IsPermutation one_key new (c ∷ held stays) (held_more stays c.home c (omega (arith, h, len)) (home_bare stays movers waiting places c is e)) in
+          let new = all_held (set stays c.home (Some c)) in
+          let more = sum_by-IsPermutation one_key new (c ∷ all_held stays) (held_more stays c.home c (omega (arith, h, len)) (home_bare stays movers waiting places c is e)) in
           let parts = sum_by-append one_key new movers in
-          let cons = sum_by-cons one_key c (held stays) in
+          let cons = sum_by-cons one_key c (all_held stays) in
           omega (arith, old, more, parts, cons)
       | false ↦ λ e.
-          let parts = sum_by-append one_key (held stays) (movers ++ c ∷ []) in
+          let parts = sum_by-append one_key (all_held stays) (movers ++ c ∷ []) in
           let last = sum_by-append one_key movers (c ∷ []) in
           let cons = sum_by-cons one_key c [] in
           omega (arith, old, parts, last, cons)
@@ -165,9 +165,9 @@ key_below a b few h = elim (before_tells a b h) [ inl x ↦ omega arith | inr x 
 
 -- ONE WHO STAYS WAITS
 pub released_same : (stays : List (Option Candidate)) (movers waiting : List Candidate) (c last : Candidate) → get_or stays last.home None ≡ Some last
-    → IsPermutation (held stays ++ (movers ++ c ∷ waiting)) (held (set stays last.home None) ++ (movers ++ c ∷ with_candidate last waiting))
+    → IsPermutation (all_held stays ++ (movers ++ c ∷ waiting)) (all_held (set stays last.home None) ++ (movers ++ c ∷ with_candidate last waiting))
 released_same stays movers waiting c last there =
-    let new = held (set stays last.home None) in
+    let new = all_held (set stays last.home None) in
     let tail = movers ++ c ∷ waiting in
     let later = with_candidate last waiting in
     let put : IsPermutation (last ∷ waiting) later = subst (λ (xs : List Candidate). IsPermutation (last ∷ waiting) xs) (sym (insert_place last waiting)) (IsPermutation-insert waiting (place last waiting) last) in
@@ -179,8 +179,8 @@ released_same stays movers waiting c last there =
     IsPermutation-trans (last ∷ tail) (movers ++ last ∷ c ∷ waiting) (movers ++ c ∷ later)
     (IsPermutation-sym (movers ++ last ∷ c ∷ waiting) (last ∷ tail) (IsPermutation-middle movers last (c ∷ waiting)))
     (IsPermutation-append_right movers (last ∷ c ∷ waiting) (c ∷ later) behind) in
-    IsPermutation-trans (held stays ++ tail) ((last ∷ new) ++ tail) (new ++ (movers ++ c ∷ later))
-    (IsPermutation-append_left tail (held stays) (last ∷ new) (held_less stays last.home last there))
+    IsPermutation-trans (all_held stays ++ tail) ((last ∷ new) ++ tail) (new ++ (movers ++ c ∷ later))
+    (IsPermutation-append_left tail (all_held stays) (last ∷ new) (held_less stays last.home last there))
     (IsPermutation-trans ((last ∷ new) ++ tail) (new ++ (last ∷ tail)) (new ++ (movers ++ c ∷ later))
     (IsPermutation-sym (new ++ (last ∷ tail)) (last ∷ (new ++ tail)) (IsPermutation-middle new last tail))
     (IsPermutation-append_right new (last ∷ tail) (movers ++ c ∷ later) inner))
@@ -190,7 +190,7 @@ pub last_absent : (stays : List (Option Candidate)) (movers waiting : List Candi
 last_absent stays movers waiting places c last is there =
     absent_number last waiting (λ k d h same.
     let a = get_or waiting k d in
-    numbers_apart (held stays) (movers ++ c ∷ waiting) last a is.numbered (held_contains stays last.home last there)
+    numbers_apart (all_held stays) (movers ++ c ∷ waiting) last a is.numbered (held_contains stays last.home last there)
     (Contains-append_right movers (c ∷ waiting) a (Contains-append_right (c ∷ []) waiting a (Contains-get_or waiting k d h))) (sym same))
 
 pub released_is : (stays : List (Option Candidate)) (movers waiting : List Candidate) (places : Places) (c last : Candidate) → IsChoosing stays movers (c ∷ waiting) places → get_or stays last.home None ≡ Some last → is_before c last ≡ true
@@ -203,7 +203,7 @@ released_is stays movers waiting places c last is there before =
     let first = rising_first c waiting is.waits in
     record {
       len = length-set stays last.home None ∙ is.len;
-      numbered = numbered_same (held stays ++ (movers ++ c ∷ waiting)) (held (set stays last.home None) ++ (movers ++ c ∷ with_candidate last waiting)) (released_same stays movers waiting c last there) is.numbered;
+      numbered = numbered_same (all_held stays ++ (movers ++ c ∷ waiting)) (all_held (set stays last.home None) ++ (movers ++ c ∷ with_candidate last waiting)) (released_same stays movers waiting c last there) is.numbered;
       on = on_less stays places last.home is.on;
       away = is.away;
       homed = All-cons (IsAtHome places) c (with_candidate last waiting) (All-head (IsAtHome places) c waiting is.homed)
@@ -218,11 +218,11 @@ released_is stays movers waiting places c last is there before =
       few = omega (arith, fewer, few);
     }
 
-pub released_total : (stays : List (Option Candidate)) (movers : List Candidate) (last : Candidate) → get_or stays last.home None ≡ Some last → total (held (set stays last.home None) ++ movers) + key last ≡ total (held stays ++ movers)
+pub released_total : (stays : List (Option Candidate)) (movers : List Candidate) (last : Candidate) → get_or stays last.home None ≡ Some last → total (all_held (set stays last.home None) ++ movers) + key last ≡ total (all_held stays ++ movers)
 released_total stays movers last there =
-    let new = held (set stays last.home None) in
-    let old = sum_by-append one_key (held stays) movers in
-    let less = sum_by-IsPermutation one_key (held stays) (last ∷ new) (held_less stays last.home last there) in
+    let new = all_held (set stays last.home None) in
+    let old = sum_by-append one_key (all_held stays) movers in
+    let less = sum_by-IsPermutation one_key (all_held stays) (last ∷ new) (held_less stays last.home last there) in
     let parts = sum_by-append one_key new movers in
     let cons = sum_by-cons one_key last new in
     omega (arith, old, less, parts, cons)
@@ -230,24 +230,24 @@ released_total stays movers last there =
 -- THE END
 -- where the first of those who wait is before nobody who stays, those are before all who wait
 pub before_first : (stays : List (Option Candidate)) (movers waiting : List Candidate) (places : Places) → IsChoosing stays movers waiting places
-    → (waiting ≡ []) ⊎ All (λ a. is_before (get_or waiting 0 bare_key) a ≡ false) (held stays) → AreBefore (held stays) waiting
-before_first stays movers [] places is none = λ k d h. All-nil (λ b. is_before (get_or (held stays) k d) b ≡ true)
+    → (waiting ≡ []) ⊎ All (λ a. is_before (get_or waiting 0 bare_key) a ≡ false) (all_held stays) → AreBefore (all_held stays) waiting
+before_first stays movers [] places is none = λ k d h. All-nil (λ b. is_before (get_or (all_held stays) k d) b ≡ true)
 before_first stays movers (c ∷ waiting) places is none = λ k d h.
-    let a = get_or (held stays) k d in
+    let a = get_or (all_held stays) k d in
     let past : is_before c a ≡ false = (elim none [ inl e ↦ absurd cc | inr all ↦ all k d h ]) in
-    let apart : c.number ≢ a.number = λ same. numbers_apart (held stays) (movers ++ c ∷ waiting) a c is.numbered (Contains-get_or (held stays) k d h) (Contains-append_right movers (c ∷ waiting) c (0, omega arith, refl)) (sym same) in
+    let apart : c.number ≢ a.number = λ same. numbers_apart (all_held stays) (movers ++ c ∷ waiting) a c is.numbered (Contains-get_or (all_held stays) k d h) (Contains-append_right movers (c ∷ waiting) c (0, omega arith, refl)) (sym same) in
     let first : is_before a c ≡ true = before_other c a past (number_differs c a apart) in
     All-cons (λ b. is_before a b ≡ true) c waiting first (All-weaker (λ b. is_before c b ≡ true) (λ b. is_before a b ≡ true) (λ b later. before_both a c b first later) waiting (rising_first c waiting is.waits))
 
-pub all_before : (stays : List (Option Candidate)) (movers waiting : List Candidate) (places : Places) → IsChosen stays movers waiting places → AreBefore (held stays ++ movers) waiting
-all_before stays movers waiting places is = All-append (λ a. All (λ b. is_before a b ≡ true) waiting) (held stays) movers is.first is.choosing.before
+pub all_before : (stays : List (Option Candidate)) (movers waiting : List Candidate) (places : Places) → IsChosen stays movers waiting places → AreBefore (all_held stays ++ movers) waiting
+all_before stays movers waiting places is = All-append (λ a. All (λ b. is_before a b ≡ true) waiting) (all_held stays) movers is.first is.choosing.before
 
 numbered_right : (xs ys : List Candidate) → IsNumbered (xs ++ ys) → IsNumbered ys
 numbered_right [] ys numbered = numbered
 numbered_right (x ∷ xs) ys numbered = numbered_right xs ys (numbered_rest x (xs ++ ys) numbered)
 
-pub movers_numbered : (stays : List (Option Candidate)) (movers waiting : List Candidate) → IsNumbered (held stays ++ (movers ++ waiting)) → IsNumbered movers
-movers_numbered stays movers waiting numbered = numbered_left movers waiting (numbered_right (held stays) (movers ++ waiting) numbered)
+pub movers_numbered : (stays : List (Option Candidate)) (movers waiting : List Candidate) → IsNumbered (all_held stays ++ (movers ++ waiting)) → IsNumbered movers
+movers_numbered stays movers waiting numbered = numbered_left movers waiting (numbered_right (all_held stays) (movers ++ waiting) numbered)
 
 -- THE BEGINNING
 pub none_chosen : (stays : List (Option Candidate)) (waiting : List Candidate) (places : Places) → IsWaiting stays waiting places → IsRising waiting → IsChoosing stays [] waiting places

@@ -10,10 +10,10 @@ use Rattle.std.proofs.lemmas.List.Folds.{list_any_none, list_any-append}
 use Rattle.std.proofs.lemmas.List.Kept.{AllPairs-cons, AllPairs-filter}
 use Rattle.std.proofs.lemmas.List.Sorted.{IsPermutation-sym, IsPermutation-trans, IsPermutation-insert, IsPermutation-middle, IsPermutation-append_left, IsPermutation-append_right}
 use Rattle.edf_pick.specs.declared.candidate.Candidate.{Candidate}
-use Rattle.edf_pick.specs.Order.{is_same, has_candidate, with_candidate, without_candidate, ordered}
+use Rattle.edf_pick.specs.Order.{is_same, has_candidate, with_candidate, without_candidate, by_deadline}
 use Rattle.edf_pick.specs.Places.{Places}
 use Rattle.edf_pick.specs.Schedule.{IsAtHome}
-use Rattle.edf_pick.specs.private.Waiting.{held, all_of, is_there, IsWaiting, HasLeft}
+use Rattle.edf_pick.specs.private.Waiting.{all_held, all_waiting, is_there, IsWaiting, HasLeftWaiting}
 use Rattle.edf_pick.proofs.Before.{same_tells}
 use Rattle.edf_pick.proofs.CallerLemmas.{IsNumbered, numbered_rest, contains_ordered, has_ordered, ordered_there, ordered_remove, length_ordered}
 use Rattle.edf_pick.proofs.Held.{held_less, All_held}
@@ -25,8 +25,8 @@ use Rattle.edf_pick.proofs.Waits.{numbers_apart, on_less}
 
 -- NOBODY
 -- no tasks, on so many idle CPUs
-pub opened_all : (cpus : ℕ) → all_of (replicate cpus None) [] ≡ []
-opened_all cpus = ap (λ (xs : List Candidate). ordered (xs ++ [])) (held_none cpus)
+pub opened_all : (cpus : ℕ) → all_waiting (replicate cpus None) [] ≡ []
+opened_all cpus = ap (λ (xs : List Candidate). by_deadline (xs ++ [])) (held_none cpus)
 
 pub opened_is : (cpus : ℕ) → IsWaiting (replicate cpus None) [] (replicate cpus None)
 opened_is cpus = record {
@@ -46,30 +46,30 @@ came_in c xs waiting =
     (IsPermutation-sym (xs ++ c ∷ waiting) (c ∷ (xs ++ waiting)) (IsPermutation-middle xs c waiting))
     (IsPermutation-append_right xs (c ∷ waiting) (with_candidate c waiting) (put_in c waiting))
 
-more_numbered : (c : Candidate) (xs : List Candidate) → IsNumbered xs → All (λ a. a.number ≢ c.number) (ordered xs) → IsNumbered (c ∷ xs)
+more_numbered : (c : Candidate) (xs : List Candidate) → IsNumbered xs → All (λ a. a.number ≢ c.number) (by_deadline xs) → IsNumbered (c ∷ xs)
 more_numbered c xs numbered others =
     AllPairs-cons (λ a b. a.number ≢ b.number) c xs (λ k d h same.
     let a = get_or xs k d in
-    All-contains (λ b. b.number ≢ c.number) (ordered xs) a others (contains_ordered a xs (Contains-get_or xs k d h)) (sym same)) numbered
+    All-contains (λ b. b.number ≢ c.number) (by_deadline xs) a others (contains_ordered a xs (Contains-get_or xs k d h)) (sym same)) numbered
 
 -- the condition of `put`
-pub waits_absent : (c : Candidate) (xs waiting : List Candidate) → All (λ a. a.number ≢ c.number) (ordered (xs ++ waiting)) → has_candidate c waiting ≡ false
+pub waits_absent : (c : Candidate) (xs waiting : List Candidate) → All (λ a. a.number ≢ c.number) (by_deadline (xs ++ waiting)) → has_candidate c waiting ≡ false
 waits_absent c xs waiting others =
     absent_number c waiting (λ k d h.
     let a = get_or waiting k d in
-    All-contains (λ b. b.number ≢ c.number) (ordered (xs ++ waiting)) a others (contains_ordered a (xs ++ waiting) (Contains-append_right xs waiting a (Contains-get_or waiting k d h))))
+    All-contains (λ b. b.number ≢ c.number) (by_deadline (xs ++ waiting)) a others (contains_ordered a (xs ++ waiting) (Contains-append_right xs waiting a (Contains-get_or waiting k d h))))
 
-pub waits_few : (stays : List (Option Candidate)) (waiting : List Candidate) → length waiting ≤ length (all_of stays waiting)
-waits_few stays waiting = let all = length_ordered (held stays ++ waiting) in let sum = length-append (held stays) waiting in omega (arith, all, sum)
+pub waits_few : (stays : List (Option Candidate)) (waiting : List Candidate) → length waiting ≤ length (all_waiting stays waiting)
+waits_few stays waiting = let all = length_ordered (all_held stays ++ waiting) in let sum = length-append (all_held stays) waiting in omega (arith, all, sum)
 
-pub entered_all : (c : Candidate) (stays : List (Option Candidate)) (waiting : List Candidate) → IsNumbered (held stays ++ waiting) → All (λ a. a.number ≢ c.number) (all_of stays waiting) → all_of stays (with_candidate c waiting) ≡ with_candidate c (all_of stays waiting)
+pub entered_all : (c : Candidate) (stays : List (Option Candidate)) (waiting : List Candidate) → IsNumbered (all_held stays ++ waiting) → All (λ a. a.number ≢ c.number) (all_waiting stays waiting) → all_waiting stays (with_candidate c waiting) ≡ with_candidate c (all_waiting stays waiting)
 entered_all c stays waiting numbered others =
-    sym (ordered_same (c ∷ (held stays ++ waiting)) (held stays ++ with_candidate c waiting) (more_numbered c (held stays ++ waiting) numbered others) (came_in c (held stays) waiting))
+    sym (ordered_same (c ∷ (all_held stays ++ waiting)) (all_held stays ++ with_candidate c waiting) (more_numbered c (all_held stays ++ waiting) numbered others) (came_in c (all_held stays) waiting))
 
-pub entered_is : (c : Candidate) (stays : List (Option Candidate)) (waiting : List Candidate) (places : Places) → IsWaiting stays waiting places → All (λ a. a.number ≢ c.number) (all_of stays waiting) → IsAtHome places c → IsWaiting stays (with_candidate c waiting) places
+pub entered_is : (c : Candidate) (stays : List (Option Candidate)) (waiting : List Candidate) (places : Places) → IsWaiting stays waiting places → All (λ a. a.number ≢ c.number) (all_waiting stays waiting) → IsAtHome places c → IsWaiting stays (with_candidate c waiting) places
 entered_is c stays waiting places is others home = record {
   len = is.len;
-  numbered = numbered_same (c ∷ (held stays ++ waiting)) (held stays ++ with_candidate c waiting) (came_in c (held stays) waiting) (more_numbered c (held stays ++ waiting) is.numbered others);
+  numbered = numbered_same (c ∷ (all_held stays ++ waiting)) (all_held stays ++ with_candidate c waiting) (came_in c (all_held stays) waiting) (more_numbered c (all_held stays ++ waiting) is.numbered others);
   on = is.on;
   homed = All-with (IsAtHome places) c waiting home is.homed;
 }
@@ -94,18 +94,18 @@ pub there_some : (c : Candidate) (o : Option Candidate) → is_there c o ≡ tru
 there_some c None e = absurd cc
 there_some c (Some d) e = refl
 
-pub off_left : (c : Candidate) (stays : List (Option Candidate)) (waiting : List Candidate) (cpu : ℕ) → IsNumbered (held stays ++ waiting) → is_there c (get_or stays cpu None) ≡ true → HasLeft c stays waiting (set stays cpu None) waiting true
+pub off_left : (c : Candidate) (stays : List (Option Candidate)) (waiting : List Candidate) (cpu : ℕ) → IsNumbered (all_held stays ++ waiting) → is_there c (get_or stays cpu None) ≡ true → HasLeftWaiting c stays waiting (set stays cpu None) waiting true
 off_left c stays waiting cpu numbered there =
     let t = there_is c (get_or stays cpu None) there in
     let d = t.0 in
     let now = set stays cpu None in
-    let rest = held now ++ waiting in
-    let less : IsPermutation (held stays ++ waiting) (d ∷ rest) = IsPermutation-append_left waiting (held stays) (d ∷ held now) (held_less stays cpu d t.1) in
-    let whole : all_of stays waiting ≡ ordered (d ∷ rest) = ordered_same (held stays ++ waiting) (d ∷ rest) numbered less in
-    let apart : IsNumbered (d ∷ rest) = numbered_same (held stays ++ waiting) (d ∷ rest) less numbered in
+    let rest = all_held now ++ waiting in
+    let less : IsPermutation (all_held stays ++ waiting) (d ∷ rest) = IsPermutation-append_left waiting (all_held stays) (d ∷ all_held now) (held_less stays cpu d t.1) in
+    let whole : all_waiting stays waiting ≡ by_deadline (d ∷ rest) = ordered_same (all_held stays ++ waiting) (d ∷ rest) numbered less in
+    let apart : IsNumbered (d ∷ rest) = numbered_same (all_held stays ++ waiting) (d ∷ rest) less numbered in
     record {
-      all = sym (ap (λ (xs : List Candidate). without_candidate c xs) whole ∙ without_same d c (ordered (d ∷ rest)) t.2 ∙ ordered_remove d [] rest apart);
-      there = sym (ap (λ (xs : List Candidate). has_candidate c xs) whole ∙ has_same d c (ordered (d ∷ rest)) t.2 ∙ ordered_there d [] rest);
+      all = sym (ap (λ (xs : List Candidate). without_candidate c xs) whole ∙ without_same d c (by_deadline (d ∷ rest)) t.2 ∙ ordered_remove d [] rest apart);
+      there = sym (ap (λ (xs : List Candidate). has_candidate c xs) whole ∙ has_same d c (by_deadline (d ∷ rest)) t.2 ∙ ordered_there d [] rest);
       is = λ places is. record {
         len = length-set stays cpu None ∙ is.len;
         numbered = numbered_rest d rest apart;
@@ -115,23 +115,23 @@ off_left c stays waiting cpu numbered there =
     }
 
 -- ONE WAITS NO MORE
-held_absent : (c w : Candidate) (stays : List (Option Candidate)) (waiting : List Candidate) → IsNumbered (held stays ++ waiting) → Contains waiting w → is_same w c ≡ true → has_candidate c (held stays) ≡ false
+held_absent : (c w : Candidate) (stays : List (Option Candidate)) (waiting : List Candidate) → IsNumbered (all_held stays ++ waiting) → Contains waiting w → is_same w c ≡ true → has_candidate c (all_held stays) ≡ false
 held_absent c w stays waiting numbered at same =
-    absent_number c (held stays) (λ k d h number.
+    absent_number c (all_held stays) (λ k d h number.
     let e = same_tells w c same in
-    numbers_apart (held stays) waiting (get_or (held stays) k d) w numbered (Contains-get_or (held stays) k d h) at (number ∙ sym e.1))
+    numbers_apart (all_held stays) waiting (get_or (all_held stays) k d) w numbered (Contains-get_or (all_held stays) k d h) at (number ∙ sym e.1))
 
-pub wait_left : (c w : Candidate) (stays : List (Option Candidate)) (waiting : List Candidate) → IsNumbered (held stays ++ waiting) → Contains waiting w → is_same w c ≡ true → has_candidate c waiting ≡ true → HasLeft c stays waiting stays (without_candidate c waiting) true
+pub wait_left : (c w : Candidate) (stays : List (Option Candidate)) (waiting : List Candidate) → IsNumbered (all_held stays ++ waiting) → Contains waiting w → is_same w c ≡ true → has_candidate c waiting ≡ true → HasLeftWaiting c stays waiting stays (without_candidate c waiting) true
 wait_left c w stays waiting numbered at same there =
     let absent = held_absent c w stays waiting numbered at same in
-    let parts : without_candidate c (held stays ++ waiting) ≡ held stays ++ without_candidate c waiting = filter-append (λ a. not (is_same a c)) (held stays) waiting
-    ∙ ap (λ (xs : List Candidate). xs ++ without_candidate c waiting) (without_absent c (held stays) absent) in
+    let parts : without_candidate c (all_held stays ++ waiting) ≡ all_held stays ++ without_candidate c waiting = filter-append (λ a. not (is_same a c)) (all_held stays) waiting
+    ∙ ap (λ (xs : List Candidate). xs ++ without_candidate c waiting) (without_absent c (all_held stays) absent) in
     record {
-      all = sym (ordered_without c (held stays ++ waiting) numbered ∙ ap (λ (xs : List Candidate). ordered xs) parts);
-      there = sym (has_ordered c (held stays ++ waiting) ∙ list_any-append (λ a. is_same a c) (held stays) waiting ∙ ap (λ (b : Bool). has_candidate c (held stays) || b) there ∙ or_right (has_candidate c (held stays)) true refl);
+      all = sym (ordered_without c (all_held stays ++ waiting) numbered ∙ ap (λ (xs : List Candidate). by_deadline xs) parts);
+      there = sym (has_ordered c (all_held stays ++ waiting) ∙ list_any-append (λ a. is_same a c) (all_held stays) waiting ∙ ap (λ (b : Bool). has_candidate c (all_held stays) || b) there ∙ or_right (has_candidate c (all_held stays)) true refl);
       is = λ places is. record {
         len = is.len;
-        numbered = subst (λ (xs : List Candidate). IsNumbered xs) parts (AllPairs-filter (λ a b. a.number ≢ b.number) (λ a. not (is_same a c)) (held stays ++ waiting) numbered);
+        numbered = subst (λ (xs : List Candidate). IsNumbered xs) parts (AllPairs-filter (λ a b. a.number ≢ b.number) (λ a. not (is_same a c)) (all_held stays ++ waiting) numbered);
         on = is.on;
         homed = All-filter (λ a. not (is_same a c)) (IsAtHome places) waiting is.homed;
       };
@@ -141,12 +141,12 @@ wait_left c w stays waiting numbered at same there =
 there_not : (c : Candidate) (o : Option Candidate) (d : Candidate) → is_there c o ≡ false → o ≡ Some d → is_same d c ≡ false
 there_not c o d none at = ap (λ (p : Option Candidate). is_there c p) (sym at) ∙ none
 
-pub none_left : (c : Candidate) (stays : List (Option Candidate)) (waiting : List Candidate) → has_candidate c waiting ≡ false → ((cpu : ℕ) → is_there c (get_or stays cpu None) ≡ false) → HasLeft c stays waiting stays waiting false
+pub none_left : (c : Candidate) (stays : List (Option Candidate)) (waiting : List Candidate) → has_candidate c waiting ≡ false → ((cpu : ℕ) → is_there c (get_or stays cpu None) ≡ false) → HasLeftWaiting c stays waiting stays waiting false
 none_left c stays waiting absent none =
-    let held_none : has_candidate c (held stays) ≡ false = list_any_none (λ a. is_same a c) (held stays) (All_held (λ a. is_same a c ≡ false) stays (λ cpu d at. there_not c (get_or stays cpu None) d (none cpu) at)) in
-    let all : has_candidate c (all_of stays waiting) ≡ false = has_ordered c (held stays ++ waiting) ∙ list_any-append (λ a. is_same a c) (held stays) waiting ∙ ap (λ (b : Bool). b || has_candidate c waiting) held_none ∙ absent in
+    let held_none : has_candidate c (all_held stays) ≡ false = list_any_none (λ a. is_same a c) (all_held stays) (All_held (λ a. is_same a c ≡ false) stays (λ cpu d at. there_not c (get_or stays cpu None) d (none cpu) at)) in
+    let all : has_candidate c (all_waiting stays waiting) ≡ false = has_ordered c (all_held stays ++ waiting) ∙ list_any-append (λ a. is_same a c) (all_held stays) waiting ∙ ap (λ (b : Bool). b || has_candidate c waiting) held_none ∙ absent in
     record {
-      all = sym (without_absent c (all_of stays waiting) all);
+      all = sym (without_absent c (all_waiting stays waiting) all);
       there = sym all;
       is = λ places is. is;
     }

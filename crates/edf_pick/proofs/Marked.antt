@@ -10,8 +10,8 @@ use Rattle.std.proofs.lemmas.Option.{slice_get-get_or, slice_get_past}
 use Rattle.std.proofs.lemmas.Nat.Bits.{bit_at-lt}
 use Rattle.edf_pick.specs.declared.candidate.Candidate.{Candidate}
 use Rattle.edf_pick.specs.Order.{IsRising}
-use Rattle.edf_pick.specs.Places.{Places, taken, AreTaken, AreSingle, is_task, stands, is_free, seat_of, put, seated, placed}
-use Rattle.edf_pick.specs.private.First.{staying, AreStaying, is_home, AreHomes, moves, AreMovers, AreLeaving, marked, seated_all}
+use Rattle.edf_pick.specs.Places.{Places, count_occupant, AreTaken, AreSingle, is_task, stands, is_free, seat_of, put, seated, placed}
+use Rattle.edf_pick.specs.private.First.{staying, AreStaying, is_home, AreHomes, moves, AreMovers, AreLeaving, those_marked, seated_all}
 use Rattle.edf_pick.proofs.Picked.{picked}
 
 -- what is read past the end
@@ -19,37 +19,37 @@ abbrev pub nobody : Candidate
 nobody = record { deadline = 0; number = 0; home = 0 }
 
 -- MARKED
-marked_same : (f g : ℕ → ℕ) (xs : List Candidate) → ((i : ℕ) → f i ≡ g i) → marked f xs ≡ marked g xs
-marked_same f g xs same = ap (λ (h : ℕ → ℕ). marked h xs) (fun_ext same)
+marked_same : (f g : ℕ → ℕ) (xs : List Candidate) → ((i : ℕ) → f i ≡ g i) → those_marked f xs ≡ those_marked g xs
+marked_same f g xs same = ap (λ (h : ℕ → ℕ). those_marked h xs) (fun_ext same)
 
-pub marked_none : (f : ℕ → ℕ) (xs : List Candidate) → ((i : ℕ) → f i ≡ 0) → marked f xs ≡ []
+pub marked_none : (f : ℕ → ℕ) (xs : List Candidate) → ((i : ℕ) → f i ≡ 0) → those_marked f xs ≡ []
 marked_none f [] none = refl
 marked_none f (x ∷ xs) none =
-    let rest = marked (λ i. f (suc i)) xs in
+    let rest = those_marked (λ i. f (suc i)) xs in
     ap (λ (n : ℕ). cond (eqb n 1) (x ∷ rest) rest) (none 0) ∙ marked_none (λ i. f (suc i)) xs (λ i. none (suc i))
 
 -- the first mark, and then the others
-pub marked_first : (f g : ℕ → ℕ) (xs : List Candidate) (i : ℕ) (d : Candidate) → i < length xs → ((j : ℕ) → j < i → f j ≡ 0) → f i ≡ 1 → g i ≡ 0 → ((j : ℕ) → j ≢ i → g j ≡ f j) → marked f xs ≡ get_or xs i d ∷ marked g xs
+pub marked_first : (f g : ℕ → ℕ) (xs : List Candidate) (i : ℕ) (d : Candidate) → i < length xs → ((j : ℕ) → j < i → f j ≡ 0) → f i ≡ 1 → g i ≡ 0 → ((j : ℕ) → j ≢ i → g j ≡ f j) → those_marked f xs ≡ get_or xs i d ∷ those_marked g xs
 marked_first f g [] i d h below fi gi others = absurd (omega arith)
 marked_first f g (x ∷ xs) zero d h below fi gi others =
-    let rf = marked (λ i. f (suc i)) xs in
-    let rg = marked (λ i. g (suc i)) xs in
+    let rf = those_marked (λ i. f (suc i)) xs in
+    let rg = those_marked (λ i. g (suc i)) xs in
     let same : rf ≡ rg = marked_same (λ i. f (suc i)) (λ i. g (suc i)) xs (λ j. sym (others (suc j) (λ e. omega arith))) in
     ap (λ (n : ℕ). cond (eqb n 1) (x ∷ rf) rf) fi ∙ ap (λ (ys : List Candidate). x ∷ ys) (same ∙ sym (ap (λ (n : ℕ). cond (eqb n 1) (x ∷ rg) rg) gi))
 marked_first f g (x ∷ xs) (suc i) d h below fi gi others =
-    let rf = marked (λ i. f (suc i)) xs in
-    let rg = marked (λ i. g (suc i)) xs in
+    let rf = those_marked (λ i. f (suc i)) xs in
+    let rg = those_marked (λ i. g (suc i)) xs in
     let f0 : f 0 ≡ 0 = below 0 (omega arith) in
     let g0 : g 0 ≡ 0 = others 0 (λ e. omega arith) ∙ f0 in
     ap (λ (n : ℕ). cond (eqb n 1) (x ∷ rf) rf) f0
     ∙ marked_first (λ i. f (suc i)) (λ i. g (suc i)) xs i d (omega arith) (λ j l. below (suc j) (omega arith)) fi gi (λ j apart. others (suc j) (λ e. apart (omega arith)))
     ∙ ap (λ (ys : List Candidate). get_or xs i d ∷ ys) (sym (ap (λ (n : ℕ). cond (eqb n 1) (x ∷ rg) rg) g0))
 
-marked_movers : (places : Places) (f : ℕ → ℕ) (xs : List Candidate) → ((i : ℕ) → f i ≡ moves places (slice_get xs i)) → marked f xs ≡ filter (λ c. not (is_home places c)) xs
+marked_movers : (places : Places) (f : ℕ → ℕ) (xs : List Candidate) → ((i : ℕ) → f i ≡ moves places (slice_get xs i)) → those_marked f xs ≡ filter (λ c. not (is_home places c)) xs
 marked_movers places f [] same = refl
 marked_movers places f (x ∷ xs) same =
     let rest = marked_movers places (λ i. f (suc i)) xs (λ i. same (suc i)) in
-    let m = marked (λ i. f (suc i)) xs in
+    let m = those_marked (λ i. f (suc i)) xs in
     let away = filter (λ c. not (is_home places c)) xs in
     ap (λ (n : ℕ). cond (eqb n 1) (x ∷ m) m) (same 0)
     ∙ (elim (is_home places x) as (λ b. cond (eqb (cond b 0 1) 1) (x ∷ m) m ≡ cond (not b) (x ∷ away) away) [
@@ -75,20 +75,20 @@ pub cleared_other : (f : ℕ → ℕ) (i j : ℕ) → j ≢ i → cleared_mark f
 cleared_other f i j apart = ap (λ (b : Bool). cond b 0 (f j)) (ne_eqb j i apart)
 
 -- FREE CPUS
-bare_is : (o : Option ℕ) → taken o ≡ 0 → is_none o ≡ true
+bare_is : (o : Option ℕ) → count_occupant o ≡ 0 → is_none o ≡ true
 bare_is None e = refl
 bare_is (Some n) e = absurd (omega arith)
 
-taken_is : (o : Option ℕ) → taken o ≡ 1 → is_none o ≡ false
+taken_is : (o : Option ℕ) → count_occupant o ≡ 1 → is_none o ≡ false
 taken_is None e = absurd (omega arith)
 taken_is (Some n) e = refl
 
-pub lowest_at : (places : Places) (cpu : ℕ) → cpu < length places → taken (get_or places cpu None) ≡ 0 → ((k : ℕ) → k < cpu → taken (get_or places k None) ≡ 1) → position (λ o. is_none o) places ≡ Some cpu
+pub lowest_at : (places : Places) (cpu : ℕ) → cpu < length places → count_occupant (get_or places cpu None) ≡ 0 → ((k : ℕ) → k < cpu → count_occupant (get_or places k None) ≡ 1) → position (λ o. is_none o) places ≡ Some cpu
 lowest_at places cpu h bare below =
     let k : position_or_len (λ (o : Option ℕ). is_none o) places ≡ cpu = position_or_len_is (λ (o : Option ℕ). is_none o) places cpu None (omega arith) (λ k l. taken_is (get_or places k None) (below k l)) (λ _. bare_is (get_or places cpu None) bare) in
     ap (λ (j : ℕ). cond (ltb j (length places)) (Some j) None) k ∙ ap (λ (b : Bool). cond b (Some cpu) None) (lt-ltb cpu (length places) h)
 
-pub lowest_none : (places : Places) → ((k : ℕ) → k < length places → taken (get_or places k None) ≡ 1) → position (λ o. is_none o) places ≡ None
+pub lowest_none : (places : Places) → ((k : ℕ) → k < length places → count_occupant (get_or places k None) ≡ 1) → position (λ o. is_none o) places ≡ None
 lowest_none places below =
     let k : position_or_len (λ (o : Option ℕ). is_none o) places ≡ length places = position_or_len_is (λ (o : Option ℕ). is_none o) places (length places) None (omega arith) (λ k l. taken_is (get_or places k None) (below k l)) (λ l. absurd (omega arith)) in
     ap (λ (j : ℕ). cond (ltb j (length places)) (Some j) None) k ∙ ap (λ (b : Bool). cond b (Some (length places)) None) (le-ltb (length places) (length places) (omega arith))
@@ -177,7 +177,7 @@ home_stays chosen before k d h home =
     let there : list_any (λ b. eqb b.number c.number) chosen ≡ true = any_at (λ b. eqb b.number c.number) chosen k d h (eq-eqb c.number c.number refl) in
     stands_kept (staying chosen) c.number before c.home home (cond-true (list_any (λ b. eqb b.number c.number) chosen) (Some c.number) None there)
 
-pub moved : (cpus : ℕ) (queue : List Candidate) (before : Places) (f : ℕ → ℕ) → IsRising queue → ((i : ℕ) → f i ≡ moves before (slice_get (take cpus queue) i)) → seated_all (marked f (take cpus queue)) (map (staying (take cpus queue)) before) ≡ placed cpus queue before
+pub moved : (cpus : ℕ) (queue : List Candidate) (before : Places) (f : ℕ → ℕ) → IsRising queue → ((i : ℕ) → f i ≡ moves before (slice_get (take cpus queue) i)) → seated_all (those_marked f (take cpus queue)) (map (staying (take cpus queue)) before) ≡ placed cpus queue before
 moved cpus queue before f rising same =
     let chosen = take cpus queue in
     let kept = map (staying chosen) before in
@@ -263,10 +263,10 @@ not_true false e = absurd cc
 
 -- where no chosen task is at home
 pub staying_movers : (chosen : List Candidate) (places : Places) (f : ℕ → ℕ) (cpu : ℕ) → AreSingle places → All (λ c. is_home places c ≡ true → c.home ≢ cpu) chosen
-    → ((i : ℕ) → f i ≡ moves places (slice_get chosen i)) → staying (marked f chosen) (get_or places cpu None) ≡ staying chosen (get_or places cpu None)
+    → ((i : ℕ) → f i ≡ moves places (slice_get chosen i)) → staying (those_marked f chosen) (get_or places cpu None) ≡ staying chosen (get_or places cpu None)
 staying_movers chosen places f cpu single apart movers = by_occupant (get_or places cpu None) refl
   where
-    by_occupant : (o : Option ℕ) → get_or places cpu None ≡ o → staying (marked f chosen) o ≡ staying chosen o
+    by_occupant : (o : Option ℕ) → get_or places cpu None ≡ o → staying (those_marked f chosen) o ≡ staying chosen o
     by_occupant None at = refl
     by_occupant (Some n) at =
         let p : Candidate → Bool = λ b. eqb b.number n in
@@ -295,16 +295,16 @@ walked_leaving chosen places words homes movers left single takes stays whole ar
   others = λ cpu e. elim (cases_eq (bit_at homes cpu) 1) [
     | inl mark ↦ stays cpu mark
     | inr other ↦
-        let none : taken (get_or places cpu None) ≡ 0 = sym (takes cpu) ∙ bare cpu e (omega (arith, other, bit_at-lt homes cpu)) in
+        let none : count_occupant (get_or places cpu None) ≡ 0 = sym (takes cpu) ∙ bare cpu e (omega (arith, other, bit_at-lt homes cpu)) in
         ap (staying chosen) (nobody_there (get_or places cpu None) none) ∙ sym (nobody_there (get_or places cpu None) none)
   ];
 }
   where
-    by_occupant : (cpu : ℕ) (o : Option ℕ) → get_or places cpu None ≡ o → taken (get_or places cpu None) ≡ 1 → cpu < length places
-    by_occupant cpu None at e = absurd (let none : taken None ≡ 1 = ap taken (sym at) ∙ e in omega arith)
+    by_occupant : (cpu : ℕ) (o : Option ℕ) → get_or places cpu None ≡ o → count_occupant (get_or places cpu None) ≡ 1 → cpu < length places
+    by_occupant cpu None at e = absurd (let none : count_occupant None ≡ 1 = ap count_occupant (sym at) ∙ e in omega arith)
     by_occupant cpu (Some n) at e = occupied places cpu n at
 
-    nobody_there : (o : Option ℕ) → taken o ≡ 0 → o ≡ None
+    nobody_there : (o : Option ℕ) → count_occupant o ≡ 0 → o ≡ None
     nobody_there None e = refl
     nobody_there (Some n) e = absurd (omega arith)
 
@@ -372,7 +372,7 @@ pub single_all : (chosen : List Candidate) (places : Places) → AreSingle place
 single_all [] places single = single
 single_all (c ∷ chosen) places single = single_all chosen (seated places c) (single_seated places c single)
 
-pub none_stands : (n : ℕ) (places : Places) → ((cpu : ℕ) → 0 ≡ taken (get_or places cpu None)) → stands n places ≡ false
+pub none_stands : (n : ℕ) (places : Places) → ((cpu : ℕ) → 0 ≡ count_occupant (get_or places cpu None)) → stands n places ≡ false
 none_stands n [] none = refl
 none_stands n (None ∷ places) none = none_stands n places (λ cpu. none (suc cpu))
 none_stands n (Some k ∷ places) none = absurd (let no = none 0 in omega arith)

@@ -9,13 +9,13 @@ use Rattle.edf_pick.specs.Choice.{is_before}
 use Rattle.edf_pick.specs.Places.{Places, is_free}
 use Rattle.edf_pick.specs.private.Choosing.{chosen_stays, chosen_movers, IsChoosing, IsChosen}
 use Rattle.edf_pick.specs.private.First.{is_home}
-use Rattle.edf_pick.specs.private.Waiting.{held, staying_on, AreOn, AreSeated}
+use Rattle.edf_pick.specs.private.Waiting.{all_held, staying_on, AreOn, AreSeated}
 use Rattle.edf_pick.proofs.Chosen.{home_within, chosen_is}
 use Rattle.edf_pick.proofs.Rising.{rising_first}
 use Rattle.edf_pick.proofs.Waits.{none_seated, one_seated}
 
 -- who stays is the occupant
-one_stays : (stays : List (Option Candidate)) (places : Places) → length stays ≡ 1 → length places ≡ 1 → AreOn stays places → (length (held stays) ≡ 0 → ⊥) → staying_on stays ≡ places
+one_stays : (stays : List (Option Candidate)) (places : Places) → length stays ≡ 1 → length places ≡ 1 → AreOn stays places → (length (all_held stays) ≡ 0 → ⊥) → staying_on stays ≡ places
 one_stays [] places h l on busy = absurd (omega arith)
 one_stays (o ∷ p ∷ stays) places h l on busy = absurd (omega arith)
 one_stays (o ∷ []) [] h l on busy = absurd (omega arith)
@@ -23,7 +23,7 @@ one_stays (o ∷ []) (a ∷ b ∷ places) h l on busy = absurd (omega arith)
 one_stays (None ∷ []) (a ∷ []) h l on busy = absurd (busy refl)
 one_stays (Some c ∷ []) (a ∷ []) h l on busy = ap (λ (o : Option ℕ). o ∷ []) (sym (on 0 c refl).1)
 
-pub busy_seated : (stays : List (Option Candidate)) (movers : List Candidate) (places : Places) → length stays ≡ 1 → length places ≡ 1 → AreOn stays places → length (held stays) + length movers ≤ length stays → (length (held stays) ≡ 0 → ⊥)
+pub busy_seated : (stays : List (Option Candidate)) (movers : List Candidate) (places : Places) → length stays ≡ 1 → length places ≡ 1 → AreOn stays places → length (all_held stays) + length movers ≤ length stays → (length (all_held stays) ≡ 0 → ⊥)
     → AreSeated stays movers stays places
 busy_seated stays [] places h l on free busy = subst (λ (ps : Places). AreSeated stays [] stays ps) (one_stays stays places h l on busy) (none_seated stays places on)
 busy_seated stays (m ∷ movers) places h l on free busy = absurd (omega arith)
@@ -33,7 +33,7 @@ none_on : AreOn (None ∷ []) (None ∷ [])
 none_on zero c at = absurd cc
 none_on (suc cpu) c at = absurd cc
 
-pub idle_seated : (stays : List (Option Candidate)) (movers : List Candidate) → length stays ≡ 1 → length (held stays) ≡ 0 → length movers ≡ 0 → AreSeated stays movers stays (None ∷ [])
+pub idle_seated : (stays : List (Option Candidate)) (movers : List Candidate) → length stays ≡ 1 → length (all_held stays) ≡ 0 → length movers ≡ 0 → AreSeated stays movers stays (None ∷ [])
 idle_seated [] movers h bare none = absurd (omega arith)
 idle_seated (o ∷ p ∷ stays) movers h bare none = absurd (omega arith)
 idle_seated (Some c ∷ []) movers h bare none = absurd (omega arith)
@@ -45,7 +45,7 @@ one_seat : (home : ℕ) → cond (is_free (slice_get {X = Option ℕ} (None ∷ 
 one_seat zero = refl
 one_seat (suc home) = refl
 
-pub mover_seated : (stays : List (Option Candidate)) (movers : List Candidate) (d : Candidate) → length stays ≡ 1 → length (held stays) ≡ 0 → length (held stays) + length movers ≤ length stays → (length movers ≡ 0 → ⊥)
+pub mover_seated : (stays : List (Option Candidate)) (movers : List Candidate) (d : Candidate) → length stays ≡ 1 → length (all_held stays) ≡ 0 → length (all_held stays) + length movers ≤ length stays → (length movers ≡ 0 → ⊥)
     → AreSeated stays movers (set stays 0 (Some (record (get_or movers 0 d) { home = 0 }))) (Some (get_or movers 0 d).number ∷ [])
 mover_seated [] movers d h bare free some = absurd (omega arith)
 mover_seated (o ∷ p ∷ stays) movers d h bare free some = absurd (omega arith)
@@ -58,7 +58,7 @@ mover_seated (None ∷ []) (c ∷ []) d h bare free some = one_seated (None ∷ 
 -- who stays and who moves by the choice, and that the task stays there then
 abbrev pub FirstHas : Candidate → List Candidate → Places → Type 0
 FirstHas c waiting places =
-    (stays : List (Option Candidate)) × (movers : List Candidate) × IsPermutation (c ∷ waiting) (held stays ++ (movers ++ waiting)) × IsChosen stays movers waiting places
+    (stays : List (Option Candidate)) × (movers : List Candidate) × IsPermutation (c ∷ waiting) (all_held stays ++ (movers ++ waiting)) × IsChosen stays movers waiting places
     × AreSeated stays movers (Some (record c { home = 0 }) ∷ []) (Some c.number ∷ [])
 
 first_has : (c : Candidate) (waiting : List Candidate) (places : Places) → length places ≡ 1 → IsChoosing (None ∷ []) [] (c ∷ waiting) places → FirstHas c waiting places
@@ -97,21 +97,21 @@ first_has c waiting places one is = by_home (is_home places c) refl
       mover_seated (None ∷ []) (c ∷ []) c refl refl (omega arith) (λ none. omega (arith, none)),
     )
 
-bare_is : (stays : List (Option Candidate)) → length stays ≡ 1 → length (held stays) ≡ 0 → stays ≡ None ∷ []
+bare_is : (stays : List (Option Candidate)) → length stays ≡ 1 → length (all_held stays) ≡ 0 → stays ≡ None ∷ []
 bare_is [] h bare = absurd (omega arith)
 bare_is (o ∷ p ∷ stays) h bare = absurd (omega arith)
 bare_is (Some c ∷ []) h bare = absurd (omega arith)
 bare_is (None ∷ []) h bare = refl
 
-pub first_has_it : (stays : List (Option Candidate)) (c : Candidate) (waiting : List Candidate) (places : Places) → length places ≡ 1 → length (held stays) ≡ 0 → IsChoosing stays [] (c ∷ waiting) places → FirstHas c waiting places
+pub first_has_it : (stays : List (Option Candidate)) (c : Candidate) (waiting : List Candidate) (places : Places) → length places ≡ 1 → length (all_held stays) ≡ 0 → IsChoosing stays [] (c ∷ waiting) places → FirstHas c waiting places
 first_has_it stays c waiting places one bare is =
     first_has c waiting places one (subst (λ (ss : List (Option Candidate)). IsChoosing ss [] (c ∷ waiting) places) (bare_is stays (is.len ∙ one) bare) is)
 
-pub only_bare : (stays : List (Option Candidate)) → length stays ≡ 1 → length (held stays) ≡ 0 → get_or stays 0 None ≡ None
+pub only_bare : (stays : List (Option Candidate)) → length stays ≡ 1 → length (all_held stays) ≡ 0 → get_or stays 0 None ≡ None
 only_bare stays h bare = ap (λ (ss : List (Option Candidate)). get_or ss 0 None) (bare_is stays h bare)
 
-pub only_set : (stays : List (Option Candidate)) (c : Candidate) → length stays ≡ 1 → length (held stays) ≡ 0 → set stays 0 (Some c) ≡ Some c ∷ []
+pub only_set : (stays : List (Option Candidate)) (c : Candidate) → length stays ≡ 1 → length (all_held stays) ≡ 0 → set stays 0 (Some c) ≡ Some c ∷ []
 only_set stays c h bare = ap (λ (ss : List (Option Candidate)). set ss 0 (Some c)) (bare_is stays h bare)
 
-pub none_held : (stays : List (Option Candidate)) → length stays ≡ 1 → length (held stays) ≡ 0 → held stays ≡ []
-none_held stays h bare = ap (λ (ss : List (Option Candidate)). held ss) (bare_is stays h bare)
+pub none_held : (stays : List (Option Candidate)) → length stays ≡ 1 → length (all_held stays) ≡ 0 → all_held stays ≡ []
+none_held stays h bare = ap (λ (ss : List (Option Candidate)). all_held ss) (bare_is stays h bare)

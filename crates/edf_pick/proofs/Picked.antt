@@ -10,9 +10,9 @@ use Rattle.std.proofs.lemmas.List.Folds.{find_at}
 use Rattle.std.proofs.lemmas.List.Sums.{sum_by-cons, prefix_len_is, position_or_len_is, fold_more}
 use Rattle.std.proofs.lemmas.Option.{slice_get-get_or, slice_get_past}
 use Rattle.edf_pick.specs.declared.candidate.Candidate.{Candidate}
-use Rattle.edf_pick.specs.Choice.{is_before, rank, is_chosen, ranked}
+use Rattle.edf_pick.specs.Choice.{is_before, rank, is_chosen, candidate_at_rank}
 use Rattle.edf_pick.specs.Order.{IsRising}
-use Rattle.edf_pick.specs.Places.{Places, is_chosen_number, kept, seated, seated_if, seated_upto, placed}
+use Rattle.edf_pick.specs.Places.{Places, is_chosen_number, kept_if_chosen, seated, seated_if, seated_upto, placed}
 use Rattle.edf_pick.specs.private.First.{staying, seated_all}
 use Rattle.edf_pick.proofs.Before.{before_itself}
 use Rattle.edf_pick.proofs.Rising.{place, rising_parted}
@@ -76,7 +76,7 @@ number_first cpus queue n rising =
     (λ k d h l. ap (λ (j : ℕ). ltb j cpus) (rank_at queue k d rising h) ∙ lt-ltb k cpus l)
     (λ k d h l. ap (λ (j : ℕ). ltb j cpus) (rank_at queue k d rising h) ∙ le-ltb k cpus l)
 
-kept_is : (cpus : ℕ) (queue : List Candidate) (occupant : Option ℕ) → IsRising queue → staying (take cpus queue) occupant ≡ kept cpus queue occupant
+kept_is : (cpus : ℕ) (queue : List Candidate) (occupant : Option ℕ) → IsRising queue → staying (take cpus queue) occupant ≡ kept_if_chosen cpus queue occupant
 kept_is cpus queue None rising = refl
 kept_is cpus queue (Some n) rising = ap (λ (b : Bool). cond b (Some n) None) (sym (number_first cpus queue n rising))
 
@@ -85,7 +85,7 @@ map_same f g same [] = refl
 map_same f g same (o ∷ places) = ap (λ (x : Option ℕ). x ∷ map f places) (same o) ∙ ap (λ (xs : Places). g o ∷ xs) (map_same f g same places)
 
 -- SEATED
-ranked_is : (queue : List Candidate) (r : ℕ) → IsRising queue → ranked queue r ≡ slice_get queue r
+ranked_is : (queue : List Candidate) (r : ℕ) → IsRising queue → candidate_at_rank queue r ≡ slice_get queue r
 ranked_is queue r rising =
     let test = λ (c : Candidate). eqb (rank queue c) r in
     let at : (k : ℕ) → k < length queue → test (get_or queue k nobody) ≡ eqb k r = λ k h. ap (λ (j : ℕ). eqb j r) (rank_at queue k nobody rising h) in
@@ -117,5 +117,5 @@ seated_first queue places (suc r) rising =
 
 pub picked : (cpus : ℕ) (queue : List Candidate) (before : Places) → IsRising queue → seated_all (take cpus queue) (map (staying (take cpus queue)) before) ≡ placed cpus queue before
 picked cpus queue before rising =
-    ap (λ (ps : Places). seated_all (take cpus queue) ps) (map_same (staying (take cpus queue)) (kept cpus queue) (λ o. kept_is cpus queue o rising) before)
-    ∙ sym (seated_first queue (map (kept cpus queue) before) cpus rising)
+    ap (λ (ps : Places). seated_all (take cpus queue) ps) (map_same (staying (take cpus queue)) (kept_if_chosen cpus queue) (λ o. kept_is cpus queue o rising) before)
+    ∙ sym (seated_first queue (map (kept_if_chosen cpus queue) before) cpus rising)

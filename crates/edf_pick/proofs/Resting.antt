@@ -6,7 +6,7 @@ use Rattle.std.proofs.lemmas.Bool.{cases_Bool, cases_eq, lt-ltb, le-ltb, or_part
 use Rattle.std.proofs.lemmas.List.Sums.{position_or_len_is}
 use Rattle.edf_pick.specs.declared.candidate.Candidate.{Candidate}
 use Rattle.edf_pick.specs.declared.moves.Moved.{Moved}
-use Rattle.edf_pick.specs.Changes.{home_on, homed}
+use Rattle.edf_pick.specs.Changes.{home_on, with_home}
 use Rattle.edf_pick.specs.Moves.{same_occupant, moved_from}
 use Rattle.edf_pick.specs.Places.{Places, AreSingle, is_task, stands}
 use Rattle.edf_pick.specs.Schedule.{IsAtHome, homed_on, homed_by}
@@ -110,13 +110,13 @@ listed k (suc i) (b ∷ before) (a ∷ after) len h differs =
 
 -- THE WHOLE
 module _ (before after : Places) (len : length after ≡ length before) (was : AreSingle before) (single : AreSingle after) where
-  pub homes_of : (c : Candidate) → IsAtHome before c → homed_by after (moved_from 0 before after) c ≡ homed after c
+  pub homes_of : (c : Candidate) → IsAtHome before c → homed_by after (moved_from 0 before after) c ≡ with_home after c
   homes_of c home =
       elim (cases_Bool (stands c.number after)) [
         | inl there ↦
             let w = stands_where c.number after there in
             let within : w.0 < length after = occupied after w.0 c.number w.1 in
-            let is : homed after c ≡ record c { home = w.0 } = ap (home_on c) (on_position after w.0 c.number single w.1) in
+            let is : with_home after c ≡ record c { home = w.0 } = ap (home_on c) (on_position after w.0 c.number single w.1) in
             by_where after (moved_from 0 before after) c w.0 single w.1 (why w.0 w.1 within) ∙ sym is
         | inr absent ↦ by_nowhere after (moved_from 0 before after) c absent ∙ sym (ap (home_on c) (no_position after c.number absent))
       ]
@@ -133,5 +133,5 @@ module _ (before after : Places) (len : length after ≡ length before) (was : A
                 inr (l.0, l.1, l.2, l.3 ∙ zero-add cpu)
           ]
 
-  pub all_homes : (queue : List Candidate) → All (IsAtHome before) queue → map (homed_by after (moved_from 0 before after)) queue ≡ map (homed after) queue
-  all_homes queue homes = map_same_on (homed_by after (moved_from 0 before after)) (homed after) queue (λ k d h. homes_of (get_or queue k d) (homes k d h))
+  pub all_homes : (queue : List Candidate) → All (IsAtHome before) queue → map (homed_by after (moved_from 0 before after)) queue ≡ map (with_home after) queue
+  all_homes queue homes = map_same_on (homed_by after (moved_from 0 before after)) (with_home after) queue (λ k d h. homes_of (get_or queue k d) (homes k d h))

@@ -9,20 +9,20 @@ use Rattle.std.proofs.lemmas.List.{length-take-le}
 use Rattle.std.proofs.lemmas.List.Folds.{list_any_none}
 use Rattle.std.proofs.lemmas.Nat.Bits.{bit_at-lt}
 use Rattle.edf_pick.specs.declared.candidate.Candidate.{Candidate}
-use Rattle.edf_pick.specs.Changes.{homed}
+use Rattle.edf_pick.specs.Changes.{with_home}
 use Rattle.edf_pick.specs.Moves.{same_occupant}
-use Rattle.edf_pick.specs.Order.{ordered}
-use Rattle.edf_pick.specs.Places.{Places, taken, put, seat_of, seated, stands, AreSingle, AreTaken, placed}
+use Rattle.edf_pick.specs.Order.{by_deadline}
+use Rattle.edf_pick.specs.Places.{Places, count_occupant, put, seat_of, seated, stands, AreSingle, AreTaken, placed}
 use Rattle.edf_pick.specs.private.Choosing.{IsChosen}
 use Rattle.edf_pick.specs.private.First.{seated_all}
-use Rattle.edf_pick.specs.private.Waiting.{held, staying_on, all_of, AreOn, IsWaiting, AreSeated}
+use Rattle.edf_pick.specs.private.Waiting.{all_held, staying_on, all_waiting, AreOn, IsWaiting, AreSeated}
 use Rattle.edf_pick.proofs.Chosen.{all_before}
 use Rattle.edf_pick.proofs.Marked.{all_stay, put_at, stands_here}
 use Rattle.edf_pick.proofs.Moving.{same_all}
 use Rattle.edf_pick.proofs.Sorting.{ordered_same}
 use Rattle.edf_pick.proofs.Waits.{next_seat, stays_length, stays_where, placed_by_movers, seated_homed, seated_waiting}
 
-pub none_taken : (o : Option ℕ) → taken o ≡ 0 → o ≡ None
+pub none_taken : (o : Option ℕ) → count_occupant o ≡ 0 → o ≡ None
 none_taken None e = refl
 none_taken (Some n) e = absurd (omega arith)
 
@@ -46,7 +46,7 @@ kept_are stays old new marks stood left on many len marked there only bare gone 
     ])
   where
     by_stay : (cpu : ℕ) → bit_at left cpu ≡ 0 → (o : Option ℕ) → get_or (staying_on stays) cpu None ≡ o → get_or old cpu None ≡ get_or (staying_on stays) cpu None
-    by_stay cpu zero None e = none_taken (get_or old cpu None) (sym (there cpu) ∙ bare cpu zero (marked cpu ∙ ap taken e)) ∙ sym e
+    by_stay cpu zero None e = none_taken (get_or old cpu None) (sym (there cpu) ∙ bare cpu zero (marked cpu ∙ ap count_occupant e)) ∙ sym e
     by_stay cpu zero (Some n) e = stays_stood stays old cpu n on e ∙ sym e
 
 -- each occupant stays
@@ -56,17 +56,17 @@ stay_all stays places marks on many marked there =
     same_all (staying_on stays) places (omega (arith, all, many)) (λ cpu. by_stay cpu (get_or (staying_on stays) cpu None) refl)
   where
     by_stay : (cpu : ℕ) (o : Option ℕ) → get_or (staying_on stays) cpu None ≡ o → get_or (staying_on stays) cpu None ≡ get_or places cpu None
-    by_stay cpu None e = e ∙ sym (none_taken (get_or places cpu None) (sym (there cpu) ∙ marked cpu ∙ ap taken e))
+    by_stay cpu None e = e ∙ sym (none_taken (get_or places cpu None) (sym (there cpu) ∙ marked cpu ∙ ap count_occupant e))
     by_stay cpu (Some n) e = e ∙ sym (stays_stood stays places cpu n on e)
 
 -- where nobody goes and nobody comes, the same one stands
 pub same_there : (stays : List (Option Candidate)) (movers : List Candidate) (old new : Places) (cpu : ℕ) → AreOn stays old → new ≡ seated_all movers (staying_on stays)
-    → (taken (get_or (staying_on stays) cpu None) ≡ 0 → taken (get_or old cpu None) ≡ 0) → (taken (get_or (staying_on stays) cpu None) ≡ 0 → taken (get_or new cpu None) ≡ 0) → get_or old cpu None ≡ get_or new cpu None
+    → (count_occupant (get_or (staying_on stays) cpu None) ≡ 0 → count_occupant (get_or old cpu None) ≡ 0) → (count_occupant (get_or (staying_on stays) cpu None) ≡ 0 → count_occupant (get_or new cpu None) ≡ 0) → get_or old cpu None ≡ get_or new cpu None
 same_there stays movers old new cpu on is went came = by_occupant (get_or (staying_on stays) cpu None) refl
   where
     by_occupant : (o : Option ℕ) → get_or (staying_on stays) cpu None ≡ o → get_or old cpu None ≡ get_or new cpu None
     by_occupant None e =
-        let none : taken (get_or (staying_on stays) cpu None) ≡ 0 = ap taken e in
+        let none : count_occupant (get_or (staying_on stays) cpu None) ≡ 0 = ap count_occupant e in
         none_taken (get_or old cpu None) (went none) ∙ sym (none_taken (get_or new cpu None) (came none))
     by_occupant (Some n) e = stays_stood stays old cpu n on e ∙ sym (ap (λ (ps : Places). get_or ps cpu None) is ∙ all_stay movers (staying_on stays) cpu n e)
 
@@ -92,19 +92,19 @@ came_from (c ∷ cs) places cpu n on =
 
 -- on a CPU from which somebody has gone or to which somebody has come another one stands
 pub other_there : (stays : List (Option Candidate)) (movers : List Candidate) (old new : Places) (cpu : ℕ) → All (λ c. stands c.number old ≡ false) movers → new ≡ seated_all movers (staying_on stays)
-    → taken (get_or (staying_on stays) cpu None) ≡ 0 → (taken (get_or old cpu None) ≡ 1) ⊎ (taken (get_or new cpu None) ≡ 1) → same_occupant (get_or old cpu None) (get_or new cpu None) ≡ false
+    → count_occupant (get_or (staying_on stays) cpu None) ≡ 0 → (count_occupant (get_or old cpu None) ≡ 1) ⊎ (count_occupant (get_or new cpu None) ≡ 1) → same_occupant (get_or old cpu None) (get_or new cpu None) ≡ false
 other_there stays movers old new cpu away is bare some = by_both (get_or old cpu None) (get_or new cpu None) refl refl
   where
     came : (n : ℕ) → get_or new cpu None ≡ Some n → list_any (λ c. eqb c.number n) movers ≡ true
     came n on = elim (came_from movers (staying_on stays) cpu n (ap (λ (ps : Places). get_or ps cpu None) (sym is) ∙ on)) [
-      | inl stood ↦ absurd (let one : taken (get_or (staying_on stays) cpu None) ≡ 1 = ap taken stood in omega (arith, bare, one))
+      | inl stood ↦ absurd (let one : count_occupant (get_or (staying_on stays) cpu None) ≡ 1 = ap count_occupant stood in omega (arith, bare, one))
       | inr there ↦ there
     ]
 
     by_both : (o p : Option ℕ) → get_or old cpu None ≡ o → get_or new cpu None ≡ p → same_occupant o p ≡ false
     by_both None None at_o at_p = elim some [
-      | inl was ↦ absurd (let none : taken (get_or old cpu None) ≡ 0 = ap taken at_o in omega (arith, was, none))
-      | inr now ↦ absurd (let none : taken (get_or new cpu None) ≡ 0 = ap taken at_p in omega (arith, now, none))
+      | inl was ↦ absurd (let none : count_occupant (get_or old cpu None) ≡ 0 = ap count_occupant at_o in omega (arith, was, none))
+      | inr now ↦ absurd (let none : count_occupant (get_or new cpu None) ≡ 0 = ap count_occupant at_p in omega (arith, now, none))
     ]
     by_both None (Some n) at_o at_p = refl
     by_both (Some m) None at_o at_p = refl
@@ -130,7 +130,7 @@ either a b c i only e = elim (cases_eq (bit_at a i) 1) [
 ]
 
 -- the next mover has a seat
-pub next_mover : (stays : List (Option Candidate)) (movers : List Candidate) (i : ℕ) (d : Candidate) (now : List (Option Candidate)) (places : Places) → length (held stays) + length movers ≤ length stays → i < length movers
+pub next_mover : (stays : List (Option Candidate)) (movers : List Candidate) (i : ℕ) (d : Candidate) (now : List (Option Candidate)) (places : Places) → length (all_held stays) + length movers ≤ length stays → i < length movers
     → AreSeated stays (take i movers) now places → (cpu : ℕ) × (seat_of places (get_or movers i d) ≡ Some cpu)
 next_mover stays movers i d now places free h is =
     let some = length-take-le i movers (omega (arith, h)) in
@@ -138,21 +138,21 @@ next_mover stays movers i d now places free h is =
 
 -- THE WHOLE CHOICE
 module _ (stays0 : List (Option Candidate)) (waiting0 : List Candidate) (stays : List (Option Candidate)) (movers waiting : List Candidate) (before : Places) (now : List (Option Candidate)) (places : Places) (is : IsWaiting stays0 waiting0 before)
-    (single : AreSingle before) (same : IsPermutation (held stays0 ++ waiting0) (held stays ++ (movers ++ waiting))) (chosen : IsChosen stays movers waiting before) (seats : AreSeated stays movers now places) where
-  whole : all_of stays0 waiting0 ≡ ordered (held stays ++ (movers ++ waiting))
-  whole = ordered_same (held stays0 ++ waiting0) (held stays ++ (movers ++ waiting)) is.numbered same
+    (single : AreSingle before) (same : IsPermutation (all_held stays0 ++ waiting0) (all_held stays ++ (movers ++ waiting))) (chosen : IsChosen stays movers waiting before) (seats : AreSeated stays movers now places) where
+  whole : all_waiting stays0 waiting0 ≡ by_deadline (all_held stays ++ (movers ++ waiting))
+  whole = ordered_same (all_held stays0 ++ waiting0) (all_held stays ++ (movers ++ waiting)) is.numbered same
 
-  pub picked_places : placed (length before) (all_of stays0 waiting0) before ≡ places
+  pub picked_places : placed (length before) (all_waiting stays0 waiting0) before ≡ places
   picked_places =
       let it = chosen.choosing in
       ap (λ (xs : List Candidate). placed (length before) xs before) whole
       ∙ placed_by_movers (length before) stays movers waiting before it.len it.numbered it.rising it.waits it.on it.away single it.few chosen.all (all_before stays movers waiting before chosen)
       ∙ sym seats.seated
 
-  pub picked_homes : map (homed places) (all_of stays0 waiting0) ≡ all_of now waiting
+  pub picked_homes : map (with_home places) (all_waiting stays0 waiting0) ≡ all_waiting now waiting
   picked_homes =
       let it = chosen.choosing in
-      ap (λ (xs : List Candidate). map (homed places) xs) whole ∙ seated_homed stays movers waiting before now places it.numbered it.on single seats
+      ap (λ (xs : List Candidate). map (with_home places) xs) whole ∙ seated_homed stays movers waiting before now places it.numbered it.on single seats
 
   pub picked_waiting : IsWaiting now waiting places
   picked_waiting =

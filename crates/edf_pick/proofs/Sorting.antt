@@ -9,7 +9,7 @@ use Rattle.std.proofs.lemmas.List.Sums.{sum_by-cons}
 use Rattle.std.proofs.lemmas.List.Sorted.{IsPermutation-sym, IsPermutation-append_left, Contains-permutation, All-permutation, sum_by-IsPermutation}
 use Rattle.edf_pick.specs.declared.candidate.Candidate.{Candidate}
 use Rattle.edf_pick.specs.Choice.{is_before}
-use Rattle.edf_pick.specs.Order.{IsRising, is_same, with_candidate, without_candidate, ordered}
+use Rattle.edf_pick.specs.Order.{IsRising, is_same, with_candidate, without_candidate, by_deadline}
 use Rattle.edf_pick.proofs.Before.{before_reverse, before_itself}
 use Rattle.edf_pick.proofs.CallerLemmas.{IsNumbered, numbered_first, numbered_rest, permuted, contains_ordered, contains_from_ordered, rising_ordered, with_later, with_here}
 use Rattle.edf_pick.proofs.Rising.{rising_first, rising_rest}
@@ -121,9 +121,9 @@ rising_same (a ∷ xs) (b ∷ ys) rx ry there back =
     ∙ ap (λ (zs : List Candidate). b ∷ zs)
     (rising_same xs ys (rising_rest a xs rx) (rising_rest b ys ry) (rest_within a b xs ys rx same there) (rest_within b a ys xs ry (sym same) back))
 
-pub ordered_same : (xs ys : List Candidate) → IsNumbered xs → IsPermutation xs ys → ordered xs ≡ ordered ys
+pub ordered_same : (xs ys : List Candidate) → IsNumbered xs → IsPermutation xs ys → by_deadline xs ≡ by_deadline ys
 ordered_same xs ys numbered same =
-    rising_same (ordered xs) (ordered ys) (rising_ordered xs numbered) (rising_ordered ys (numbered_same xs ys same numbered))
+    rising_same (by_deadline xs) (by_deadline ys) (rising_ordered xs numbered) (rising_ordered ys (numbered_same xs ys same numbered))
     (λ x at. contains_ordered x ys (Contains-permutation xs ys x same (contains_from_ordered x xs at)))
     (λ x at. contains_ordered x xs (Contains-permutation ys xs x (IsPermutation-sym xs ys same) (contains_from_ordered x ys at)))
 
@@ -131,7 +131,7 @@ before_first : (a : Candidate) (xs : List Candidate) → All (λ b. is_before a 
 before_first a [] all = refl
 before_first a (b ∷ xs) all = with_here b a xs (before_reverse a b (All-head (λ b. is_before a b ≡ true) b xs all))
 
-pub ordered_rising : (xs : List Candidate) → IsRising xs → ordered xs ≡ xs
+pub ordered_rising : (xs : List Candidate) → IsRising xs → by_deadline xs ≡ xs
 ordered_rising [] rising = refl
 ordered_rising (a ∷ xs) rising =
     ap (λ (ys : List Candidate). with_candidate a ys) (ordered_rising xs (rising_rest a xs rising))
@@ -167,15 +167,15 @@ contains_from_filter p (a ∷ xs) x at =
       | inr e ↦ behind (subst (λ ys. Contains ys x) (cond-false (p a) (a ∷ filter p xs) (filter p xs) e) at)
     ]
 
-pub ordered_filter : (p : Candidate → Bool) (xs : List Candidate) → IsNumbered xs → filter p (ordered xs) ≡ ordered (filter p xs)
+pub ordered_filter : (p : Candidate → Bool) (xs : List Candidate) → IsNumbered xs → filter p (by_deadline xs) ≡ by_deadline (filter p xs)
 ordered_filter p xs numbered =
-    rising_same (filter p (ordered xs)) (ordered (filter p xs))
-    (AllPairs-filter (λ a b. is_before a b ≡ true) p (ordered xs) (rising_ordered xs numbered))
+    rising_same (filter p (by_deadline xs)) (by_deadline (filter p xs))
+    (AllPairs-filter (λ a b. is_before a b ≡ true) p (by_deadline xs) (rising_ordered xs numbered))
     (rising_ordered (filter p xs) (AllPairs-filter (λ a b. a.number ≢ b.number) p xs numbered))
-    (λ x at. let parts = contains_from_filter p (ordered xs) x at in contains_ordered x (filter p xs) (contains_filter p xs x (contains_from_ordered x xs parts.0) parts.1))
-    (λ x at. let parts = contains_from_filter p xs x (contains_from_ordered x (filter p xs) at) in contains_filter p (ordered xs) x (contains_ordered x xs parts.0) parts.1)
+    (λ x at. let parts = contains_from_filter p (by_deadline xs) x at in contains_ordered x (filter p xs) (contains_filter p xs x (contains_from_ordered x xs parts.0) parts.1))
+    (λ x at. let parts = contains_from_filter p xs x (contains_from_ordered x (filter p xs) at) in contains_filter p (by_deadline xs) x (contains_ordered x xs parts.0) parts.1)
 
-pub ordered_without : (c : Candidate) (xs : List Candidate) → IsNumbered xs → without_candidate c (ordered xs) ≡ ordered (without_candidate c xs)
+pub ordered_without : (c : Candidate) (xs : List Candidate) → IsNumbered xs → without_candidate c (by_deadline xs) ≡ by_deadline (without_candidate c xs)
 ordered_without c xs numbered = ordered_filter (λ a. not (is_same a c)) xs numbered
 
 -- ---- EACH CHANGED
@@ -207,9 +207,9 @@ map_with f keeps c (a ∷ xs) =
           ∙ sym (with_here (f a) (f c) (map f xs) (before_kept f keeps a c ∙ e))
     ]
 
-pub ordered_map : (f : Candidate → Candidate) → KeepsPlace f → (xs : List Candidate) → map f (ordered xs) ≡ ordered (map f xs)
+pub ordered_map : (f : Candidate → Candidate) → KeepsPlace f → (xs : List Candidate) → map f (by_deadline xs) ≡ by_deadline (map f xs)
 ordered_map f keeps [] = refl
-ordered_map f keeps (c ∷ xs) = map_with f keeps c (ordered xs) ∙ ap (λ (ys : List Candidate). with_candidate (f c) ys) (ordered_map f keeps xs)
+ordered_map f keeps (c ∷ xs) = map_with f keeps c (by_deadline xs) ∙ ap (λ (ys : List Candidate). with_candidate (f c) ys) (ordered_map f keeps xs)
 
 -- ---- SOME BEHIND THE OTHERS
 
@@ -229,9 +229,9 @@ numbered_left [] ys numbered = λ i j d h k. absurd (omega arith)
 numbered_left (x ∷ xs) ys numbered =
     AllPairs-cons (λ a b. a.number ≢ b.number) x xs (all_left (λ b. x.number ≢ b.number) xs ys (numbered_first x (xs ++ ys) numbered)) (numbered_left xs ys (numbered_rest x (xs ++ ys) numbered))
 
-pub ordered_parted : (xs ys : List Candidate) → IsNumbered (xs ++ ys) → IsRising ys → All (λ a. All (λ b. is_before a b ≡ true) ys) xs → ordered (xs ++ ys) ≡ ordered xs ++ ys
+pub ordered_parted : (xs ys : List Candidate) → IsNumbered (xs ++ ys) → IsRising ys → All (λ a. All (λ b. is_before a b ≡ true) ys) xs → by_deadline (xs ++ ys) ≡ by_deadline xs ++ ys
 ordered_parted xs ys numbered rising apart =
-    ordered_same (xs ++ ys) (ordered xs ++ ys) numbered (IsPermutation-append_left ys xs (ordered xs) (permuted xs))
-    ∙ ordered_rising (ordered xs ++ ys)
-    (rising_append (ordered xs) ys (rising_ordered xs (numbered_left xs ys numbered)) rising
-    (All-permutation (λ a. All (λ b. is_before a b ≡ true) ys) xs (ordered xs) (permuted xs) apart))
+    ordered_same (xs ++ ys) (by_deadline xs ++ ys) numbered (IsPermutation-append_left ys xs (by_deadline xs) (permuted xs))
+    ∙ ordered_rising (by_deadline xs ++ ys)
+    (rising_append (by_deadline xs) ys (rising_ordered xs (numbered_left xs ys numbered)) rising
+    (All-permutation (λ a. All (λ b. is_before a b ≡ true) ys) xs (by_deadline xs) (permuted xs) apart))

@@ -6,13 +6,13 @@ use Rattle.std.proofs.lemmas.Bool.{cases_lt, cases_Bool, lt-ltb}
 use Rattle.std.proofs.lemmas.List.Sums.{fails_before_first}
 use Rattle.std.proofs.lemmas.Option.{slice_get_past}
 use Rattle.edf_pick.specs.declared.candidate.Candidate.{Candidate}
-use Rattle.edf_pick.specs.Places.{Places, taken, is_task, stands, is_free, seat_of}
+use Rattle.edf_pick.specs.Places.{Places, count_occupant, is_task, stands, is_free, seat_of}
 use Rattle.edf_pick.proofs.Marked.{task_is}
 
 -- HOW MANY STAND
 abbrev pub busy : Places → ℕ
 busy [] = 0
-busy (o ∷ places) = taken o + busy places
+busy (o ∷ places) = count_occupant o + busy places
 
 pub stands_where : (n : ℕ) (places : Places) → stands n places ≡ true → (cpu : ℕ) × (get_or places cpu None ≡ Some n)
 stands_where n [] there = absurd cc

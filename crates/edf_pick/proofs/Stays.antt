@@ -7,8 +7,8 @@ use Rattle.std.proofs.lemmas.List.{same_lists, get_or_default, get_or-take, get_
 use Rattle.std.proofs.lemmas.Nat.Bits.{bit_at-lt, bit_at-zero}
 use Rattle.edf_pick.specs.declared.candidate.Candidate.{Candidate}
 use Rattle.edf_pick.specs.Choice.{is_before}
-use Rattle.edf_pick.specs.Places.{taken, AreTaken}
-use Rattle.edf_pick.specs.private.Waiting.{held, number_of, staying_on}
+use Rattle.edf_pick.specs.Places.{count_occupant, AreTaken}
+use Rattle.edf_pick.specs.private.Waiting.{all_held, candidate_number, staying_on}
 use Rattle.edf_pick.specs.private.Staying.{bare_key, stay_of, stays_of, IsLatest, IsStaying}
 use Rattle.edf_pick.proofs.Held.{All_held}
 use Rattle.edf_pick.proofs.Before.{before_itself, before_tells, before_past}
@@ -95,21 +95,21 @@ pub stay_bare : (m : ℕ) (c : Candidate) → m ≡ 0 → stay_of m c ≡ None
 stay_bare m c e = ap (λ (n : ℕ). stay_of n c) e
 
 -- THOSE WHO STAY
-pub count_more : (stays : List (Option Candidate)) (cpu : ℕ) (c : Candidate) → cpu < length stays → get_or stays cpu None ≡ None → length (held (set stays cpu (Some c))) ≡ length (held stays) + 1
+pub count_more : (stays : List (Option Candidate)) (cpu : ℕ) (c : Candidate) → cpu < length stays → get_or stays cpu None ≡ None → length (all_held (set stays cpu (Some c))) ≡ length (all_held stays) + 1
 count_more [] cpu c h bare = absurd (omega arith)
 count_more (None ∷ stays) zero c h bare = omega arith
 count_more (Some d ∷ stays) zero c h bare = absurd cc
 count_more (None ∷ stays) (suc cpu) c h bare = count_more stays cpu c (omega arith) bare
 count_more (Some d ∷ stays) (suc cpu) c h bare = let rest = count_more stays cpu c (omega arith) bare in omega (arith, rest)
 
-pub count_less : (stays : List (Option Candidate)) (cpu : ℕ) → is_some (get_or stays cpu None) ≡ true → length (held (set stays cpu None)) + 1 ≡ length (held stays)
+pub count_less : (stays : List (Option Candidate)) (cpu : ℕ) → is_some (get_or stays cpu None) ≡ true → length (all_held (set stays cpu None)) + 1 ≡ length (all_held stays)
 count_less [] cpu some = absurd cc
 count_less (None ∷ stays) zero some = absurd cc
 count_less (Some d ∷ stays) zero some = omega arith
 count_less (None ∷ stays) (suc cpu) some = count_less stays cpu some
 count_less (Some d ∷ stays) (suc cpu) some = let rest = count_less stays cpu some in omega (arith, rest)
 
-pub held_none : (n : ℕ) → held (replicate n None) ≡ []
+pub held_none : (n : ℕ) → all_held (replicate n None) ≡ []
 held_none zero = refl
 held_none (suc n) = held_none n
 
@@ -142,7 +142,7 @@ none_stay cpus few =
       few = few;
       full = length-replicate 64 bare_key;
       eight = length-replicate 8 bare_key;
-      many = sym (ap (λ (xs : List (Option Candidate)). length (held xs)) (view_none cpus few) ∙ ap (λ (xs : List Candidate). length xs) (held_none cpus));
+      many = sym (ap (λ (xs : List (Option Candidate)). length (all_held xs)) (view_none cpus few) ∙ ap (λ (xs : List Candidate). length xs) (held_none cpus));
       within = λ k e. absurd (clash k e);
       home = λ k e. absurd (clash k e);
       bare = λ k e. keys_none 64 k;
@@ -158,12 +158,12 @@ none_stay cpus few =
     never_is k c = ap (λ (d : Candidate). is_before c d) (keys_none 64 k) ∙ never_before_bare c
 
 -- THE MARKS
-number_at : (stays : List (Option Candidate)) (cpu : ℕ) → get_or (map number_of stays) cpu None ≡ number_of (get_or stays cpu None)
+number_at : (stays : List (Option Candidate)) (cpu : ℕ) → get_or (map candidate_number stays) cpu None ≡ candidate_number (get_or stays cpu None)
 number_at [] cpu = refl
 number_at (o ∷ stays) zero = refl
 number_at (o ∷ stays) (suc cpu) = number_at stays cpu
 
-taken_of : (m : ℕ) (c : Candidate) → m < 2 → m ≡ taken (number_of (stay_of m c))
+taken_of : (m : ℕ) (c : Candidate) → m < 2 → m ≡ count_occupant (candidate_number (stay_of m c))
 taken_of zero c few = refl
 taken_of (suc zero) c few = refl
 taken_of (suc (suc m)) c few = absurd (omega arith)
@@ -172,7 +172,7 @@ pub marks_taken : (marks cpus : ℕ) (keys : List Candidate) → length keys ≡
 marks_taken marks cpus keys full few within cpu =
     let view = stays_of (bit_at marks) (take cpus keys) in
     taken_of (bit_at marks cpu) (get_or keys cpu bare_key) (bit_at-lt marks cpu)
-    ∙ sym (ap (λ (o : Option ℕ). taken o) (number_at view cpu ∙ ap (λ (o : Option Candidate). number_of o) (view_at marks cpus cpu keys full few within)))
+    ∙ sym (ap (λ (o : Option ℕ). count_occupant o) (number_at view cpu ∙ ap (λ (o : Option Candidate). candidate_number o) (view_at marks cpus cpu keys full few within)))
 
 -- THE LATEST
 pub same_latest : (keys new : List Candidate) (from to : ℕ) (c : Candidate) → ((k : ℕ) → from ≤ k → k < to → get_or new k bare_key ≡ get_or keys k bare_key) → IsLatest keys from to c → IsLatest new from to c
@@ -283,7 +283,7 @@ is_stayed cpus busy marks after unknown cpu keys most top key m t is inside unma
     let view = came_view cpus busy marks after unknown cpu keys most top key is inside mark others in
     let old_len = view_length marks cpus keys full few in
     let more = count_more (stays_of (bit_at marks) (take cpus keys)) cpu key (omega (arith, old_len, inside)) (view_at marks cpus cpu keys full few is.within ∙ stay_bare (bit_at marks cpu) (get_or keys cpu bare_key) unmarked) in
-    let same_len = ap (λ (xs : List (Option Candidate)). length (held xs)) view in
+    let same_len = ap (λ (xs : List (Option Candidate)). length (all_held xs)) view in
     let was = is.many in
     record {
       few = few;
@@ -331,7 +331,7 @@ is_off cpus busy less marks after unknown more cpu keys most top is mark unmarke
     let within : (k : ℕ) → bit_at after k ≡ 1 → k < cpus = λ k e. elim (cases_eq k cpu) [ inl same ↦ omega (arith, same, inside) | inr apart ↦ is.within k (sym (others k apart) ∙ e) ] in
     let view = gone_view cpus busy marks after unknown cpu keys most top is mark unmarked others in
     let fewer = count_less (stays_of (bit_at marks) (take cpus keys)) cpu (ap (λ (o : Option Candidate). is_some o) (view_at marks cpus cpu keys full few is.within ∙ stay_marked (bit_at marks cpu) (get_or keys cpu bare_key) mark)) in
-    let same_len = ap (λ (xs : List (Option Candidate)). length (held xs)) view in
+    let same_len = ap (λ (xs : List (Option Candidate)). length (all_held xs)) view in
     let was = is.many in
     record {
       few = few;
@@ -362,7 +362,7 @@ is_off cpus busy less marks after unknown more cpu keys most top is mark unmarke
 
 -- unmarked key is behind a task, so nobody who stays is
 pub held_bound : (marks cpus : ℕ) (keys : List Candidate) (c : Candidate) → length keys ≡ 64 → cpus ≤ 64 → ((cpu : ℕ) → bit_at marks cpu ≡ 1 → cpu < cpus) → ((cpu : ℕ) → is_before c (get_or keys cpu bare_key) ≡ false)
-    → All (λ a. is_before c a ≡ false) (held (stays_of (bit_at marks) (take cpus keys)))
+    → All (λ a. is_before c a ≡ false) (all_held (stays_of (bit_at marks) (take cpus keys)))
 held_bound marks cpus keys c full few within past =
     let view = stays_of (bit_at marks) (take cpus keys) in
     All_held (λ a. is_before c a ≡ false) view (λ cpu a e.

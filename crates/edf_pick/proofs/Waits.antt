@@ -12,12 +12,12 @@ use Rattle.std.proofs.lemmas.List.Sorted.{IsPermutation-refl, IsPermutation-sym,
 use Rattle.std.proofs.lemmas.List.Sums.{fold-append}
 use Rattle.std.proofs.lemmas.Option.{slice_get-get_or}
 use Rattle.edf_pick.specs.declared.candidate.Candidate.{Candidate}
-use Rattle.edf_pick.specs.Changes.{home_on, homed}
+use Rattle.edf_pick.specs.Changes.{home_on, with_home}
 use Rattle.edf_pick.specs.Choice.{is_before}
-use Rattle.edf_pick.specs.Order.{IsRising, ordered}
+use Rattle.edf_pick.specs.Order.{IsRising, by_deadline}
 use Rattle.edf_pick.specs.Places.{Places, AreSingle, is_task, stands, is_free, seat_of, put, seated, placed}
 use Rattle.edf_pick.specs.private.First.{staying, seated_all}
-use Rattle.edf_pick.specs.private.Waiting.{held, number_of, staying_on, bare, AreOn, IsWaiting, AreSeated}
+use Rattle.edf_pick.specs.private.Waiting.{all_held, candidate_number, staying_on, without_home, AreOn, IsWaiting, AreSeated}
 use Rattle.edf_pick.proofs.CallerLemmas.{IsNumbered, numbered_first, numbered_rest, numbered_map, permuted, length_ordered, rising_ordered}
 use Rattle.edf_pick.proofs.Held.{held_more, All_held, held_contains, held_where}
 use Rattle.edf_pick.proofs.Marked.{any_at, kept_all, seat_free, single_all, stands_here, stands_seated, stays_seated}
@@ -28,7 +28,7 @@ use Rattle.edf_pick.proofs.Standing.{busy, free_inside, some_seat, stands_where}
 
 -- ---- WHO STAYS, AS AN OCCUPANT
 
-pub number_at : (stays : List (Option Candidate)) (cpu : ℕ) → get_or (staying_on stays) cpu None ≡ number_of (get_or stays cpu None)
+pub number_at : (stays : List (Option Candidate)) (cpu : ℕ) → get_or (staying_on stays) cpu None ≡ candidate_number (get_or stays cpu None)
 number_at [] cpu = refl
 number_at (o ∷ stays) zero = refl
 number_at (o ∷ stays) (suc cpu) = number_at stays cpu
@@ -39,7 +39,7 @@ stays_length stays = simp length-map
 pub stays_where : (stays : List (Option Candidate)) (cpu n : ℕ) → get_or (staying_on stays) cpu None ≡ Some n → (c : Candidate) × (get_or stays cpu None ≡ Some c) × (c.number ≡ n)
 stays_where stays cpu n on = by_task (get_or stays cpu None) refl (sym (number_at stays cpu) ∙ on)
   where
-    by_task : (o : Option Candidate) → get_or stays cpu None ≡ o → number_of o ≡ Some n → (c : Candidate) × (get_or stays cpu None ≡ Some c) × (c.number ≡ n)
+    by_task : (o : Option Candidate) → get_or stays cpu None ≡ o → candidate_number o ≡ Some n → (c : Candidate) × (get_or stays cpu None ≡ Some c) × (c.number ≡ n)
     by_task None at e = absurd cc
     by_task (Some c) at e = let same : c.number ≡ n = cc in (c, at, same)
 
@@ -61,9 +61,9 @@ stays_absent stays before n on absent =
       | inr e ↦ e
     ]
 
-pub stays_stand : (stays : List (Option Candidate)) → All (λ c. stands c.number (staying_on stays) ≡ true) (held stays)
+pub stays_stand : (stays : List (Option Candidate)) → All (λ c. stands c.number (staying_on stays) ≡ true) (all_held stays)
 stays_stand stays =
-    All_held (λ c. stands c.number (staying_on stays) ≡ true) stays (λ cpu c at. stands_here c.number (staying_on stays) cpu (number_at stays cpu ∙ ap number_of at))
+    All_held (λ c. stands c.number (staying_on stays) ≡ true) stays (λ cpu c at. stands_here c.number (staying_on stays) cpu (number_at stays cpu ∙ ap candidate_number at))
 
 -- ---- SOME OF A LIST
 
@@ -102,32 +102,32 @@ not_false false e = absurd cc
 -- ---- THE PLACEMENT
 
 -- (Where those stand who wait is of no matter, and cpus need not be the number of places.)
-module _ (cpus : ℕ) (stays : List (Option Candidate)) (movers waiting : List Candidate) (before : Places) (len : length stays ≡ length before) (numbered : IsNumbered (held stays ++ (movers ++ waiting)))
+module _ (cpus : ℕ) (stays : List (Option Candidate)) (movers waiting : List Candidate) (before : Places) (len : length stays ≡ length before) (numbered : IsNumbered (all_held stays ++ (movers ++ waiting)))
     (rising : IsRising movers) (rest : IsRising waiting) (on : AreOn stays before) (away : All (λ c. stands c.number before ≡ false) movers) (single : AreSingle before) where
   abbrev first : List Candidate
-  first = held stays ++ movers
+  first = all_held stays ++ movers
 
   first_numbered : IsNumbered (first ++ waiting)
-  first_numbered = subst (λ (xs : List Candidate). IsNumbered xs) (sym (append_assoc (held stays) movers waiting)) numbered
+  first_numbered = subst (λ (xs : List Candidate). IsNumbered xs) (sym (append_assoc (all_held stays) movers waiting)) numbered
 
   abbrev needs : Candidate → Bool
   needs c = not (stands c.number (staying_on stays))
 
-  movers_only : filter needs (ordered first) ≡ movers
+  movers_only : filter needs (by_deadline first) ≡ movers
   movers_only =
-      let none : filter needs (held stays) ≡ [] = filter_none needs (held stays)
-      (All-weaker (λ c. stands c.number (staying_on stays) ≡ true) (λ c. needs c ≡ false) (λ c e. ap (λ (b : Bool). not b) e) (held stays) (stays_stand stays)) in
+      let none : filter needs (all_held stays) ≡ [] = filter_none needs (all_held stays)
+      (All-weaker (λ c. stands c.number (staying_on stays) ≡ true) (λ c. needs c ≡ false) (λ c e. ap (λ (b : Bool). not b) e) (all_held stays) (stays_stand stays)) in
       let all : filter needs movers ≡ movers = filter_all needs movers
       (All-weaker (λ c. stands c.number before ≡ false) (λ c. needs c ≡ true) (λ c e. ap (λ (b : Bool). not b) (stays_absent stays before c.number on e)) movers away) in
       ordered_filter needs first (numbered_left first waiting first_numbered)
-      ∙ ap (λ (xs : List Candidate). ordered xs) (filter-append needs (held stays) movers ∙ ap (λ (xs : List Candidate). xs ++ filter needs movers) none ∙ all)
+      ∙ ap (λ (xs : List Candidate). by_deadline xs) (filter-append needs (all_held stays) movers ∙ ap (λ (xs : List Candidate). xs ++ filter needs movers) none ∙ all)
       ∙ ordered_rising movers rising
 
   -- who stands where nobody stays is not chosen
   nobody_else : (cpu n : ℕ) → get_or stays cpu None ≡ None → get_or before cpu None ≡ Some n → list_any (λ c. eqb c.number n) first ≡ false
   nobody_else cpu n none stood =
       list_any_none (λ c. eqb c.number n) first
-      (All-append (λ c. eqb c.number n ≡ false) (held stays) movers
+      (All-append (λ c. eqb c.number n ≡ false) (all_held stays) movers
       (All_held (λ c. eqb c.number n ≡ false) stays (λ a c at. ne_eqb c.number n (λ same.
       let here : a ≡ cpu = single a cpu n ((on a c at).1 ∙ ap (λ (k : ℕ). Some k) same) stood in
       let clash : None ≡ Some c = sym none ∙ ap (λ (k : ℕ). get_or stays k None) (sym here) ∙ at in cc)))
@@ -135,34 +135,34 @@ module _ (cpus : ℕ) (stays : List (Option Candidate)) (movers waiting : List C
       let clash : true ≡ false = sym (stands_here n before cpu stood) ∙ ap (λ (k : ℕ). stands k before) (sym same) ∙ absent in cc)) movers away))
 
   -- an occupant is kept exactly where a task stays
-  kept_here : (cpu : ℕ) → get_or (staying_on stays) cpu None ≡ staying (ordered first) (get_or before cpu None)
+  kept_here : (cpu : ℕ) → get_or (staying_on stays) cpu None ≡ staying (by_deadline first) (get_or before cpu None)
   kept_here cpu = number_at stays cpu ∙ by_task (get_or stays cpu None) refl
     where
-      by_occupant : get_or stays cpu None ≡ None → (o : Option ℕ) → get_or before cpu None ≡ o → None ≡ staying (ordered first) o
+      by_occupant : get_or stays cpu None ≡ None → (o : Option ℕ) → get_or before cpu None ≡ o → None ≡ staying (by_deadline first) o
       by_occupant none None stood = refl
       by_occupant none (Some n) stood =
-          sym (ap (λ (b : Bool). cond b (Some n) None) (sym (list_any-IsPermutation (λ c. eqb c.number n) first (ordered first) (permuted first)) ∙ nobody_else cpu n none stood))
+          sym (ap (λ (b : Bool). cond b (Some n) None) (sym (list_any-IsPermutation (λ c. eqb c.number n) first (by_deadline first) (permuted first)) ∙ nobody_else cpu n none stood))
 
-      by_task : (o : Option Candidate) → get_or stays cpu None ≡ o → number_of o ≡ staying (ordered first) (get_or before cpu None)
+      by_task : (o : Option Candidate) → get_or stays cpu None ≡ o → candidate_number o ≡ staying (by_deadline first) (get_or before cpu None)
       by_task None at = by_occupant at (get_or before cpu None) refl
       by_task (Some c) at =
-          let there : list_any (λ b. eqb b.number c.number) (ordered first) ≡ true =
-          sym (list_any-IsPermutation (λ b. eqb b.number c.number) first (ordered first) (permuted first))
-          ∙ any_there (λ b. eqb b.number c.number) first c (Contains-append_left (held stays) movers c (held_contains stays cpu c at)) (eq-eqb c.number c.number refl) in
-          sym (ap (λ (o : Option ℕ). staying (ordered first) o) (on cpu c at).1 ∙ ap (λ (b : Bool). cond b (Some c.number) None) there)
+          let there : list_any (λ b. eqb b.number c.number) (by_deadline first) ≡ true =
+          sym (list_any-IsPermutation (λ b. eqb b.number c.number) first (by_deadline first) (permuted first))
+          ∙ any_there (λ b. eqb b.number c.number) first c (Contains-append_left (all_held stays) movers c (held_contains stays cpu c at)) (eq-eqb c.number c.number refl) in
+          sym (ap (λ (o : Option ℕ). staying (by_deadline first) o) (on cpu c at).1 ∙ ap (λ (b : Bool). cond b (Some c.number) None) there)
 
-  pub placed_by_movers : length (held stays) + length movers ≤ cpus → (waiting ≡ []) ⊎ (length (held stays) + length movers ≡ cpus)
-      → All (λ a. All (λ b. is_before a b ≡ true) waiting) (held stays ++ movers)
-      → placed cpus (ordered (held stays ++ (movers ++ waiting))) before ≡ seated_all movers (staying_on stays)
+  pub placed_by_movers : length (all_held stays) + length movers ≤ cpus → (waiting ≡ []) ⊎ (length (all_held stays) + length movers ≡ cpus)
+      → All (λ a. All (λ b. is_before a b ≡ true) waiting) (all_held stays ++ movers)
+      → placed cpus (by_deadline (all_held stays ++ (movers ++ waiting))) before ≡ seated_all movers (staying_on stays)
   placed_by_movers few all apart =
-      let queue = ordered (held stays ++ (movers ++ waiting)) in
-      let chosen = ordered first in
-      let many : length chosen ≡ length (held stays) + length movers = length_ordered first ∙ length-append (held stays) movers in
-      let parts : queue ≡ chosen ++ waiting = ap (λ (xs : List Candidate). ordered xs) (sym (append_assoc (held stays) movers waiting)) ∙ ordered_parted first waiting first_numbered rest apart in
+      let queue = by_deadline (all_held stays ++ (movers ++ waiting)) in
+      let chosen = by_deadline first in
+      let many : length chosen ≡ length (all_held stays) + length movers = length_ordered first ∙ length-append (all_held stays) movers in
+      let parts : queue ≡ chosen ++ waiting = ap (λ (xs : List Candidate). by_deadline xs) (sym (append_assoc (all_held stays) movers waiting)) ∙ ordered_parted first waiting first_numbered rest apart in
       let front : take cpus queue ≡ chosen = ap (λ (xs : List Candidate). take cpus xs) parts
       ∙ take_front cpus chosen waiting (omega (arith, many, few)) (elim all [ inl none ↦ inl none | inr full ↦ inr (many ∙ full) ]) in
       let same : length (staying_on stays) ≡ length before = stays_length stays ∙ len in
-      sym (picked cpus queue before (rising_ordered (held stays ++ (movers ++ waiting)) numbered))
+      sym (picked cpus queue before (rising_ordered (all_held stays ++ (movers ++ waiting)) numbered))
       ∙ ap (λ (xs : List Candidate). seated_all xs (map (staying xs) before)) front
       ∙ ap (λ (ps : Places). seated_all chosen ps) (sym (kept_all chosen before (staying_on stays) same kept_here))
       ∙ seated_others needs chosen (staying_on stays) (λ k d h e. not_false (stands (get_or chosen k d).number (staying_on stays)) e)
@@ -170,7 +170,7 @@ module _ (cpus : ℕ) (stays : List (Option Candidate)) (movers waiting : List C
 
 -- ---- WHERE THE MOVERS ARE AT HOME
 
-keeps_place : (places : Places) → KeepsPlace (homed places)
+keeps_place : (places : Places) → KeepsPlace (with_home places)
 keeps_place places c =
     elim (position (is_task c.number) places) as (λ o. ((home_on c o).deadline ≡ c.deadline) × ((home_on c o).number ≡ c.number)) [ None ↦ (refl, refl) | Some cpu ↦ (refl, refl) ]
 
@@ -222,16 +222,16 @@ numbers_apart (x ∷ xs) ys a b numbered ha hb =
 
 -- WHO STANDS afterwards are exactly those of a list
 module _ (after : Places) (after_stays : List (Option Candidate)) (xs waiting : List Candidate) (numbered : IsNumbered (xs ++ waiting)) (single : AreSingle after) (is : staying_on after_stays ≡ after)
-    (on : AreOn after_stays after) (same : IsPermutation (map bare (held after_stays)) (map bare xs)) where
+    (on : AreOn after_stays after) (same : IsPermutation (map without_home (all_held after_stays)) (map without_home xs)) where
   -- one of the list for each that stays
-  from_held : (c : Candidate) → Contains (held after_stays) c → (x : Candidate) × Contains xs x × (bare x ≡ bare c)
-  from_held c at = contains_from_map bare xs (bare c) (Contains-permutation (map bare (held after_stays)) (map bare xs) (bare c) same (contains_map bare (held after_stays) c at))
+  from_held : (c : Candidate) → Contains (all_held after_stays) c → (x : Candidate) × Contains xs x × (without_home x ≡ without_home c)
+  from_held c at = contains_from_map without_home xs (without_home c) (Contains-permutation (map without_home (all_held after_stays)) (map without_home xs) (without_home c) same (contains_map without_home (all_held after_stays) c at))
 
   -- one that stays for each of the list
-  to_held : (x : Candidate) → Contains xs x → (c : Candidate) × Contains (held after_stays) c × (bare c ≡ bare x)
+  to_held : (x : Candidate) → Contains xs x → (c : Candidate) × Contains (all_held after_stays) c × (without_home c ≡ without_home x)
   to_held x at =
-      contains_from_map bare (held after_stays) (bare x)
-      (Contains-permutation (map bare xs) (map bare (held after_stays)) (bare x) (IsPermutation-sym (map bare (held after_stays)) (map bare xs) same) (contains_map bare xs x at))
+      contains_from_map without_home (all_held after_stays) (without_home x)
+      (Contains-permutation (map without_home xs) (map without_home (all_held after_stays)) (without_home x) (IsPermutation-sym (map without_home (all_held after_stays)) (map without_home xs) same) (contains_map without_home xs x at))
 
   -- who waits stands nowhere
   pub waits_away : (c : Candidate) → Contains waiting c → stands c.number after ≡ false
@@ -245,69 +245,69 @@ module _ (after : Places) (after_stays : List (Option Candidate)) (xs waiting : 
         | inr absent ↦ absent
       ]
 
-  waits_homed : map (homed after) waiting ≡ waiting
-  waits_homed = map_itself (homed after) waiting (λ k d h.
+  waits_homed : map (with_home after) waiting ≡ waiting
+  waits_homed = map_itself (with_home after) waiting (λ k d h.
       let c = get_or waiting k d in ap (home_on c) (no_position after c.number (waits_away c (Contains-get_or waiting k d h))))
 
   -- a task's home before is forgotten
-  homed_bare : (c : Candidate) → Contains xs c → homed after c ≡ homed after (bare c)
+  homed_bare : (c : Candidate) → Contains xs c → with_home after c ≡ with_home after (without_home c)
   homed_bare c at =
       let s = to_held c at in
       let w = held_where after_stays s.0 s.1 in
       let stood : get_or after w.0 None ≡ Some c.number = (on w.0 s.0 w.1).1 ∙ ap (λ (d : Candidate). Some d.number) s.2 in
       let here : position (is_task c.number) after ≡ Some w.0 = on_position after w.0 c.number single stood in
-      ap (home_on c) here ∙ sym (ap (home_on (bare c)) here)
+      ap (home_on c) here ∙ sym (ap (home_on (without_home c)) here)
 
-  held_homed : All (λ c. homed after (bare c) ≡ c) (held after_stays)
-  held_homed = All_held (λ c. homed after (bare c) ≡ c) after_stays (λ cpu c at.
+  held_homed : All (λ c. with_home after (without_home c) ≡ c) (all_held after_stays)
+  held_homed = All_held (λ c. with_home after (without_home c) ≡ c) after_stays (λ cpu c at.
       let stood = on cpu c at in
-      ap (home_on (bare c)) (on_position after cpu c.number single stood.1) ∙ ap (λ (k : ℕ). record c { home = k }) (sym stood.0))
+      ap (home_on (without_home c)) (on_position after cpu c.number single stood.1) ∙ ap (λ (k : ℕ). record c { home = k }) (sym stood.0))
 
-  held_same : IsPermutation (map (homed after) xs) (held after_stays)
+  held_same : IsPermutation (map (with_home after) xs) (all_held after_stays)
   held_same =
-      let there : map (homed after) (map bare (held after_stays)) ≡ held after_stays = map_back (homed after) bare (held after_stays) held_homed in
-      let through : map (homed after) xs ≡ map (homed after) (map bare xs) = map_through (homed after) bare xs (λ k d h. homed_bare (get_or xs k d) (Contains-get_or xs k d h)) in
-      IsPermutation-sym (held after_stays) (map (homed after) xs)
-      (subst (λ ys. IsPermutation ys (map (homed after) xs)) there
-      (subst (λ ys. IsPermutation (map (homed after) (map bare (held after_stays))) ys) (sym through)
-      (IsPermutation-map (homed after) (map bare (held after_stays)) (map bare xs) same)))
+      let there : map (with_home after) (map without_home (all_held after_stays)) ≡ all_held after_stays = map_back (with_home after) without_home (all_held after_stays) held_homed in
+      let through : map (with_home after) xs ≡ map (with_home after) (map without_home xs) = map_through (with_home after) without_home xs (λ k d h. homed_bare (get_or xs k d) (Contains-get_or xs k d h)) in
+      IsPermutation-sym (all_held after_stays) (map (with_home after) xs)
+      (subst (λ ys. IsPermutation ys (map (with_home after) xs)) there
+      (subst (λ ys. IsPermutation (map (with_home after) (map without_home (all_held after_stays))) ys) (sym through)
+      (IsPermutation-map (with_home after) (map without_home (all_held after_stays)) (map without_home xs) same)))
 
-  homed_parts : map (homed after) (xs ++ waiting) ≡ map (homed after) xs ++ waiting
-  homed_parts = map-append (homed after) xs waiting ∙ ap (λ (ys : List Candidate). map (homed after) xs ++ ys) waits_homed
+  homed_parts : map (with_home after) (xs ++ waiting) ≡ map (with_home after) xs ++ waiting
+  homed_parts = map-append (with_home after) xs waiting ∙ ap (λ (ys : List Candidate). map (with_home after) xs ++ ys) waits_homed
 
-  homed_numbered : IsNumbered (map (homed after) xs ++ waiting)
-  homed_numbered = subst (λ ys. IsNumbered ys) homed_parts (numbered_map (homed after) (λ c. c.number) (λ c. (keeps_place after c).1) (xs ++ waiting) numbered)
+  homed_numbered : IsNumbered (map (with_home after) xs ++ waiting)
+  homed_numbered = subst (λ ys. IsNumbered ys) homed_parts (numbered_map (with_home after) (λ c. c.number) (λ c. (keeps_place after c).1) (xs ++ waiting) numbered)
 
-  pub held_numbered : IsNumbered (held after_stays ++ waiting)
+  pub held_numbered : IsNumbered (all_held after_stays ++ waiting)
   held_numbered =
-      numbered_same (map (homed after) xs ++ waiting) (held after_stays ++ waiting) (IsPermutation-append_left waiting (map (homed after) xs) (held after_stays) held_same) homed_numbered
+      numbered_same (map (with_home after) xs ++ waiting) (all_held after_stays ++ waiting) (IsPermutation-append_left waiting (map (with_home after) xs) (all_held after_stays) held_same) homed_numbered
 
-  pub homed_held : map (homed after) (ordered (xs ++ waiting)) ≡ ordered (held after_stays ++ waiting)
+  pub homed_held : map (with_home after) (by_deadline (xs ++ waiting)) ≡ by_deadline (all_held after_stays ++ waiting)
   homed_held =
-      ordered_map (homed after) (keeps_place after) (xs ++ waiting) ∙ ap (λ (ys : List Candidate). ordered ys) homed_parts
-      ∙ ordered_same (map (homed after) xs ++ waiting) (held after_stays ++ waiting) homed_numbered (IsPermutation-append_left waiting (map (homed after) xs) (held after_stays) held_same)
+      ordered_map (with_home after) (keeps_place after) (xs ++ waiting) ∙ ap (λ (ys : List Candidate). by_deadline ys) homed_parts
+      ∙ ordered_same (map (with_home after) xs ++ waiting) (all_held after_stays ++ waiting) homed_numbered (IsPermutation-append_left waiting (map (with_home after) xs) (all_held after_stays) held_same)
 
 -- (The other conditions of the placement are not needed.)
-pub homed_by_movers : (stays : List (Option Candidate)) (movers waiting : List Candidate) (before : Places) (after_stays : List (Option Candidate)) → IsNumbered (held stays ++ (movers ++ waiting)) → AreOn stays before → AreSingle before
-    → staying_on after_stays ≡ seated_all movers (staying_on stays) → AreOn after_stays (seated_all movers (staying_on stays)) → IsPermutation (map bare (held after_stays)) (map bare (held stays ++ movers))
-    → map (homed (seated_all movers (staying_on stays))) (ordered (held stays ++ (movers ++ waiting))) ≡ ordered (held after_stays ++ waiting)
+pub homed_by_movers : (stays : List (Option Candidate)) (movers waiting : List Candidate) (before : Places) (after_stays : List (Option Candidate)) → IsNumbered (all_held stays ++ (movers ++ waiting)) → AreOn stays before → AreSingle before
+    → staying_on after_stays ≡ seated_all movers (staying_on stays) → AreOn after_stays (seated_all movers (staying_on stays)) → IsPermutation (map without_home (all_held after_stays)) (map without_home (all_held stays ++ movers))
+    → map (with_home (seated_all movers (staying_on stays))) (by_deadline (all_held stays ++ (movers ++ waiting))) ≡ by_deadline (all_held after_stays ++ waiting)
 homed_by_movers stays movers waiting before after_stays numbered on single is after_on same =
     let after = seated_all movers (staying_on stays) in
-    let parts = append_assoc (held stays) movers waiting in
-    ap (λ (xs : List Candidate). map (homed after) (ordered xs)) (sym parts)
-    ∙ homed_held after after_stays (held stays ++ movers) waiting (subst (λ (xs : List Candidate). IsNumbered xs) (sym parts) numbered)
+    let parts = append_assoc (all_held stays) movers waiting in
+    ap (λ (xs : List Candidate). map (with_home after) (by_deadline xs)) (sym parts)
+    ∙ homed_held after after_stays (all_held stays ++ movers) waiting (subst (λ (xs : List Candidate). IsNumbered xs) (sym parts) numbered)
     (single_all movers (staying_on stays) (stays_single stays before on single)) is after_on same
 
 -- ---- ONE MOVER AFTER ANOTHER
 
-pub staying_put : (stays : List (Option Candidate)) (cpu : ℕ) (o : Option Candidate) → staying_on (set stays cpu o) ≡ set (staying_on stays) cpu (number_of o)
-staying_put stays cpu o = map-set number_of stays cpu o
+pub staying_put : (stays : List (Option Candidate)) (cpu : ℕ) (o : Option Candidate) → staying_on (set stays cpu o) ≡ set (staying_on stays) cpu (candidate_number o)
+staying_put stays cpu o = map-set candidate_number stays cpu o
 
 -- nobody stays where no occupant does
 pub stays_none : (stays : List (Option Candidate)) (cpu : ℕ) → get_or (staying_on stays) cpu None ≡ None → get_or stays cpu None ≡ None
 stays_none stays cpu none = by_task (get_or stays cpu None) (sym (number_at stays cpu) ∙ none)
   where
-    by_task : (o : Option Candidate) → number_of o ≡ None → o ≡ None
+    by_task : (o : Option Candidate) → candidate_number o ≡ None → o ≡ None
     by_task None e = refl
     by_task (Some c) e = absurd cc
 
@@ -341,26 +341,26 @@ on_less stays places cpu on a d at = on a d (by_place (cases_eq a cpu))
     by_place (inl here) = absurd (let clash : None ≡ Some d = sym (gone stays cpu) ∙ ap (λ (k : ℕ). get_or (set stays cpu None) k None) (sym here) ∙ at in cc)
     by_place (inr apart) = sym (get_or-set_other stays cpu a None None apart) ∙ at
 
-pub bare_put : (stays : List (Option Candidate)) (cpu : ℕ) (c : Candidate) (xs : List Candidate) → cpu < length stays → get_or stays cpu None ≡ None → IsPermutation (map bare (held stays)) (map bare xs)
-    → IsPermutation (map bare (held (set stays cpu (Some (record c { home = cpu }))))) (map bare (xs ++ c ∷ []))
+pub bare_put : (stays : List (Option Candidate)) (cpu : ℕ) (c : Candidate) (xs : List Candidate) → cpu < length stays → get_or stays cpu None ≡ None → IsPermutation (map without_home (all_held stays)) (map without_home xs)
+    → IsPermutation (map without_home (all_held (set stays cpu (Some (record c { home = cpu }))))) (map without_home (xs ++ c ∷ []))
 bare_put stays cpu c xs h none same =
     let one : Candidate = record c { home = cpu } in
-    let more = map bare (held (set stays cpu (Some one))) in
-    let one_more : IsPermutation more (bare c ∷ map bare (held stays)) = IsPermutation-map bare (held (set stays cpu (Some one))) (one ∷ held stays) (held_more stays cpu one h none) in
-    let then : IsPermutation (bare c ∷ map bare (held stays)) (bare c ∷ map bare xs) = IsPermutation-cons (bare c) (map bare (held stays)) (map bare xs) same in
-    let last : IsPermutation (bare c ∷ map bare xs) (map bare xs ++ bare c ∷ []) =
-    IsPermutation-sym (map bare xs ++ bare c ∷ []) (bare c ∷ map bare xs) (IsPermutation-to_front (map bare xs) (bare c)) in
-    subst (λ ys. IsPermutation more ys) (sym (map-append bare xs (c ∷ [])))
-    (IsPermutation-trans more (bare c ∷ map bare (held stays)) (map bare xs ++ bare c ∷ []) one_more
-    (IsPermutation-trans (bare c ∷ map bare (held stays)) (bare c ∷ map bare xs) (map bare xs ++ bare c ∷ []) then last))
+    let more = map without_home (all_held (set stays cpu (Some one))) in
+    let one_more : IsPermutation more (without_home c ∷ map without_home (all_held stays)) = IsPermutation-map without_home (all_held (set stays cpu (Some one))) (one ∷ all_held stays) (held_more stays cpu one h none) in
+    let then : IsPermutation (without_home c ∷ map without_home (all_held stays)) (without_home c ∷ map without_home xs) = IsPermutation-cons (without_home c) (map without_home (all_held stays)) (map without_home xs) same in
+    let last : IsPermutation (without_home c ∷ map without_home xs) (map without_home xs ++ without_home c ∷ []) =
+    IsPermutation-sym (map without_home xs ++ without_home c ∷ []) (without_home c ∷ map without_home xs) (IsPermutation-to_front (map without_home xs) (without_home c)) in
+    subst (λ ys. IsPermutation more ys) (sym (map-append without_home xs (c ∷ [])))
+    (IsPermutation-trans more (without_home c ∷ map without_home (all_held stays)) (map without_home xs ++ without_home c ∷ []) one_more
+    (IsPermutation-trans (without_home c ∷ map without_home (all_held stays)) (without_home c ∷ map without_home xs) (map without_home xs ++ without_home c ∷ []) then last))
 
 -- as many stand as stay
-stays_busy : (stays : List (Option Candidate)) → busy (staying_on stays) ≡ length (held stays)
+stays_busy : (stays : List (Option Candidate)) → busy (staying_on stays) ≡ length (all_held stays)
 stays_busy [] = refl
 stays_busy (None ∷ stays) = let rest = stays_busy stays in omega (arith, rest)
 stays_busy (Some c ∷ stays) = let rest = stays_busy stays in omega (arith, rest)
 
-pub seat_found : (stays : List (Option Candidate)) (places : Places) (c : Candidate) → staying_on stays ≡ places → length (held stays) < length stays → (cpu : ℕ) × (seat_of places c ≡ Some cpu)
+pub seat_found : (stays : List (Option Candidate)) (places : Places) (c : Candidate) → staying_on stays ≡ places → length (all_held stays) < length stays → (cpu : ℕ) × (seat_of places c ≡ Some cpu)
 seat_found stays places c is few =
     let many = stays_busy stays in
     let all = stays_length stays in
@@ -383,8 +383,8 @@ none_seated stays before on = record {
   len = refl;
   seated = refl;
   staying = refl;
-  on = λ cpu c at. ((on cpu c at).0, number_at stays cpu ∙ ap number_of at);
-  same = subst (λ xs. IsPermutation (map bare (held stays)) (map bare xs)) (sym (append-nil (held stays))) (IsPermutation-refl (map bare (held stays)));
+  on = λ cpu c at. ((on cpu c at).0, number_at stays cpu ∙ ap candidate_number at);
+  same = subst (λ xs. IsPermutation (map without_home (all_held stays)) (map without_home xs)) (sym (append-nil (all_held stays))) (IsPermutation-refl (map without_home (all_held stays)));
 }
 
 pub one_seated : (stays : List (Option Candidate)) (movers : List Candidate) (now : List (Option Candidate)) (places : Places) (c : Candidate) (cpu : ℕ) → AreSeated stays movers now places → stands c.number places ≡ false → seat_of places c ≡ Some cpu
@@ -401,17 +401,17 @@ one_seated stays movers now places c cpu is absent seat =
       seated = sym put_there ∙ ap (λ (ps : Places). seated ps c) is.seated ∙ sym (fold-append seated (staying_on stays) movers (c ∷ []));
       staying = staying_put now cpu (Some one) ∙ ap (λ (ps : Places). set ps cpu (Some c.number)) is.staying;
       on = on_put now places cpu c inside bare_there.0 is.on;
-      same = subst (λ xs. IsPermutation (map bare (held (set now cpu (Some one)))) (map bare xs)) (append_assoc (held stays) movers (c ∷ [])) (bare_put now cpu c (held stays ++ movers) inside none is.same);
+      same = subst (λ xs. IsPermutation (map without_home (all_held (set now cpu (Some one)))) (map without_home xs)) (append_assoc (all_held stays) movers (c ∷ [])) (bare_put now cpu c (all_held stays ++ movers) inside none is.same);
     }
 
 -- as long as there are fewer than CPUs
-pub next_seat : (stays : List (Option Candidate)) (movers : List Candidate) (now : List (Option Candidate)) (places : Places) (c : Candidate) → AreSeated stays movers now places → length (held stays) + length movers < length stays
+pub next_seat : (stays : List (Option Candidate)) (movers : List Candidate) (now : List (Option Candidate)) (places : Places) (c : Candidate) → AreSeated stays movers now places → length (all_held stays) + length movers < length stays
     → (cpu : ℕ) × (seat_of places c ≡ Some cpu)
 next_seat stays movers now places c is few =
-    let bare_many : length (map bare (held stays ++ movers)) ≡ length (map bare (held now)) = length_permutation (map bare (held now)) (map bare (held stays ++ movers)) is.same in
-    let one : length (map bare (held now)) ≡ length (held now) = simp length-map in
-    let other : length (map bare (held stays ++ movers)) ≡ length (held stays ++ movers) = simp length-map in
-    let sum = length-append (held stays) movers in
+    let bare_many : length (map without_home (all_held stays ++ movers)) ≡ length (map without_home (all_held now)) = length_permutation (map without_home (all_held now)) (map without_home (all_held stays ++ movers)) is.same in
+    let one : length (map without_home (all_held now)) ≡ length (all_held now) = simp length-map in
+    let other : length (map without_home (all_held stays ++ movers)) ≡ length (all_held stays ++ movers) = simp length-map in
+    let sum = length-append (all_held stays) movers in
     let len = is.len in
     seat_found now places c is.staying (omega (arith, bare_many, one, other, sum, few, len))
 
@@ -440,17 +440,17 @@ more_seated stays movers i d now places cpu h is absent seat =
     (one_seated stays (take i movers) now places c cpu is absent seat)
 
 -- once all are seated
-pub seated_homed : (stays : List (Option Candidate)) (movers waiting : List Candidate) (before : Places) (now : List (Option Candidate)) (places : Places) → IsNumbered (held stays ++ (movers ++ waiting)) → AreOn stays before
-    → AreSingle before → AreSeated stays movers now places → map (homed places) (ordered (held stays ++ (movers ++ waiting))) ≡ ordered (held now ++ waiting)
+pub seated_homed : (stays : List (Option Candidate)) (movers waiting : List Candidate) (before : Places) (now : List (Option Candidate)) (places : Places) → IsNumbered (all_held stays ++ (movers ++ waiting)) → AreOn stays before
+    → AreSingle before → AreSeated stays movers now places → map (with_home places) (by_deadline (all_held stays ++ (movers ++ waiting))) ≡ by_deadline (all_held now ++ waiting)
 seated_homed stays movers waiting before now places numbered on single is =
-    ap (λ (ps : Places). map (homed ps) (ordered (held stays ++ (movers ++ waiting)))) is.seated
+    ap (λ (ps : Places). map (with_home ps) (by_deadline (all_held stays ++ (movers ++ waiting)))) is.seated
     ∙ homed_by_movers stays movers waiting before now numbered on single (is.staying ∙ is.seated) (subst (λ (ps : Places). AreOn now ps) is.seated is.on) is.same
 
-pub seated_waiting : (stays : List (Option Candidate)) (movers waiting : List Candidate) (before : Places) (now : List (Option Candidate)) (places : Places) → IsNumbered (held stays ++ (movers ++ waiting)) → AreOn stays before
+pub seated_waiting : (stays : List (Option Candidate)) (movers waiting : List Candidate) (before : Places) (now : List (Option Candidate)) (places : Places) → IsNumbered (all_held stays ++ (movers ++ waiting)) → AreOn stays before
     → AreSingle before → AreSeated stays movers now places → IsWaiting now waiting places
 seated_waiting stays movers waiting before now places numbered on single is =
-    let first = held stays ++ movers in
-    let all = subst (λ (xs : List Candidate). IsNumbered xs) (sym (append_assoc (held stays) movers waiting)) numbered in
+    let first = all_held stays ++ movers in
+    let all = subst (λ (xs : List Candidate). IsNumbered xs) (sym (append_assoc (all_held stays) movers waiting)) numbered in
     let alone : AreSingle places = subst (λ (ps : Places). AreSingle ps) (sym is.seated) (single_all movers (staying_on stays) (stays_single stays before on single)) in
     record {
       len = sym (stays_length now) ∙ ap (λ (ps : Places). length ps) is.staying;

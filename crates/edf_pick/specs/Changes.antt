@@ -12,5 +12,5 @@ home_on c None = c
 home_on c (Some cpu) = record c { home = cpu }
 
 -- a task that stands belongs to the CPU on which it stands
-abbrev pub homed : Places → Candidate → Candidate
-homed places c = home_on c (position (is_task c.number) places)
+abbrev pub with_home : Places → Candidate → Candidate
+with_home places c = home_on c (position (is_task c.number) places)

@@ -17,5 +17,5 @@ abbrev pub is_chosen : ℕ → List Candidate → Candidate → Bool
 is_chosen cpus ready c = nat_lt (rank ready c) cpus
 
 -- the ready task before which so many are
-abbrev pub ranked : List Candidate → ℕ → Option Candidate
-ranked ready r = find (λ c. rank ready c == r) ready
+abbrev pub candidate_at_rank : List Candidate → ℕ → Option Candidate
+candidate_at_rank ready r = find (λ c. rank ready c == r) ready

@@ -1,9 +1,9 @@
 -- Worked rows of the choice and the placement.
 use Rattle.std.specs.Prelude.{ℕ, ◌≡◌, [], ◌∷◌, map, Some, None, refl}
 use Rattle.edf_pick.specs.declared.candidate.Candidate.{Candidate}
-use Rattle.edf_pick.specs.Changes.{homed}
+use Rattle.edf_pick.specs.Changes.{with_home}
 use Rattle.edf_pick.specs.Moves.{moved_from}
-use Rattle.edf_pick.specs.Order.{without_candidate, ordered}
+use Rattle.edf_pick.specs.Order.{without_candidate, by_deadline}
 use Rattle.edf_pick.specs.Places.{placed}
 
 abbrev ready : ℕ → ℕ → ℕ → Candidate
@@ -34,7 +34,7 @@ nobody : placed 2 [] (Some 1 ∷ Some 2 ∷ []) ≡ None ∷ None ∷ []
 nobody = refl
 
 -- the earliest deadline first, ties by number
-in_order : ordered (ready 8 2 0 ∷ ready 5 7 1 ∷ ready 8 1 0 ∷ [])
+in_order : by_deadline (ready 8 2 0 ∷ ready 5 7 1 ∷ ready 8 1 0 ∷ [])
     ≡ ready 5 7 1 ∷ ready 8 1 0 ∷ ready 8 2 0 ∷ []
 in_order = refl
 
@@ -50,6 +50,6 @@ two_moved : moved_from 0 (Some 1 ∷ Some 4 ∷ None ∷ []) (Some 1 ∷ None �
 two_moved = refl
 
 -- who stands belongs to that CPU, and who stands nowhere to the one that it had
-each_home : map (homed (None ∷ Some 2 ∷ [])) (ready 5 2 0 ∷ ready 8 1 0 ∷ [])
+each_home : map (with_home (None ∷ Some 2 ∷ [])) (ready 5 2 0 ∷ ready 8 1 0 ∷ [])
     ≡ ready 5 2 1 ∷ ready 8 1 0 ∷ []
 each_home = refl

@@ -25,6 +25,6 @@ abbrev pub without_candidate : Candidate → List Candidate → List Candidate
 without_candidate c queue = filter (λ a. not (is_same a c)) queue
 
 -- the same tasks, each in its place
-abbrev pub ordered : List Candidate → List Candidate
-ordered [] = []
-ordered (c ∷ candidates) = with_candidate c (ordered candidates)
+abbrev pub by_deadline : List Candidate → List Candidate
+by_deadline [] = []
+by_deadline (c ∷ candidates) = with_candidate c (by_deadline candidates)

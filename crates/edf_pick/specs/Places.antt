@@ -3,20 +3,21 @@ use Rattle.std.specs.Prelude.{ℕ, zero, suc, ◌≡◌, ◌<◌, ◌≤◌, len
 use Rattle.std.specs.Int.{bit_at}
 use Rattle.std.specs.List.{list_any}
 use Rattle.edf_pick.specs.declared.candidate.Candidate.{Candidate}
-use Rattle.edf_pick.specs.Choice.{is_chosen, ranked}
+use Rattle.edf_pick.specs.Choice.{is_chosen, candidate_at_rank}
 
 -- who stands on each CPU, none for idle
 abbrev pub Places : Type 0
 Places = List (Option ℕ)
 
 -- 1 where somebody stands
-abbrev pub taken : Option ℕ → ℕ
-taken None = 0
-taken (Some n) = 1
+abbrev pub count_occupant : Option ℕ → ℕ
+count_occupant None = 0
+count_occupant (Some n) = 1
 
 -- the word has a mark for each CPU on which somebody stands
 abbrev pub AreTaken : Places → ℕ → Type 0
-AreTaken places marks = (cpu : ℕ) → bit_at marks cpu ≡ taken (slice_index_or places cpu None)
+AreTaken places marks =
+    (cpu : ℕ) → bit_at marks cpu ≡ count_occupant (slice_index_or places cpu None)
 
 -- no task stands on two CPUs
 abbrev pub AreSingle : Places → Type 0
@@ -48,9 +49,9 @@ is_chosen_number cpus ready number =
     list_any (λ c. c.number == number && is_chosen cpus ready c) ready
 
 -- an occupant that is chosen stays
-abbrev pub kept : ℕ → List Candidate → Option ℕ → Option ℕ
-kept cpus ready None = None
-kept cpus ready (Some n) = if is_chosen_number cpus ready n then Some n else None
+abbrev pub kept_if_chosen : ℕ → List Candidate → Option ℕ → Option ℕ
+kept_if_chosen cpus ready None = None
+kept_if_chosen cpus ready (Some n) = if is_chosen_number cpus ready n then Some n else None
 
 abbrev pub is_free : Option (Option ℕ) → Bool
 is_free None = false
@@ -77,8 +78,9 @@ seated_if places (Some c) = seated places c
 -- the tasks before which 0, 1, .. others are, one after another
 abbrev pub seated_upto : List Candidate → Places → ℕ → Places
 seated_upto ready places zero = places
-seated_upto ready places (suc r) = seated_if (seated_upto ready places r) (ranked ready r)
+seated_upto ready places (suc r) =
+    seated_if (seated_upto ready places r) (candidate_at_rank ready r)
 
 -- those that stay, and then the other chosen ones in the order of the choice
 abbrev pub placed : ℕ → List Candidate → Places → Places
-placed cpus ready before = seated_upto ready (map (kept cpus ready) before) cpus
+placed cpus ready before = seated_upto ready (map (kept_if_chosen cpus ready) before) cpus

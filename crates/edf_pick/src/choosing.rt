@@ -8,7 +8,7 @@ ghost use Rattle.edf_pick.specs.Choice as choice;
 ghost use Rattle.edf_pick.specs.private.Choosing as spec;
 ghost use Rattle.edf_pick.specs.private.First.{is_home};
 ghost use Rattle.edf_pick.specs.private.Staying.{bare_key};
-ghost use Rattle.edf_pick.specs.private.Waiting.{held};
+ghost use Rattle.edf_pick.specs.private.Waiting.{all_held};
 
 use crate::candidate::Candidate;
 use crate::movers::Movers;
@@ -45,10 +45,10 @@ fn choose_first(
     requires few { length places.now ≤ 64 }
     requires some { 0 < length waiting.old }
     requires is { spec.IsChoosing staying.old movers.old waiting.old places.now }
-    requires free { length (held staying.old) + length movers.old < length places.now }
+    requires free { length (all_held staying.old) + length movers.old < length places.now }
     ensures is { spec.IsChoosing staying.new movers.new waiting.new places.now }
-    ensures same { IsPermutation (held staying.old ++ (movers.old ++ waiting.old))
-        (held staying.new ++ (movers.new ++ waiting.new)) }
+    ensures same { IsPermutation (all_held staying.old ++ (movers.old ++ waiting.old))
+        (all_held staying.new ++ (movers.new ++ waiting.new)) }
     ensures fewer { length waiting.new < length waiting.old }
 {
     let c = waiting.take_first();
@@ -61,9 +61,9 @@ fn fill(waiting: &mut Queue, staying: &mut Staying, movers: &mut Movers, places:
     requires few { length places.now ≤ 64 }
     requires is { spec.IsChoosing staying.old movers.old waiting.old places.now }
     ensures is { spec.IsChoosing staying.new movers.new waiting.new places.now }
-    ensures same { IsPermutation (held staying.old ++ (movers.old ++ waiting.old))
-        (held staying.new ++ (movers.new ++ waiting.new)) }
-    ensures all { spec.AreAll staying.new movers.new waiting.new places.now }
+    ensures same { IsPermutation (all_held staying.old ++ (movers.old ++ waiting.old))
+        (all_held staying.new ++ (movers.new ++ waiting.new)) }
+    ensures all { spec.AreAllSeated staying.new movers.new waiting.new places.now }
 {
     'free: while !waiting.is_empty() && staying.busy() + movers.len() < places.len() {
         choose_first(waiting, staying, movers, places);
@@ -74,8 +74,9 @@ fn fill(waiting: &mut Queue, staying: &mut Staying, movers: &mut Movers, places:
 #[inline(always)]
 fn outdone(waiting: &Queue, staying: &mut Staying) -> Option<Candidate>
     ensures still { staying.new ≡ staying.old }
-    ensures none { IfNone result ((waiting.now ≡ []) ⊎ All (λ a.
-        choice.is_before (slice_index_or waiting.now 0 bare_key) a ≡ false) (held staying.old)) }
+    ensures none { IfNone result ((waiting.now ≡ [])
+        ⊎ All (λ a. choice.is_before (slice_index_or waiting.now 0 bare_key) a ≡ false)
+        (all_held staying.old)) }
     ensures some { IfSome result (λ last. 0 < length waiting.now) }
     ensures first { IfSome result (λ last.
         choice.is_before (slice_index_or waiting.now 0 bare_key) last ≡ true) }
@@ -111,12 +112,12 @@ fn displace(
     requires first { choice.is_before (slice_index_or waiting.old 0 bare_key) last ≡ true }
     requires there { slice_index_or staying.old last.home None ≡ Some last }
     ensures is { spec.IsChoosing staying.new movers.new waiting.new places.now }
-    ensures same { IsPermutation (held staying.old ++ (movers.old ++ waiting.old))
-        (held staying.new ++ (movers.new ++ waiting.new)) }
-    ensures busy { length (held staying.new) + length movers.new
-        ≡ length (held staying.old) + length movers.old }
-    ensures earlier { spec.total (held staying.new ++ movers.new)
-        < spec.total (held staying.old ++ movers.old) }
+    ensures same { IsPermutation (all_held staying.old ++ (movers.old ++ waiting.old))
+        (all_held staying.new ++ (movers.new ++ waiting.new)) }
+    ensures busy { length (all_held staying.new) + length movers.new
+        ≡ length (all_held staying.old) + length movers.old }
+    ensures earlier { spec.total (all_held staying.new ++ movers.new)
+        < spec.total (all_held staying.old ++ movers.old) }
 {
     let c = waiting.take_first();
     staying.off(last.home as usize);
@@ -134,10 +135,10 @@ fn displace_all(
 )
     requires few { length places.now ≤ 64 }
     requires is { spec.IsChoosing staying.old movers.old waiting.old places.now }
-    requires all { spec.AreAll staying.old movers.old waiting.old places.now }
+    requires all { spec.AreAllSeated staying.old movers.old waiting.old places.now }
     ensures is { spec.IsChosen staying.new movers.new waiting.new places.now }
-    ensures same { IsPermutation (held staying.old ++ (movers.old ++ waiting.old))
-        (held staying.new ++ (movers.new ++ waiting.new)) }
+    ensures same { IsPermutation (all_held staying.old ++ (movers.old ++ waiting.old))
+        (all_held staying.new ++ (movers.new ++ waiting.new)) }
 {
     'rounds: while let Some(last) = outdone(waiting, staying) {
         displace(waiting, staying, movers, places, last);
@@ -155,8 +156,8 @@ pub(crate) fn choose_all(
     requires few { length places.now ≤ 64 }
     requires is { spec.IsChoosing staying.old [] waiting.old places.now }
     ensures is { spec.IsChosen staying.new movers.new waiting.new places.now }
-    ensures same { IsPermutation (held staying.old ++ waiting.old)
-        (held staying.new ++ (movers.new ++ waiting.new)) }
+    ensures same { IsPermutation (all_held staying.old ++ waiting.old)
+        (all_held staying.new ++ (movers.new ++ waiting.new)) }
 {
     movers.clear();
     fill(waiting, staying, movers, places);

@@ -41,9 +41,9 @@ fn find_staying(staying: &Staying, c: &Candidate) -> Option<usize>
 #[inline(always)]
 fn take_staying(waiting: &Queue, staying: &mut Staying, cpu: usize, c: &Candidate)
     requires numbered { AllPairs (λ a b. a.number ≢ b.number)
-        (spec.held staying.old ++ waiting.now) }
+        (spec.all_held staying.old ++ waiting.now) }
     requires there { spec.is_there c.now (slice_index_or staying.old cpu None) ≡ true }
-    ensures left { spec.HasLeft c.now staying.old waiting.now staying.new waiting.now true }
+    ensures left { spec.HasLeftWaiting c.now staying.old waiting.now staying.new waiting.now true }
 {
     staying.off(cpu);
 }
@@ -51,9 +51,10 @@ fn take_staying(waiting: &Queue, staying: &mut Staying, cpu: usize, c: &Candidat
 // Who stays on another CPU goes, or is not there.
 fn take_elsewhere(waiting: &Queue, staying: &mut Staying, c: &Candidate) -> bool
     requires numbered { AllPairs (λ a b. a.number ≢ b.number)
-        (spec.held staying.old ++ waiting.now) }
+        (spec.all_held staying.old ++ waiting.now) }
     requires absent { order.has_candidate c.now waiting.now ≡ false }
-    ensures left { spec.HasLeft c.now staying.old waiting.now staying.new waiting.now result }
+    ensures left { spec.HasLeftWaiting c.now staying.old waiting.now staying.new waiting.now
+        result }
 {
     let Some(cpu) = find_staying(staying, c) else {
         return false;
@@ -66,8 +67,9 @@ fn take_elsewhere(waiting: &Queue, staying: &mut Staying, c: &Candidate) -> bool
 #[inline(always)]
 fn take_other(waiting: &mut Queue, staying: &mut Staying, c: &Candidate) -> bool
     requires numbered { AllPairs (λ a b. a.number ≢ b.number)
-        (spec.held staying.old ++ waiting.old) }
-    ensures left { spec.HasLeft c.now staying.old waiting.old staying.new waiting.new result }
+        (spec.all_held staying.old ++ waiting.old) }
+    ensures left { spec.HasLeftWaiting c.now staying.old waiting.old staying.new waiting.new
+        result }
 {
     let Some(_entry) = waiting.take(c) else {
         return take_elsewhere(waiting, staying, c);
@@ -79,8 +81,9 @@ fn take_other(waiting: &mut Queue, staying: &mut Staying, c: &Candidate) -> bool
 #[inline(always)]
 pub(crate) fn take_out(waiting: &mut Queue, staying: &mut Staying, c: &Candidate) -> bool
     requires numbered { AllPairs (λ a b. a.number ≢ b.number)
-        (spec.held staying.old ++ waiting.old) }
-    ensures left { spec.HasLeft c.now staying.old waiting.old staying.new waiting.new result }
+        (spec.all_held staying.old ++ waiting.old) }
+    ensures left { spec.HasLeftWaiting c.now staying.old waiting.old staying.new waiting.new
+        result }
 {
     let cpu = c.home as usize;
     if is_staying(staying, cpu, c) {

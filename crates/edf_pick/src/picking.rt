@@ -62,7 +62,8 @@ fn seat(places: &mut Vec<Option<u32>>, c: &Candidate, taken: u64) -> u64
 // Whether a task is one of the movers: the chosen ones at the marked places.
 fn is_among(chosen: &[Candidate], movers: u64, number: u32) -> bool
     requires { (i : ℕ) → bit_at movers i ≡ 1 → i < length chosen.now }
-    ensures { result ≡ list_any (λ c. c.number == number) (spec.marked (bit_at movers) chosen.now) }
+    ensures { result
+        ≡ list_any (λ c. c.number == number) (spec.those_marked (bit_at movers) chosen.now) }
 {
     let mut left = movers;
     'tasks: while left != 0 {
@@ -77,7 +78,7 @@ fn is_among(chosen: &[Candidate], movers: u64, number: u32) -> bool
 
 fn staying(chosen: &[Candidate], movers: u64, occupant: Option<u32>) -> Option<u32>
     requires { (i : ℕ) → bit_at movers i ≡ 1 → i < length chosen.now }
-    ensures { result ≡ spec.staying (spec.marked (bit_at movers) chosen.now) occupant }
+    ensures { result ≡ spec.staying (spec.those_marked (bit_at movers) chosen.now) occupant }
 {
     match occupant {
         Some(number) if is_among(chosen, movers, number) => Some(number),
@@ -99,7 +100,7 @@ fn keep_at(
     requires movers { (i : ℕ) → bit_at movers i ≡ 1 → i < length chosen.now }
     requires taken { AreTaken places.old.items taken }
     ensures places { places.new.items ≡ slice_set places.old.items cpu
-        (spec.staying (spec.marked (bit_at movers) chosen.now)
+        (spec.staying (spec.those_marked (bit_at movers) chosen.now)
         (slice_index_or places.old.items cpu None)) }
     ensures len { vec_len places.new ≡ vec_len places.old }
     ensures room { vec_capacity places.new ≡ vec_capacity places.old }
@@ -145,7 +146,8 @@ fn seat_marked(places: &mut Vec<Option<u32>>, chosen: &[Candidate], movers: u64,
     requires few { vec_len places.old ≤ 64 }
     requires within { (i : ℕ) → bit_at movers i ≡ 1 → i < length chosen.now }
     requires taken { AreTaken places.old.items taken }
-    ensures places { places.new.items ≡ spec.seated_all (spec.marked (bit_at movers) chosen.now)
+    ensures places { places.new.items
+        ≡ spec.seated_all (spec.those_marked (bit_at movers) chosen.now)
         places.old.items }
     ensures len { vec_len places.new ≡ vec_len places.old }
     ensures room { vec_capacity places.new ≡ vec_capacity places.old }

@@ -4,7 +4,7 @@ ghost use Rattle.std.specs.Prelude.{◌≡◌, ◌≢◌, ◌<◌, ◌≤◌, �
 ghost use Rattle.edf_pick.specs.private.First.{AreLeaving, AreMovers};
 ghost use Rattle.edf_pick.specs.Moves.{moved_from};
 ghost use Rattle.edf_pick.specs.Places.{AreSingle, AreTaken, placed, stands};
-ghost use Rattle.edf_pick.specs.private.Waiting.{held, AreOn, AreSeated};
+ghost use Rattle.edf_pick.specs.private.Waiting.{all_held, AreOn, AreSeated};
 
 use crate::at_home::{Marks, marks_of_all};
 use crate::candidate::Candidate;
@@ -142,7 +142,7 @@ pub(crate) fn settle(
     moves: &mut Moves,
 )
     requires len { length staying.old ≡ length placement.old }
-    requires free { length (held staying.old) + length movers.now ≤ length staying.old }
+    requires free { length (all_held staying.old) + length movers.now ≤ length staying.old }
     requires numbered { AllPairs (λ a b. a.number ≢ b.number) movers.now }
     requires on { AreOn staying.old placement.old }
     requires away { All (λ c. stands c.number placement.old ≡ false) movers.now }

@@ -22,11 +22,11 @@ pub struct Queue {
 impl Model for Queue {
     ghost use Rattle.std.specs.Prelude.{List, vec_capacity};
     ghost use Rattle.edf_pick.specs.declared.candidate.Candidate.{Candidate};
-    ghost use Rattle.edf_pick.specs.private.Room.{HoldsQueue, tasks_in};
+    ghost use Rattle.edf_pick.specs.private.Room.{HoldsQueue, tasks_in_room};
 
     ghost Value = { List Candidate };
 
-    ghost view = { λ q. tasks_in q.room };
+    ghost view = { λ q. tasks_in_room q.room };
 
     ghost invariant = { λ q. HoldsQueue q.room (vec_capacity q.room.tasks) };
 }

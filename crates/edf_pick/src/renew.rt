@@ -2,7 +2,7 @@
 //! occupant stays and nobody who waits is before one of them.
 
 ghost use Rattle.std.specs.Prelude.{◌≡◌, ◌<◌, ◌⊎◌, [], true, false, length, map, slice_index_or, All};
-ghost use Rattle.edf_pick.specs.Changes.{homed};
+ghost use Rattle.edf_pick.specs.Changes.{with_home};
 ghost use Rattle.edf_pick.specs.Choice as choice;
 ghost use Rattle.edf_pick.specs.Moves.{moved_from};
 ghost use Rattle.edf_pick.specs.Places.{placed};
@@ -32,10 +32,10 @@ fn all_stay(staying: &Staying, placement: &Placement) -> bool
 // first of those who wait.
 #[inline(always)]
 fn none_earlier(waiting: &Queue, staying: &Staying, cpus: usize) -> bool
-    ensures all { result ≡ true → (waiting.now ≡ []) ⊎ (length (spec.held staying.now) ≡ cpus) }
+    ensures all { result ≡ true → (waiting.now ≡ []) ⊎ (length (spec.all_held staying.now) ≡ cpus) }
     ensures first { result ≡ true → (waiting.now ≡ [])
         ⊎ All (λ a. choice.is_before (slice_index_or waiting.now 0 bare_key) a ≡ false)
-        (spec.held staying.now) }
+        (spec.all_held staying.now) }
 {
     let tasks = waiting.as_slice();
     if tasks.is_empty() {
@@ -60,7 +60,7 @@ fn is_still(waiting: &Queue, staying: &Staying, placement: &Placement) -> bool
 #[inline(always)]
 fn is_first_alone(waiting: &Queue, staying: &Staying, placement: &Placement) -> bool
     ensures one { result ≡ true → length placement.now ≡ 1 }
-    ensures bare { result ≡ true → length (spec.held staying.now) ≡ 0 }
+    ensures bare { result ≡ true → length (spec.all_held staying.now) ≡ 0 }
     ensures some { result ≡ true → 0 < length waiting.now }
 {
     placement.occupants().len() == 1 && staying.busy() == 0 && !waiting.is_empty()
@@ -77,9 +77,9 @@ fn pick_anew(
 )
     requires { spec.IsWaiting staying.old waiting.old placement.old }
     ensures places { placement.new
-        ≡ placed (length placement.old) (spec.all_of staying.old waiting.old) placement.old }
-    ensures queue { spec.all_of staying.new waiting.new
-        ≡ map (homed placement.new) (spec.all_of staying.old waiting.old) }
+        ≡ placed (length placement.old) (spec.all_waiting staying.old waiting.old) placement.old }
+    ensures queue { spec.all_waiting staying.new waiting.new
+        ≡ map (with_home placement.new) (spec.all_waiting staying.old waiting.old) }
     ensures moves { moves.new ≡ moved_from 0 placement.old placement.new }
     ensures is { spec.IsWaiting staying.new waiting.new placement.new }
 {
@@ -102,9 +102,9 @@ pub(crate) fn pick_waiting(
 )
     requires { spec.IsWaiting staying.old waiting.old placement.old }
     ensures places { placement.new
-        ≡ placed (length placement.old) (spec.all_of staying.old waiting.old) placement.old }
-    ensures queue { spec.all_of staying.new waiting.new
-        ≡ map (homed placement.new) (spec.all_of staying.old waiting.old) }
+        ≡ placed (length placement.old) (spec.all_waiting staying.old waiting.old) placement.old }
+    ensures queue { spec.all_waiting staying.new waiting.new
+        ≡ map (with_home placement.new) (spec.all_waiting staying.old waiting.old) }
     ensures moves { moves.new ≡ moved_from 0 placement.old placement.new }
     ensures is { spec.IsWaiting staying.new waiting.new placement.new }
 {

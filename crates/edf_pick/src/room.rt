@@ -39,8 +39,8 @@ fn places(alloc: Global) -> Result<Vec<Candidate>, AllocError>
 impl Room {
     /// Nobody stands there. No other call takes memory.
     pub(crate) fn open(alloc: Global) -> Result<Room, AllocError>
-        ensures is { IfOk result (λ room. spec.IsRoom room) }
-        ensures none { IfOk result (λ room. spec.tasks_in room ≡ []) }
+        ensures is { IfOk result (λ room. spec.IsTaskRoom room) }
+        ensures none { IfOk result (λ room. spec.tasks_in_room room ≡ []) }
         ensures capacity { IfOk result (λ room. vec_capacity room.tasks ≡ 1024) }
     {
         Ok(Room {
@@ -53,8 +53,8 @@ impl Room {
     /// How many tasks there are.
     #[inline(always)]
     pub(crate) fn len(&self) -> usize
-        requires { spec.IsRoom self.now }
-        ensures { result ≡ length (spec.tasks_in self.now) }
+        requires { spec.IsTaskRoom self.now }
+        ensures { result ≡ length (spec.tasks_in_room self.now) }
     {
         self.end - self.front
     }
@@ -62,8 +62,8 @@ impl Room {
     /// The tasks in their order.
     #[inline(always)]
     pub(crate) fn as_slice(&self) -> &[Candidate]
-        requires { spec.IsRoom self.now }
-        ensures { result.now ≡ spec.tasks_in self.now }
+        requires { spec.IsTaskRoom self.now }
+        ensures { result.now ≡ spec.tasks_in_room self.now }
     {
         &self.tasks[self.front..self.end]
     }
@@ -71,11 +71,12 @@ impl Room {
     // Those before the place go down by one.
     #[inline(always)]
     fn insert_below(&mut self, place: usize, task: Candidate)
-        requires is { spec.IsRoom self.old }
+        requires is { spec.IsTaskRoom self.old }
         requires free { 0 < self.old.front }
         requires there { self.old.front + place ≤ self.old.end }
-        ensures is { spec.IsRoom self.new }
-        ensures tasks { spec.tasks_in self.new ≡ insert (spec.tasks_in self.old) place task }
+        ensures is { spec.IsTaskRoom self.new }
+        ensures tasks { spec.tasks_in_room self.new
+            ≡ insert (spec.tasks_in_room self.old) place task }
         ensures capacity { vec_capacity self.new.tasks ≡ vec_capacity self.old.tasks }
     {
         let at = self.front + place;
@@ -87,11 +88,12 @@ impl Room {
     // Those from the place on go up by one.
     #[inline(always)]
     fn insert_above(&mut self, place: usize, task: Candidate)
-        requires is { spec.IsRoom self.old }
+        requires is { spec.IsTaskRoom self.old }
         requires free { self.old.end < 1024 }
         requires there { self.old.front + place ≤ self.old.end }
-        ensures is { spec.IsRoom self.new }
-        ensures tasks { spec.tasks_in self.new ≡ insert (spec.tasks_in self.old) place task }
+        ensures is { spec.IsTaskRoom self.new }
+        ensures tasks { spec.tasks_in_room self.new
+            ≡ insert (spec.tasks_in_room self.old) place task }
         ensures capacity { vec_capacity self.new.tasks ≡ vec_capacity self.old.tasks }
     {
         let at = self.front + place;
@@ -103,10 +105,10 @@ impl Room {
     // The tasks go to the beginning.
     #[inline(never)]
     fn rewind(&mut self)
-        requires { spec.IsRoom self.old }
-        ensures is { spec.IsRoom self.new }
-        ensures tasks { spec.tasks_in self.new ≡ spec.tasks_in self.old }
-        ensures end { self.new.end ≡ length (spec.tasks_in self.old) }
+        requires { spec.IsTaskRoom self.old }
+        ensures is { spec.IsTaskRoom self.new }
+        ensures tasks { spec.tasks_in_room self.new ≡ spec.tasks_in_room self.old }
+        ensures end { self.new.end ≡ length (spec.tasks_in_room self.old) }
         ensures capacity { vec_capacity self.new.tasks ≡ vec_capacity self.old.tasks }
     {
         self.tasks.copy_within(self.front..self.end, 0);
@@ -117,10 +119,10 @@ impl Room {
     // There is a free place behind the tasks.
     #[inline(always)]
     fn free_end(&mut self)
-        requires is { spec.IsRoom self.old }
-        requires few { length (spec.tasks_in self.old) < 1024 }
-        ensures is { spec.IsRoom self.new }
-        ensures tasks { spec.tasks_in self.new ≡ spec.tasks_in self.old }
+        requires is { spec.IsTaskRoom self.old }
+        requires few { length (spec.tasks_in_room self.old) < 1024 }
+        ensures is { spec.IsTaskRoom self.new }
+        ensures tasks { spec.tasks_in_room self.new ≡ spec.tasks_in_room self.old }
         ensures free { self.new.end < 1024 }
         ensures capacity { vec_capacity self.new.tasks ≡ vec_capacity self.old.tasks }
     {
@@ -132,11 +134,12 @@ impl Room {
     /// One more stands at this place.
     #[inline(always)]
     pub(crate) fn insert(&mut self, place: usize, task: Candidate)
-        requires is { spec.IsRoom self.old }
-        requires few { length (spec.tasks_in self.old) < 1024 }
-        requires there { place ≤ length (spec.tasks_in self.old) }
-        ensures is { spec.IsRoom self.new }
-        ensures tasks { spec.tasks_in self.new ≡ insert (spec.tasks_in self.old) place task }
+        requires is { spec.IsTaskRoom self.old }
+        requires few { length (spec.tasks_in_room self.old) < 1024 }
+        requires there { place ≤ length (spec.tasks_in_room self.old) }
+        ensures is { spec.IsTaskRoom self.new }
+        ensures tasks { spec.tasks_in_room self.new
+            ≡ insert (spec.tasks_in_room self.old) place task }
         ensures capacity { vec_capacity self.new.tasks ≡ vec_capacity self.old.tasks }
     {
         if self.front > 0 && place < self.len() / 2 {
@@ -150,10 +153,10 @@ impl Room {
     // Those before the place go up by one.
     #[inline(always)]
     fn remove_below(&mut self, place: usize)
-        requires is { spec.IsRoom self.old }
+        requires is { spec.IsTaskRoom self.old }
         requires there { self.old.front + place < self.old.end }
-        ensures is { spec.IsRoom self.new }
-        ensures tasks { spec.tasks_in self.new ≡ remove (spec.tasks_in self.old) place }
+        ensures is { spec.IsTaskRoom self.new }
+        ensures tasks { spec.tasks_in_room self.new ≡ remove (spec.tasks_in_room self.old) place }
         ensures capacity { vec_capacity self.new.tasks ≡ vec_capacity self.old.tasks }
     {
         let at = self.front + place;
@@ -164,10 +167,10 @@ impl Room {
     // Those behind the place go down by one.
     #[inline(always)]
     fn remove_above(&mut self, place: usize)
-        requires is { spec.IsRoom self.old }
+        requires is { spec.IsTaskRoom self.old }
         requires there { self.old.front + place < self.old.end }
-        ensures is { spec.IsRoom self.new }
-        ensures tasks { spec.tasks_in self.new ≡ remove (spec.tasks_in self.old) place }
+        ensures is { spec.IsTaskRoom self.new }
+        ensures tasks { spec.tasks_in_room self.new ≡ remove (spec.tasks_in_room self.old) place }
         ensures capacity { vec_capacity self.new.tasks ≡ vec_capacity self.old.tasks }
     {
         let at = self.front + place;
@@ -178,10 +181,10 @@ impl Room {
     /// The one at this place stands there no more.
     #[inline(always)]
     pub(crate) fn remove(&mut self, place: usize)
-        requires is { spec.IsRoom self.old }
-        requires there { place < length (spec.tasks_in self.old) }
-        ensures is { spec.IsRoom self.new }
-        ensures tasks { spec.tasks_in self.new ≡ remove (spec.tasks_in self.old) place }
+        requires is { spec.IsTaskRoom self.old }
+        requires there { place < length (spec.tasks_in_room self.old) }
+        ensures is { spec.IsTaskRoom self.new }
+        ensures tasks { spec.tasks_in_room self.new ≡ remove (spec.tasks_in_room self.old) place }
         ensures capacity { vec_capacity self.new.tasks ≡ vec_capacity self.old.tasks }
     {
         if place < self.len() / 2 {
@@ -194,10 +197,10 @@ impl Room {
     /// The first stands there no more.
     #[inline(always)]
     pub(crate) fn remove_first(&mut self)
-        requires is { spec.IsRoom self.old }
-        requires some { 0 < length (spec.tasks_in self.old) }
-        ensures is { spec.IsRoom self.new }
-        ensures tasks { spec.tasks_in self.new ≡ remove (spec.tasks_in self.old) 0 }
+        requires is { spec.IsTaskRoom self.old }
+        requires some { 0 < length (spec.tasks_in_room self.old) }
+        ensures is { spec.IsTaskRoom self.new }
+        ensures tasks { spec.tasks_in_room self.new ≡ remove (spec.tasks_in_room self.old) 0 }
         ensures capacity { vec_capacity self.new.tasks ≡ vec_capacity self.old.tasks }
     {
         self.front += 1;

@@ -1,7 +1,7 @@
 //! The ready tasks of a root domain and who stands on its CPUs, as one.
 
 ghost use Rattle.std.specs.Prelude.{◌≡◌, ◌≢◌, ◌<◌, ◌≤◌, [], None, length, map, replicate, All, IfOk};
-ghost use Rattle.edf_pick.specs.Changes.{homed};
+ghost use Rattle.edf_pick.specs.Changes.{with_home};
 ghost use Rattle.edf_pick.specs.Moves.{moved_from};
 ghost use Rattle.edf_pick.specs.Order as order;
 ghost use Rattle.edf_pick.specs.Places.{placed};
@@ -33,12 +33,12 @@ pub struct Schedule {
 
 impl Model for Schedule {
     ghost use Rattle.edf_pick.specs.Schedule.{ScheduleView};
-    ghost use Rattle.edf_pick.specs.private.Waiting.{all_of, IsWaiting};
+    ghost use Rattle.edf_pick.specs.private.Waiting.{all_waiting, IsWaiting};
 
     ghost Value = { ScheduleView };
 
     ghost view = { λ s. record {
-      queue = all_of s.staying s.waiting;
+      queue = all_waiting s.staying s.waiting;
       places = s.placement;
       moves = s.moves;
     } };
@@ -109,7 +109,7 @@ impl Schedule {
     pub fn pick(&mut self)
         ensures places { self.new.places
             ≡ placed (length self.old.places) self.old.queue self.old.places }
-        ensures queue { self.new.queue ≡ map (homed self.new.places) self.old.queue }
+        ensures queue { self.new.queue ≡ map (with_home self.new.places) self.old.queue }
         ensures moves { self.new.moves ≡ moved_from 0 self.old.places self.new.places }
     {
         pick_waiting(

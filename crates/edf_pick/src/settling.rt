@@ -50,7 +50,7 @@ fn seat_all(
     taken: u64,
 ) -> u64
     requires few { vec_len places.old ≤ 64 }
-    requires free { length (spec.held staying.old) + length movers.now ≤ length staying.old }
+    requires free { length (spec.all_held staying.old) + length movers.now ≤ length staying.old }
     requires numbered { AllPairs (λ a b. a.number ≢ b.number) movers.now }
     requires on { spec.AreOn staying.old places.old.items }
     requires away { All (λ c. placing.stands c.number places.old.items ≡ false) movers.now }
@@ -79,7 +79,7 @@ pub(crate) fn move_on(
 ) -> u64
     requires few { vec_len places.old ≤ 64 }
     requires len { length staying.old ≡ vec_len places.old }
-    requires free { length (spec.held staying.old) + length movers.now ≤ length staying.old }
+    requires free { length (spec.all_held staying.old) + length movers.now ≤ length staying.old }
     requires numbered { AllPairs (λ a b. a.number ≢ b.number) movers.now }
     requires on { spec.AreOn staying.old places.old.items }
     requires away { All (λ c. placing.stands c.number places.old.items ≡ false) movers.now }

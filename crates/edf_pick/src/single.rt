@@ -2,9 +2,9 @@
 
 ghost use Rattle.std.specs.Prelude.{◌≡◌, ◌≢◌, ◌<◌, ◌≤◌, ◌+◌, ◌∷◌, [], false, length, map, All, AllPairs};
 ghost use Rattle.edf_pick.specs.Moves.{moved_from};
-ghost use Rattle.edf_pick.specs.Changes.{homed};
+ghost use Rattle.edf_pick.specs.Changes.{with_home};
 ghost use Rattle.edf_pick.specs.Places.{AreSingle, placed, stands};
-ghost use Rattle.edf_pick.specs.private.Waiting.{held, all_of, AreOn, AreSeated, IsWaiting};
+ghost use Rattle.edf_pick.specs.private.Waiting.{all_held, all_waiting, AreOn, AreSeated, IsWaiting};
 
 use crate::candidate::Candidate;
 use crate::moves::{Moves, is_same};
@@ -39,7 +39,7 @@ fn settle_one(
 )
     requires one { length placement.old ≡ 1 }
     requires len { length staying.old ≡ length placement.old }
-    requires free { length (held staying.old) + length movers.now ≤ length staying.old }
+    requires free { length (all_held staying.old) + length movers.now ≤ length staying.old }
     requires on { AreOn staying.old placement.old }
     ensures seated { AreSeated staying.old movers.now staying.new placement.new }
     ensures moves { moves.new ≡ moved_from 0 placement.old placement.new }
@@ -66,7 +66,7 @@ pub(crate) fn settle_all(
     moves: &mut Moves,
 )
     requires len { length staying.old ≡ length placement.old }
-    requires free { length (held staying.old) + length movers.now ≤ length staying.old }
+    requires free { length (all_held staying.old) + length movers.now ≤ length staying.old }
     requires numbered { AllPairs (λ a b. a.number ≢ b.number) movers.now }
     requires on { AreOn staying.old placement.old }
     requires away { All (λ c. stands c.number placement.old ≡ false) movers.now }
@@ -91,13 +91,13 @@ pub(crate) fn pick_first(
     moves: &mut Moves,
 )
     requires one { length placement.old ≡ 1 }
-    requires bare { length (held staying.old) ≡ 0 }
+    requires bare { length (all_held staying.old) ≡ 0 }
     requires some { 0 < length waiting.old }
     requires is { IsWaiting staying.old waiting.old placement.old }
     ensures places { placement.new
-        ≡ placed (length placement.old) (all_of staying.old waiting.old) placement.old }
-    ensures queue { all_of staying.new waiting.new
-        ≡ map (homed placement.new) (all_of staying.old waiting.old) }
+        ≡ placed (length placement.old) (all_waiting staying.old waiting.old) placement.old }
+    ensures queue { all_waiting staying.new waiting.new
+        ≡ map (with_home placement.new) (all_waiting staying.old waiting.old) }
     ensures moves { moves.new ≡ moved_from 0 placement.old placement.new }
     ensures is { IsWaiting staying.new waiting.new placement.new }
 {

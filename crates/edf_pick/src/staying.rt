@@ -6,7 +6,7 @@ ghost use Rattle.edf_pick.specs.declared.candidate.Candidate.{Candidate};
 ghost use Rattle.edf_pick.specs.Choice as choice;
 ghost use Rattle.edf_pick.specs.Places.{AreTaken};
 ghost use Rattle.edf_pick.specs.private.Staying as spec;
-ghost use Rattle.edf_pick.specs.private.Waiting.{held, staying_on};
+ghost use Rattle.edf_pick.specs.private.Waiting.{all_held, staying_on};
 
 use crate::candidate::Candidate;
 use crate::order::is_before;
@@ -147,7 +147,7 @@ impl Staying {
     /// How many stay.
     #[inline(always)]
     pub(crate) fn busy(&self) -> usize
-        ensures { result ≡ length (held self.now) }
+        ensures { result ≡ length (all_held self.now) }
     {
         self.busy
     }
@@ -198,7 +198,7 @@ impl Staying {
     /// Whether one who stays may be behind this task; where that is false, none is.
     #[inline(always)]
     pub(crate) fn may_outlast(&self, c: &Candidate) -> bool
-        ensures { result ≡ false → All (λ a. choice.is_before c.now a ≡ false) (held self.now) }
+        ensures { result ≡ false → All (λ a. choice.is_before c.now a ≡ false) (all_held self.now) }
     {
         is_before(c, &self.top)
     }
@@ -207,7 +207,7 @@ impl Staying {
     #[inline(never)]
     pub(crate) fn latest(&mut self) -> Candidate
         ensures still { self.new ≡ self.old }
-        ensures bound { All (λ a. choice.is_before result a ≡ false) (held self.old) }
+        ensures bound { All (λ a. choice.is_before result a ≡ false) (all_held self.old) }
         ensures there { (c : Candidate) → choice.is_before c result ≡ true
             → slice_index_or self.old result.home None ≡ Some result }
     {

@@ -1,14 +1,7 @@
 -- Columns of a table (own).
-use Rattle.std.specs.Prelude.{ℕ, ◌+◌, ◌-◌, ◌*◌, ◌/◌, ◌%◌, ◌==◌, if◌then◌else◌, List, ◌∷◌, ◌++◌, length, replicate, decimal}
+use Rattle.std.specs.Prelude.{ℕ, ◌+◌, ◌*◌, ◌/◌, ◌%◌, ◌==◌, if◌then◌else◌, List, ◌∷◌, ◌++◌, decimal}
+use Rattle.draft.specs.Columns.{column}
 use Rattle.run_figures.specs.Lines.{digits_in}
-
--- a text at the right of a column; one that is wider widens it in its line
-abbrev pub right : ℕ → List ℕ → List ℕ
-right width text = replicate (width - length text) 32 ++ text
-
--- a column behind others: a space, and a text at its right
-abbrev pub column : ℕ → List ℕ → List ℕ
-column width text = 32 ∷ right width text
 
 -- the number that the texts show for a task (own: 1000 above the task's number)
 abbrev pub pid : ℕ → List ℕ

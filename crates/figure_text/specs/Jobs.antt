@@ -3,10 +3,11 @@ use Rattle.std.specs.Prelude.{ℕ, ◌-◌, List, ◌++◌, flat_map, Option, So
 use Rattle.std.specs.Fmt.{signed_decimal}
 use Rattle.run_figures.specs.declared.job.Job.{Job}
 use Rattle.run_figures.specs.TaskJobsView.{TaskJobsView}
-use Rattle.switch_text.specs.Names.{named}
+use Rattle.switch_text.specs.Names.{name_of_task}
 use Rattle.figure_text.specs.declared.jobs.DomainJobs.{DomainJobs}
-use Rattle.figure_text.specs.Columns.{right, column, pid}
-use Rattle.run_figures.specs.Lines.{numbered}
+use Rattle.draft.specs.Columns.{right, column}
+use Rattle.figure_text.specs.Columns.{pid}
+use Rattle.run_figures.specs.Lines.{numbered_lines}
 
 abbrev pub job_header : List ℕ
 job_header = codes
@@ -32,19 +33,19 @@ job_line name number place j =
     ++ (end_columns j j.ended ++ (column 9 (decimal j.throttled) ++ codes "\n")))
 
 -- the first job of a task is job 0
-abbrev pub task_lines : (ℕ → List ℕ) → TaskJobsView → List ℕ
-task_lines names t = numbered (job_line (names t.number) t.number) 0 t.jobs
+abbrev pub task_job_lines : (ℕ → List ℕ) → TaskJobsView → List ℕ
+task_job_lines names t = numbered_lines (job_line (names t.number) t.number) 0 t.jobs
 
 -- one domain: the names of its tasks by number, and their jobs
 pub record JobsView : Type 0 where
   pub names : ℕ → List ℕ
   pub tasks : List TaskJobsView
 
-abbrev pub view_of : DomainJobs → JobsView
-view_of d = record { names = named d.names.now; tasks = d.tasks.now }
+abbrev pub jobs_view_of : DomainJobs → JobsView
+jobs_view_of d = record { names = name_of_task d.names.now; tasks = d.tasks.now }
 
-abbrev pub domain_lines : JobsView → List ℕ
-domain_lines d = flat_map (task_lines d.names) d.tasks
+abbrev pub domain_job_lines : JobsView → List ℕ
+domain_job_lines d = flat_map (task_job_lines d.names) d.tasks
 
 abbrev pub jobs_text : List JobsView → List ℕ
-jobs_text domains = job_header ++ flat_map domain_lines domains
+jobs_text domains = job_header ++ flat_map domain_job_lines domains

@@ -6,10 +6,11 @@ use Rattle.run_figures.specs.declared.figures.Responses.{Responses}
 use Rattle.run_figures.specs.declared.figures.TaskFigures.{TaskFigures}
 use Rattle.run_figures.specs.declared.figures.CpuFigures.{CpuFigures}
 use Rattle.run_figures.specs.Laws.{AreShort}
-use Rattle.switch_text.specs.Names.{named}
+use Rattle.switch_text.specs.Names.{name_of_task}
 use Rattle.figure_text.specs.declared.summary.DomainSummary.{DomainSummary}
-use Rattle.figure_text.specs.Columns.{right, column, pid, share}
-use Rattle.run_figures.specs.Lines.{digits_in, numbered}
+use Rattle.draft.specs.Columns.{right, column}
+use Rattle.figure_text.specs.Columns.{pid, share}
+use Rattle.run_figures.specs.Lines.{digits_in, numbered_lines}
 
 -- one domain: the names of its tasks by number, their figures and those of its CPUs; the sum of
 -- bandwidths and the cap, in 1/2^20 of a CPU, and the time, in microseconds, at the end
@@ -21,9 +22,9 @@ pub record SummaryView : Type 0 where
   pub cap : ℕ
   pub time : ℕ
 
-abbrev pub view_of : DomainSummary → SummaryView
-view_of d = record {
-  names = named d.names.now;
+abbrev pub summary_view_of : DomainSummary → SummaryView
+summary_view_of d = record {
+  names = name_of_task d.names.now;
   tasks = d.tasks.now;
   cpus = d.cpus.now;
   bandwidth = d.bandwidth;
@@ -32,8 +33,8 @@ view_of d = record {
 }
 
 -- its times are short enough for shares of them
-abbrev pub IsShort : DomainSummary → Type 0
-IsShort d = AreShort d.tasks.now d.cpus.now
+abbrev pub IsShortSummary : DomainSummary → Type 0
+IsShortSummary d = AreShort d.tasks.now d.cpus.now
 
 -- a domain of a machine has at most 64 CPUs
 abbrev pub IsOfMachine : DomainSummary → Type 0
@@ -81,21 +82,21 @@ share_columns time t =
     ++ (share t.cpu_us time ++ share t.runtime t.period)
 
 -- who it is, and in which domain
-abbrev pub task_name : ℕ → List ℕ → ℕ → List ℕ
-task_name domain name number =
+abbrev pub name_columns : ℕ → List ℕ → ℕ → List ℕ
+name_columns domain name number =
     right 15 name ++ (column 6 (pid number) ++ column 3 (decimal domain))
 
-abbrev pub task_line : ℕ → SummaryView → TaskFigures → List ℕ
-task_line domain d t =
-    task_name domain (d.names t.number) t.number
+abbrev pub task_row : ℕ → SummaryView → TaskFigures → List ℕ
+task_row domain d t =
+    name_columns domain (d.names t.number) t.number
     ++ (job_columns t ++ (count_columns t ++ (share_columns d.time t ++ codes "\n")))
 
 abbrev pub tasks_of : ℕ → SummaryView → List ℕ
-tasks_of domain d = flat_map (task_line domain d) d.tasks
+tasks_of domain d = flat_map (task_row domain d) d.tasks
 
 -- the first domain is domain 0
-abbrev pub task_lines : List SummaryView → List ℕ
-task_lines domains = numbered tasks_of 0 domains
+abbrev pub task_rows : List SummaryView → List ℕ
+task_rows domains = numbered_lines tasks_of 0 domains
 
 -- ---- THE CPUS
 
@@ -113,14 +114,14 @@ cpu_line domain time cpu c =
     ++ (share c.busy_us time ++ (column 9 (decimal c.switches) ++ codes "\n")))
 
 -- the first CPU of a domain is this CPU of the machine
-abbrev pub cpus_of : ℕ → ℕ → SummaryView → List ℕ
-cpus_of domain cpu d = numbered (cpu_line domain d.time) cpu d.cpus
+abbrev pub cpu_rows : ℕ → ℕ → SummaryView → List ℕ
+cpu_rows domain cpu d = numbered_lines (cpu_line domain d.time) cpu d.cpus
 
 -- the first domain has the first CPUs of the machine, the second the next ones, and so on
 abbrev pub cpu_lines : ℕ → ℕ → List SummaryView → List ℕ
 cpu_lines domain cpu [] = []
 cpu_lines domain cpu (d ∷ ds) =
-    cpus_of domain cpu d ++ cpu_lines (domain + 1) (cpu + length d.cpus) ds
+    cpu_rows domain cpu d ++ cpu_lines (domain + 1) (cpu + length d.cpus) ds
 
 -- ---- THE DOMAINS
 
@@ -132,19 +133,19 @@ abbrev pub bandwidth_columns : SummaryView → List ℕ
 bandwidth_columns d =
     column 10 (decimal d.bandwidth) ++ (column 10 (decimal d.cap) ++ share d.bandwidth d.cap)
 
-abbrev pub domain_line : ℕ → SummaryView → List ℕ
-domain_line domain d =
+abbrev pub domain_row : ℕ → SummaryView → List ℕ
+domain_row domain d =
     right 7 (decimal domain)
     ++ (column 4 (decimal (length d.cpus))
     ++ (bandwidth_columns d ++ (column 12 (decimal d.time) ++ codes "\n")))
 
-abbrev pub domain_lines : List SummaryView → List ℕ
-domain_lines domains = numbered domain_line 0 domains
+abbrev pub domain_rows : List SummaryView → List ℕ
+domain_rows domains = numbered_lines domain_row 0 domains
 
 -- ---- ALL
 
 abbrev pub summary_text : List SummaryView → List ℕ
 summary_text domains =
-    task_header ++ (task_lines domains
+    task_header ++ (task_rows domains
     ++ (cpu_header ++ (cpu_lines 0 0 domains
-    ++ (domain_header ++ domain_lines domains))))
+    ++ (domain_header ++ domain_rows domains))))

@@ -4,6 +4,7 @@ ghost use Rattle.std.specs.Prelude.{◌≡◌, ◌<◌, ◌≤◌, ◌^◌, code
 ghost use Rattle.std.specs.Fmt.{signed_decimal};
 ghost use Rattle.figure_text.specs.Columns as columns;
 ghost use Rattle.run_figures.specs.Lines.{digits_in};
+ghost use Rattle.draft.specs.Columns.{right, column};
 ghost use Rattle.draft.specs.Draft.{Adds};
 
 use draft::Draft;
@@ -12,7 +13,7 @@ use itoa::Buffer;
 /// A text at the right of a column.
 pub(crate) fn put_right(out: &mut Draft, width: usize, text: &[u8])
     requires { width ≤ 15 }
-    ensures { Adds out.old out.new (columns.right width text.now) }
+    ensures { Adds out.old out.new (right width text.now) }
 {
     out.fill(b' ', width.saturating_sub(text.len()));
     out.put(text);
@@ -21,7 +22,7 @@ pub(crate) fn put_right(out: &mut Draft, width: usize, text: &[u8])
 /// A space, and a text at the right of a column.
 pub(crate) fn put_column(out: &mut Draft, width: usize, text: &[u8])
     requires { width ≤ 15 }
-    ensures { Adds out.old out.new (columns.column width text.now) }
+    ensures { Adds out.old out.new (column width text.now) }
 {
     out.put(b" ");
     put_right(out, width, text);
@@ -30,7 +31,7 @@ pub(crate) fn put_column(out: &mut Draft, width: usize, text: &[u8])
 /// A space, and a number at the right of a column.
 pub(crate) fn put_number(out: &mut Draft, width: usize, n: u64)
     requires { width ≤ 15 }
-    ensures { Adds out.old out.new (columns.column width (decimal n)) }
+    ensures { Adds out.old out.new (column width (decimal n)) }
 {
     let mut buffer = Buffer::new();
     put_column(out, width, buffer.format(n).as_bytes());
@@ -39,7 +40,7 @@ pub(crate) fn put_number(out: &mut Draft, width: usize, n: u64)
 /// The same of a number that may be greater.
 pub(crate) fn put_wide(out: &mut Draft, width: usize, n: u128)
     requires { width ≤ 15 }
-    ensures { Adds out.old out.new (columns.column width (decimal n)) }
+    ensures { Adds out.old out.new (column width (decimal n)) }
 {
     let mut buffer = Buffer::new();
     put_column(out, width, buffer.format(n).as_bytes());
@@ -48,7 +49,7 @@ pub(crate) fn put_wide(out: &mut Draft, width: usize, n: u128)
 /// The same of a number that may be below 0.
 pub(crate) fn put_signed(out: &mut Draft, width: usize, n: i128)
     requires { width ≤ 15 }
-    ensures { Adds out.old out.new (columns.column width (signed_decimal n)) }
+    ensures { Adds out.old out.new (column width (signed_decimal n)) }
 {
     let mut buffer = Buffer::new();
     put_column(out, width, buffer.format(n).as_bytes());
@@ -57,14 +58,14 @@ pub(crate) fn put_signed(out: &mut Draft, width: usize, n: i128)
 /// A space, and a dash at the right of a column.
 pub(crate) fn put_dash(out: &mut Draft, width: usize)
     requires { width ≤ 15 }
-    ensures { Adds out.old out.new (columns.column width (codes "-")) }
+    ensures { Adds out.old out.new (column width (codes "-")) }
 {
     put_column(out, width, b"-");
 }
 
 /// The number that is shown for a task.
 pub(crate) fn put_pid(out: &mut Draft, number: u32)
-    ensures { Adds out.old out.new (columns.column 6 (columns.pid number)) }
+    ensures { Adds out.old out.new (column 6 (columns.pid number)) }
 {
     put_number(out, 6, 1000 + u64::from(number));
 }

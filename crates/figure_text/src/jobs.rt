@@ -1,7 +1,7 @@
 //! The text of jobs.
 
 ghost use Rattle.std.specs.Prelude.{map};
-ghost use Rattle.run_figures.specs.Lines.{numbered};
+ghost use Rattle.run_figures.specs.Lines.{numbered_lines};
 ghost use Rattle.draft.specs.Draft.{Adds};
 ghost use Rattle.figure_text.specs.Jobs as texts;
 
@@ -59,7 +59,7 @@ fn put_job(out: &mut Draft, name: &[u8], number: u32, place: usize, job: &Job)
 
 /// The lines of a task's jobs.
 fn put_task(out: &mut Draft, name: &[u8], number: u32, jobs: &[Job])
-    ensures { Adds out.old out.new (numbered (texts.job_line name.now number) 0 jobs.now) }
+    ensures { Adds out.old out.new (numbered_lines (texts.job_line name.now number) 0 jobs.now) }
 {
     for (place, job) in jobs.iter().enumerate() {
         put_job(out, name, number, place, job);
@@ -67,7 +67,7 @@ fn put_task(out: &mut Draft, name: &[u8], number: u32, jobs: &[Job])
 }
 
 fn put_domain(out: &mut Draft, domain: &DomainJobs<'_>)
-    ensures { Adds out.old out.new (texts.domain_lines (texts.view_of domain.now)) }
+    ensures { Adds out.old out.new (texts.domain_job_lines (texts.jobs_view_of domain.now)) }
 {
     for task in domain.tasks {
         put_task(
@@ -82,7 +82,7 @@ fn put_domain(out: &mut Draft, domain: &DomainJobs<'_>)
 /// Puts the jobs of all domains behind a text: a header, and a line for each job, by domain, by
 /// task, and in their order.
 pub fn put_jobs(out: &mut Draft, domains: &[DomainJobs<'_>])
-    ensures { Adds out.old out.new (texts.jobs_text (map texts.view_of domains.now)) }
+    ensures { Adds out.old out.new (texts.jobs_text (map texts.jobs_view_of domains.now)) }
 {
     out.put(
         b"#          task    pid    job     release         end    response       slack throttled\n",

@@ -2,7 +2,7 @@
 
 ghost use Rattle.std.specs.Prelude.{◌<◌, ◌≤◌, ◌+◌, ◌^◌, All, map, length, decimal};
 ghost use Rattle.draft.specs.Draft.{Adds};
-ghost use Rattle.figure_text.specs.Columns.{right};
+ghost use Rattle.draft.specs.Columns.{right};
 ghost use Rattle.figure_text.specs.Summary as texts;
 
 use crate::columns::{
@@ -94,7 +94,7 @@ fn put_shares(out: &mut Draft, task: &TaskFigures, time: u64)
 
 /// The columns of who it is, and in which domain.
 fn put_task_name(out: &mut Draft, domain: usize, name: &[u8], number: u32)
-    ensures { Adds out.old out.new (texts.task_name domain name.now number) }
+    ensures { Adds out.old out.new (texts.name_columns domain name.now number) }
 {
     put_right(out, 15, name);
     put_pid(out, number);
@@ -103,7 +103,7 @@ fn put_task_name(out: &mut Draft, domain: usize, name: &[u8], number: u32)
 
 fn put_task(out: &mut Draft, domain: usize, of: &DomainSummary<'_>, task: &TaskFigures)
     requires { task.now.cpu_us < 2 ^ 108 }
-    ensures { Adds out.old out.new (texts.task_line domain (texts.view_of of.now) task.now) }
+    ensures { Adds out.old out.new (texts.task_row domain (texts.summary_view_of of.now) task.now) }
 {
     put_task_name(out, domain, name_of(of.names, task.number), task.number);
     put_jobs(out, task);
@@ -115,7 +115,7 @@ fn put_task(out: &mut Draft, domain: usize, of: &DomainSummary<'_>, task: &TaskF
 /// The lines of a domain's tasks.
 fn put_tasks_of(out: &mut Draft, domain: usize, of: &DomainSummary<'_>)
     requires { All (λ t. t.cpu_us < 2 ^ 108) of.now.tasks.now }
-    ensures { Adds out.old out.new (texts.tasks_of domain (texts.view_of of.now)) }
+    ensures { Adds out.old out.new (texts.tasks_of domain (texts.summary_view_of of.now)) }
 {
     for task in of.tasks {
         put_task(out, domain, of, task);
@@ -123,8 +123,8 @@ fn put_tasks_of(out: &mut Draft, domain: usize, of: &DomainSummary<'_>)
 }
 
 fn put_tasks(out: &mut Draft, domains: &[DomainSummary<'_>])
-    requires { All texts.IsShort domains.now }
-    ensures { Adds out.old out.new (texts.task_lines (map texts.view_of domains.now)) }
+    requires { All texts.IsShortSummary domains.now }
+    ensures { Adds out.old out.new (texts.task_rows (map texts.summary_view_of domains.now)) }
 {
     for (number, domain) in domains.iter().enumerate() {
         put_tasks_of(out, number, domain);
@@ -156,7 +156,7 @@ fn put_cpu(out: &mut Draft, domain: usize, time: u64, cpu: usize, figures: &CpuF
 fn put_cpus_of(out: &mut Draft, domain: usize, base: usize, of: &DomainSummary<'_>)
     requires short { All (λ c. c.busy_us < 2 ^ 108) of.now.cpus.now }
     requires few { base + length of.now.cpus.now < 2 ^ 64 }
-    ensures { Adds out.old out.new (texts.cpus_of domain base (texts.view_of of.now)) }
+    ensures { Adds out.old out.new (texts.cpu_rows domain base (texts.summary_view_of of.now)) }
 {
     for (place, figures) in of.cpus.iter().enumerate() {
         put_cpu(out, domain, of.time, base + place, figures);
@@ -164,10 +164,10 @@ fn put_cpus_of(out: &mut Draft, domain: usize, base: usize, of: &DomainSummary<'
 }
 
 fn put_cpus(out: &mut Draft, domains: &[DomainSummary<'_>])
-    requires short { All texts.IsShort domains.now }
+    requires short { All texts.IsShortSummary domains.now }
     requires few { All texts.IsOfMachine domains.now }
     requires count { length domains.now ≤ 8 }
-    ensures { Adds out.old out.new (texts.cpu_lines 0 0 (map texts.view_of domains.now)) }
+    ensures { Adds out.old out.new (texts.cpu_lines 0 0 (map texts.summary_view_of domains.now)) }
 {
     let mut base = 0;
     for (number, domain) in domains.iter().enumerate() {
@@ -187,7 +187,7 @@ fn put_first(out: &mut Draft, n: usize)
 }
 
 fn put_bandwidth(out: &mut Draft, domain: &DomainSummary<'_>)
-    ensures { Adds out.old out.new (texts.bandwidth_columns (texts.view_of domain.now)) }
+    ensures { Adds out.old out.new (texts.bandwidth_columns (texts.summary_view_of domain.now)) }
 {
     put_number(out, 10, domain.bandwidth);
     put_number(out, 10, domain.cap);
@@ -195,7 +195,7 @@ fn put_bandwidth(out: &mut Draft, domain: &DomainSummary<'_>)
 }
 
 fn put_domain(out: &mut Draft, number: usize, domain: &DomainSummary<'_>)
-    ensures { Adds out.old out.new (texts.domain_line number (texts.view_of domain.now)) }
+    ensures { Adds out.old out.new (texts.domain_row number (texts.summary_view_of domain.now)) }
 {
     put_first(out, number);
     put_number(out, 4, domain.cpus.len() as u64);
@@ -205,7 +205,7 @@ fn put_domain(out: &mut Draft, number: usize, domain: &DomainSummary<'_>)
 }
 
 fn put_domains(out: &mut Draft, domains: &[DomainSummary<'_>])
-    ensures { Adds out.old out.new (texts.domain_lines (map texts.view_of domains.now)) }
+    ensures { Adds out.old out.new (texts.domain_rows (map texts.summary_view_of domains.now)) }
 {
     for (number, domain) in domains.iter().enumerate() {
         put_domain(out, number, domain);
@@ -216,10 +216,10 @@ fn put_domains(out: &mut Draft, domains: &[DomainSummary<'_>])
 /// the CPUs of the machine, counted through, and one of the domains. Times are in microseconds,
 /// shares in hundredths of a per cent, rounded down.
 pub fn put_summary(out: &mut Draft, domains: &[DomainSummary<'_>])
-    requires short { All texts.IsShort domains.now }
+    requires short { All texts.IsShortSummary domains.now }
     requires machine { All texts.IsOfMachine domains.now }
     requires few { length domains.now ≤ 8 }
-    ensures { Adds out.old out.new (texts.summary_text (map texts.view_of domains.now)) }
+    ensures { Adds out.old out.new (texts.summary_text (map texts.summary_view_of domains.now)) }
 {
     out.put(
         b"#          task    pid dom    jobs    late   resp_min   resp_avg   resp_max   slack_min throttled throttled_us preempted migrated       cpu_us   used%    has%\n",

@@ -7,9 +7,9 @@ use Rattle.domain_run.specs.declared.happened.Happened.{Happened}
 use Rattle.domain_run.specs.Switch.{Switch}
 use Rattle.domain_run.specs.Domain.{Domain}
 use Rattle.domain_run.specs.Log.{LogView, Tells}
-use Rattle.domain_run.specs.Passing.{behind, without_switches}
+use Rattle.domain_run.specs.Passing.{with_past, without_switches}
 use Rattle.domain_run.specs.Sound.{IsDomain, IsSwitch}
-use Rattle.domain_run.specs.Switches.{is_before}
+use Rattle.domain_run.specs.Switches.{is_switch_before}
 use Rattle.domain_run.specs.Tick.{ticks}
 use Rattle.domain_run.specs.Happened.{told_by_ticks}
 use Rattle.domain_run.proofs.CallerLemmas.{ticks_time, ticks_cpus, ticks_behind, told_by_ticks_behind, before_time, AllPairs-append}
@@ -17,24 +17,24 @@ use Rattle.jump_run.proofs.CallerLemmas.{ticks_more, told_more}
 use Rattle.run_figures.specs.Accounting.{AccountingView, IsNextPiece, with_piece}
 use Rattle.run_figures.specs.Runs.{AreTasks}
 use Rattle.run_figures.specs.declared.run.Admitted.{Admitted}
-use Rattle.heard_run.specs.Heard.{unheard, heard_after, heard_of}
+use Rattle.heard_run.specs.Heard.{nothing_heard, heard_after, heard_of}
 use Rattle.heard_run.proofs.Bounded.{few_switches, ticks_few, told_few}
 use Rattle.heard_run.proofs.Span.{IsWithin, told_within, made_later}
 
 -- ---- so many ticks, and then so many of a domain that has forgotten its switches
 
-behind_itself : (d : Domain) → behind d.switches (without_switches d) ≡ d
+behind_itself : (d : Domain) → with_past d.switches (without_switches d) ≡ d
 behind_itself d = ap (λ (ss : List Switch). record d { switches = ss }) (append-nil d.switches)
 
 -- the whole run, by the domain before the piece and that behind it
-joined : (k m : ℕ) (d e f : Domain) → e ≡ without_switches (ticks k d) → f ≡ ticks m e → ticks (k + m) d ≡ behind (ticks k d).switches f
+joined : (k m : ℕ) (d e f : Domain) → e ≡ without_switches (ticks k d) → f ≡ ticks m e → ticks (k + m) d ≡ with_past (ticks k d).switches f
 joined k m d e f is made =
     let b = ticks k d in
     sym (ticks_more k m d)
     ∙ ap (ticks m) (sym (behind_itself b))
     ∙ ticks_behind m b.switches (without_switches b)
-    ∙ ap (λ (x : Domain). behind b.switches (ticks m x)) (sym is)
-    ∙ ap (behind b.switches) (sym made)
+    ∙ ap (λ (x : Domain). with_past b.switches (ticks m x)) (sym is)
+    ∙ ap (with_past b.switches) (sym made)
 
 told_joined : (k m : ℕ) (d e : Domain) → e ≡ without_switches (ticks k d) → told_by_ticks k d ++ told_by_ticks m e ≡ told_by_ticks (k + m) d
 told_joined k m d e is =
@@ -52,7 +52,7 @@ ticks_used (suc n) d = ticks_used n d
 pub record IsSeen (d : Domain) : Type 0 where
   pub past : All (λ s. s.time < d.time) d.switches
   pub inside : All (λ s. s.cpu < d.cpus) d.switches
-  pub rising : AllPairs (λ a b. IsTrue (is_before a b)) d.switches
+  pub rising : AllPairs (λ a b. IsTrue (is_switch_before a b)) d.switches
 
 -- those of a domain
 pub seen : (d : Domain) → IsDomain d → IsSeen d
@@ -63,11 +63,11 @@ seen d is = record {
 }
 
 -- and with more, which were made later, behind them
-seen_behind : (b f : Domain) → IsSeen b → IsSeen f → b.time ≤ f.time → b.cpus ≡ f.cpus → All (λ s. b.time ≤ s.time) f.switches → IsSeen (behind b.switches f)
+seen_behind : (b f : Domain) → IsSeen b → IsSeen f → b.time ≤ f.time → b.cpus ≡ f.cpus → All (λ s. b.time ≤ s.time) f.switches → IsSeen (with_past b.switches f)
 seen_behind b f one two later cpus from = record {
   past = All-append (λ (s : Switch). s.time < f.time) b.switches f.switches (All-weaker (λ (s : Switch). s.time < b.time) (λ (s : Switch). s.time < f.time) (λ s h. omega (arith, h, later)) b.switches one.past) two.past;
   inside = All-append (λ (s : Switch). s.cpu < f.cpus) b.switches f.switches (All-weaker (λ (s : Switch). s.cpu < b.cpus) (λ (s : Switch). s.cpu < f.cpus) (λ s h. omega (arith, h, cpus)) b.switches one.inside) two.inside;
-  rising = AllPairs-append (λ (x y : Switch). IsTrue (is_before x y)) b.switches f.switches one.rising two.rising (λ i j x h k. before_time (get_or b.switches i x) (get_or f.switches j x) (omega (arith, one.past i x h, from j x k)));
+  rising = AllPairs-append (λ (x y : Switch). IsTrue (is_switch_before x y)) b.switches f.switches one.rising two.rising (λ i j x h k. before_time (get_or b.switches i x) (get_or f.switches j x) (omega (arith, one.past i x h, from j x k)));
 }
 
 seen_few : (d : Domain) → IsSeen d → d.cpus ≤ 64 → length d.switches ≤ d.time * 64
@@ -75,7 +75,7 @@ seen_few d is cpus = few_switches d.time d.switches (All-weaker (λ (s : Switch)
 
 -- ---- THE FIRST PIECE: the switches so far
 
-pub first_piece : (n : ℕ) (d : Domain) → IsDomain d → d.time + n ≤ 2 ^ 42 → IsNextPiece (unheard n d) [] d.switches
+pub first_piece : (n : ℕ) (d : Domain) → IsDomain d → d.time + n ≤ 2 ^ 42 → IsNextPiece (nothing_heard n d) [] d.switches
 first_piece n d is early =
     let s = seen d is in
     record {
@@ -172,11 +172,11 @@ heard_more n k m d e f a log now last is made wanted empty =
     }
 
 -- as the code has it
-pub first_heard : (n : ℕ) (d e : Domain) (was a : AccountingView) (hs : List Happened) (log : LogView) → IsDomain d → was ≡ unheard n d → hs ≡ [] → a ≡ with_piece was hs d.switches → e ≡ without_switches d
+pub first_heard : (n : ℕ) (d e : Domain) (was a : AccountingView) (hs : List Happened) (log : LogView) → IsDomain d → was ≡ nothing_heard n d → hs ≡ [] → a ≡ with_piece was hs d.switches → e ≡ without_switches d
     → log.wanted ≡ true → log.happened ≡ [] → IsHeard n 0 d e a log
 first_heard n d e was a hs log is new none heard left wanted empty = record {
   state = left;
-  heard = heard ∙ ap (λ (x : AccountingView). with_piece x hs d.switches) new ∙ ap (λ (gs : List Happened). with_piece (unheard n d) gs d.switches) none;
+  heard = heard ∙ ap (λ (x : AccountingView). with_piece x hs d.switches) new ∙ ap (λ (gs : List Happened). with_piece (nothing_heard n d) gs d.switches) none;
   switches = seen d is;
   wanted = wanted;
   empty = empty;

@@ -6,9 +6,10 @@ use Rattle.edf_pick.specs.Places.{Places, placed}
 use Rattle.domain_run.specs.declared.task.Task.{Task}
 use Rattle.domain_run.specs.declared.happened.Happened.{Happened}
 use Rattle.domain_run.specs.Switch.{Switch}
-use Rattle.domain_run.specs.Switches.{same_occupant, state_of, switches_from}
+use Rattle.edf_pick.specs.Moves.{same_occupant}
+use Rattle.domain_run.specs.Switches.{prev_state_of, switches_from}
 use Rattle.domain_run.specs.Domain.{Domain}
-use Rattle.domain_run.specs.Tick.{candidates, prepared, begun, ticks}
+use Rattle.domain_run.specs.Tick.{candidates, prepared, with_tick_begun, ticks}
 use Rattle.domain_run.specs.Happened.{told_by_beginning, told_by_end, told_by_tick, told_by_ticks}
 use Rattle.domain_run.proofs.CallerLemmas.{ticks_time, IsBeginning, IsEnd, beginning_is, ending_is}
 
@@ -18,9 +19,9 @@ IsWithin low high h = (low ≤ h.time) × (h.time ≤ high)
 
 tick_within : (low : ℕ) (d : Domain) → low ≤ d.time → All (IsWithin low (d.time + 1)) (told_by_tick d)
 tick_within low d from =
-    All-append (IsWithin low (d.time + 1)) (told_by_beginning d) (told_by_end (begun d))
+    All-append (IsWithin low (d.time + 1)) (told_by_beginning d) (told_by_end (with_tick_begun d))
     (All-weaker (IsBeginning d.time) (IsWithin low (d.time + 1)) (λ h is. (omega (arith, is.0, from), omega (arith, is.0))) (told_by_beginning d) (beginning_is d))
-    (All-weaker (IsEnd (d.time + 1)) (IsWithin low (d.time + 1)) (λ h is. (omega (arith, is.0, from), omega (arith, is.0))) (told_by_end (begun d)) (ending_is (begun d)))
+    (All-weaker (IsEnd (d.time + 1)) (IsWithin low (d.time + 1)) (λ h is. (omega (arith, is.0, from), omega (arith, is.0))) (told_by_end (with_tick_begun d)) (ending_is (with_tick_begun d)))
 
 -- what ticks tell is not before the first of them, and not behind the end of the last
 pub told_within : (n : ℕ) (d : Domain) → All (IsWithin d.time (d.time + n)) (told_by_ticks n d)
@@ -39,7 +40,7 @@ switches_at time tasks cpu (p ∷ before) [] = All-nil _
 switches_at time tasks cpu (p ∷ before) (n ∷ after) =
     let P : Switch → Type 0 = λ s. s.time ≡ time in
     let more = switches_from time tasks (cpu + 1) before after in
-    let s : Switch = record { time = time; prev = p; next = n; cpu = cpu; state = state_of tasks p } in
+    let s : Switch = record { time = time; prev = p; next = n; cpu = cpu; state = prev_state_of tasks p } in
     let rest : All P more = switches_at time tasks (cpu + 1) before after in
     elim (same_occupant p n) as (λ b. All P (cond b more (s ∷ more))) [
       | true ↦ rest

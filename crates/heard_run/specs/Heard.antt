@@ -8,8 +8,8 @@ use Rattle.run_figures.specs.Accounting.{AccountingView}
 
 -- a domain whose run is to end after so many ticks more, of which nothing was heard yet: its tasks
 -- are those that were ever admitted
-abbrev pub unheard : ℕ → Domain → AccountingView
-unheard n d = record {
+abbrev pub nothing_heard : ℕ → Domain → AccountingView
+nothing_heard n d = record {
   cpus = d.cpus;
   time = d.time + n;
   tasks = d.used;

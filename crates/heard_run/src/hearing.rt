@@ -6,7 +6,7 @@ ghost use Rattle.domain_run.specs.Keys.{AreKept};
 ghost use Rattle.domain_run.specs.Passing.{without_switches};
 ghost use Rattle.run_figures.specs.Accounting.{IsNextPiece, with_piece};
 ghost use Rattle.run_figures.specs.Runs.{AreTasks};
-ghost use Rattle.heard_run.specs.Heard.{unheard, heard_after};
+ghost use Rattle.heard_run.specs.Heard.{nothing_heard, heard_after};
 
 use domain_run::{Log, NoMemory, State};
 use jump_run::{Done, advance_piece};
@@ -48,7 +48,7 @@ fn tasks_of(alloc: Global, state: &State) -> Result<Vec<Admitted>, NoMemory>
 /// 12 [`NoMemory`]: a growth was refused; nothing is left.
 pub fn open_heard(alloc: Global, state: &State, n: u64) -> Result<Accounting, NoMemory>
     requires { state.now.time + n ≤ 2 ^ 42 }
-    ensures { IfOk result (λ a. a ≡ unheard n state.now) }
+    ensures { IfOk result (λ a. a ≡ nothing_heard n state.now) }
 {
     let tasks = tasks_of(alloc, state)?;
     Accounting::open(alloc, state.cpus(), state.now() + n, &tasks)
@@ -77,7 +77,7 @@ fn hear(state: &mut State, log: &mut Log, accounting: &mut Accounting)
 /// others keep number, bandwidth and order.
 pub fn advance_heard(alloc: Global, state: &mut State, n: u64, accounting: &mut Accounting) -> Done
     requires early { state.old.time + n ≤ 2 ^ 42 }
-    requires new { accounting.old ≡ unheard n state.old }
+    requires new { accounting.old ≡ nothing_heard n state.old }
     ensures state { state.new ≡ without_switches (ticks_of result.ticks state.old) }
     ensures most { result.ticks ≤ n }
     ensures keys { AreKept state.old.tasks state.new.tasks }

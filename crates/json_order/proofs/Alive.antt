@@ -10,7 +10,7 @@ use Rattle.std.proofs.lemmas.Str.{encode_ascii}
 use Rattle.json_order.specs.Json.{Json, null, number, string, array, object, no_items, item, no_members, member}
 use Rattle.json_order.specs.Seen.{items_with, members_with}
 use Rattle.json_order.specs.Grammar.{Rules, plain, AreCharacters, has_key, may_follow}
-use Rattle.json_order.specs.private.Machine.{Entries, keys, Place, at_value, at_first_item, behind, at_first_key, at_next_key, in_key, behind_key, in_string, in_number, in_word, Frame, in_list, in_object, State, state, IsFine, IsFinePlace}
+use Rattle.json_order.specs.private.Machine.{Entries, entry_keys, Place, at_value, at_first_item, behind, at_first_key, at_next_key, in_key, behind_key, in_string, in_number, in_word, Frame, in_list, in_object, State, state, IsFine, IsFinePlace}
 use Rattle.json_order.specs.declared.place.Escape.{Escape}
 use Rattle.json_order.specs.declared.place.Escape.TheVariants.{Outside, Slash, Unit0, Unit1, Unit2, Unit3, High, HighSlash, Low0, Low1, Low2, Low3}
 use Rattle.json_order.specs.declared.place.Part.{Part}
@@ -232,12 +232,12 @@ follows r ks key h = go r.repeats
 
 key_alive : (r : Rules) (es : Entries) (text : List ℕ) (e : Escape) (fs : List Frame) → IsFine e → Alive r (state (in_key es text e) fs)
 key_alive r es text e fs fine =
-    let s = string_ends e (suc (total (keys es))) fine in
+    let s = string_ends e (suc (total (entry_keys es))) fine in
     let whole = text ++ encode_utf8_all s.0 in
     let b = behind_key_alive r es whole fs in
     let w = s.2 b.0 b.2 in
     let l = length-append text (encode_utf8_all s.0) in
-    (w.0, b.1, w.1, (s.0, b.0, b.3.0, b.3.1, w.2, follows r (keys es) whole (omega (arith, s.1)), b.3.2, b.3.3, b.3.4))
+    (w.0, b.1, w.1, (s.0, b.0, b.3.0, b.3.1, w.2, follows r (entry_keys es) whole (omega (arith, s.1)), b.3.2, b.3.3, b.3.4))
 
 next_key_alive : (r : Rules) (es : Entries) (fs : List Frame) → Alive r (state (at_next_key es) fs)
 next_key_alive r es fs =

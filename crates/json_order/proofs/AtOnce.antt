@@ -14,7 +14,7 @@ use Rattle.json_order.specs.Json.{Json}
 use Rattle.json_order.specs.Grammar.{is_plain}
 use Rattle.json_order.specs.Fault.{strict}
 use Rattle.json_order.specs.private.Machine.{Entries, Place, Frame, State, state, run_on, run, in_string, in_key, in_number, in_word, quote_step, going, part_step}
-use Rattle.json_order.specs.private.AtOnce.{MovesPlain, Takes, TakesQuoted, parts_after, is_in_digits}
+use Rattle.json_order.specs.private.AtOnce.{MovesPlain, TakesTo, TakesQuoted, parts_after, is_in_digits}
 use Rattle.json_order.specs.declared.fault.JsonKind.{JsonKind}
 use Rattle.json_order.specs.declared.place.Escape.{Escape}
 use Rattle.json_order.specs.declared.place.Escape.TheVariants.{Outside}
@@ -81,10 +81,10 @@ moves_plain old new bytes after n u l low h e f =
       e ∙ ap (λ x. old ++ x) (sym v.1.1),
     )
 
-takes_string : (old new before after : List ℕ) → MovesPlain old new before after → Takes (in_string old Outside) (in_string new Outside) before after
+takes_string : (old new before after : List ℕ) → MovesPlain old new before after → TakesTo (in_string old Outside) (in_string new Outside) before after
 takes_string old new before after m = (m.0, m.1, λ fs. plain_string m.0 old fs m.2 ∙ ap (λ x. Ok (state (in_string x Outside) fs)) (sym m.3))
 
-takes_key : (es : Entries) (old new before after : List ℕ) → MovesPlain old new before after → Takes (in_key es old Outside) (in_key es new Outside) before after
+takes_key : (es : Entries) (old new before after : List ℕ) → MovesPlain old new before after → TakesTo (in_key es old Outside) (in_key es new Outside) before after
 takes_key es old new before after m = (m.0, m.1, λ fs. plain_key es m.0 old fs m.2 ∙ ap (λ x. Ok (state (in_key es x Outside) fs)) (sym m.3))
 
 -- ANY CHARACTERS OF A STRING
@@ -96,7 +96,7 @@ pub run_append : (o : Result State JsonKind) (xs ys : List ℕ) → run strict o
 run_append o [] ys = refl
 run_append o (x ∷ xs) ys = run_append (run_on strict o x) xs ys
 
-takes_more : (p q r : Place) (before mid after : List ℕ) → Takes p q before mid → Takes q r mid after → Takes p r before after
+takes_more : (p q r : Place) (before mid after : List ℕ) → TakesTo p q before mid → TakesTo q r mid after → TakesTo p r before after
 takes_more p q r before mid after t u = (
   t.0 ++ u.0,
   t.1 ∙ ap (λ x. encode_utf8_all t.0 ++ x) u.1 ∙ sym (append_assoc (encode_utf8_all t.0) (encode_utf8_all u.0) after) ∙ ap (λ x. x ++ after) (sym (encodes-append t.0 u.0)),
@@ -177,7 +177,7 @@ number_ascii (c ∷ cs) p q h = go (part_step p c) (part_goes p c) h (λ r e. nu
 ascii : (cs : List ℕ) (p q : Part) → parts_after p cs ≡ Some q → IsAscii cs
 ascii cs p q h = IsAscii-from_all cs (All-from_recursion (λ c. c < 128) cs (number_ascii cs p q h))
 
-pub takes_number : (old new bytes after : List ℕ) (n : ℕ) (p q : Part) → parts_after p (take n bytes) ≡ Some q → new ≡ old ++ take n bytes → after ≡ drop n bytes → Takes (in_number old p) (in_number new q) bytes after
+pub takes_number : (old new bytes after : List ℕ) (n : ℕ) (p q : Part) → parts_after p (take n bytes) ≡ Some q → new ≡ old ++ take n bytes → after ≡ drop n bytes → TakesTo (in_number old p) (in_number new q) bytes after
 takes_number old new bytes after n p q h e f =
     let small = encodes-IsAscii (take n bytes) (ascii (take n bytes) p q h) in (
       take n bytes,

@@ -7,8 +7,8 @@ use Rattle.std.proofs.lemmas.Str.{encodes-append, encode_ascii, cons_from_encode
 use Rattle.std.proofs.Math.Utf8.{low_scalar}
 use Rattle.json_order.specs.Json.{Json}
 use Rattle.json_order.specs.Grammar.{Rules, IsText}
-use Rattle.json_order.specs.Fault.{strict, deeper, repeating, Spells, Begins, IsLongestFront, IsFault}
-use Rattle.json_order.specs.private.Machine.{State, move, judged, step, start, run, ended, IsFinePlace}
+use Rattle.json_order.specs.Fault.{strict, deeper, repeating, Spells, BeginsText, IsLongestFront, IsJsonFault}
+use Rattle.json_order.specs.private.Machine.{State, move, under_rules, step, start, run, ended_value, IsFinePlace}
 use Rattle.json_order.specs.declared.fault.JsonKind.{JsonKind}
 use Rattle.json_order.specs.declared.fault.JsonKind.TheVariants.{Syntax, End, Depth, Duplicate, Utf8, Memory}
 use Rattle.json_order.proofs.Strings.{lt_from, lt_not}
@@ -41,7 +41,7 @@ front_scalars bytes ys z (cs, (s, e)) q =
 
 -- WHAT BEGINS A TEXT
 
-pub begins_from : (r : Rules) (ys : List ℕ) (u : State) → run r (Ok start) ys ≡ Ok u → all_scalars ys ≡ true → Begins r (encode_utf8_all ys)
+pub begins_from : (r : Rules) (ys : List ℕ) (u : State) → run r (Ok start) ys ≡ Ok u → all_scalars ys ≡ true → BeginsText r (encode_utf8_all ys)
 begins_from r ys u h s =
     let f = front_of_run r ys u h in
     (encode_utf8_all f.0, f.1, (ys ++ f.0, scalars_append ys f.0 s f.2, sym (encodes-append ys f.0), f.3))
@@ -78,7 +78,7 @@ same_first c d x y e = go (nat_lt c 128) (nat_lt d 128) refl refl
 alike : (r : Rules) (s : State) (c d : ℕ) (k : JsonKind) → IsFinePlace s.place → step r s c ≡ Err k → (c ≡ d) ⊎ ((128 ≤ c) × (128 ≤ d)) → (k' : JsonKind) × (step r s d ≡ Err k')
 alike r s c d k f h (inl e) = (k, subst (λ x. step r s x ≡ Err k) e h)
 alike r s c d k f h (inr w) =
-    elim (far s.place s.frames f) [ inl all ↦ absurd (let a = all c w.0 in let g : Ok a.0 ≡ Err k = sym (ap (judged r) a.1) ∙ h in cc) | inr none ↦ (Syntax, ap (judged r) (none d w.1)) ]
+    elim (far s.place s.frames f) [ inl all ↦ absurd (let a = all c w.0 in let g : Ok a.0 ≡ Err k = sym (ap (under_rules r) a.1) ∙ h in cc) | inr none ↦ (Syntax, ap (under_rules r) (none d w.1)) ]
 
 -- the front of some bytes has their first one
 front_some : (xs z : List ℕ) (j : ℕ) → 0 < length xs → 0 < j → (rest : List ℕ) → [] ≡ take j (xs ++ z) ++ rest → ⊥
@@ -93,7 +93,7 @@ front_first (x ∷ xs) z (suc j) h p rest = refl
 
 -- no longer front begins a text
 pub refused_front : (r : Rules) (ys : List ℕ) (c : ℕ) (s : State) (k : JsonKind) → run r (Ok start) ys ≡ Ok s → step r s c ≡ Err k → (bytes z : List ℕ) → bytes ≡ encode_utf8_all ys ++ (encode_utf8 c ++ z) →
-    (m : ℕ) → length (encode_utf8_all ys) < m → ¬ (Begins r (take m bytes))
+    (m : ℕ) → length (encode_utf8_all ys) < m → ¬ (BeginsText r (take m bytes))
 refused_front r ys c s k h g bytes z q m l (rest, v, (cs, sc, e, text)) =
     let n = length (encode_utf8_all ys) in
     let split' : take m bytes ≡ encode_utf8_all ys ++ take (m - n) (encode_utf8 c ++ z) =
@@ -126,7 +126,7 @@ front_is bytes ys c z a = ap (take (length (encode_utf8_all ys))) a.here ∙ tak
 longest_front : (bytes ys : List ℕ) (c : ℕ) (z : List ℕ) (s : State) (k : JsonKind) → At bytes ys c z → Stuck ys c s k → IsLongestFront bytes (length (encode_utf8_all ys))
 longest_front bytes ys c z s k a h = record {
   within = let l = ap length a.here ∙ length-append (encode_utf8_all ys) (encode_utf8 c ++ z) in omega arith;
-  begins = subst (λ x. Begins strict x) (sym (front_is bytes ys c z a)) (begins_from strict ys s h.until (front_scalars bytes ys (encode_utf8 c ++ z) a.utf8 a.here));
+  begins = subst (λ x. BeginsText strict x) (sym (front_is bytes ys c z a)) (begins_from strict ys s h.until (front_scalars bytes ys (encode_utf8 c ++ z) a.utf8 a.here));
   longest = λ m l _. refused_front strict ys c s k h.until h.refused bytes z a.here m l;
 }
 
@@ -153,21 +153,21 @@ ascii_scalar : (ys : List ℕ) (c : ℕ) → c < 128 → all_scalars ys ≡ true
 ascii_scalar ys c l h = scalars_append ys (c ∷ []) h (rw (low_scalar c (omega arith)) refl)
 
 -- other rules accept c
-accepts : (r : Rules) → 16 ≤ r.limit → (bytes ys : List ℕ) (c : ℕ) (z : List ℕ) (s u : State) (k : JsonKind) → c < 128 → At bytes ys c z → Stuck ys c s k → step r s c ≡ Ok u → Begins r (take (length (encode_utf8_all ys) + 1) bytes)
+accepts : (r : Rules) → 16 ≤ r.limit → (bytes ys : List ℕ) (c : ℕ) (z : List ℕ) (s u : State) (k : JsonKind) → c < 128 → At bytes ys c z → Stuck ys c s k → step r s c ≡ Ok u → BeginsText r (take (length (encode_utf8_all ys) + 1) bytes)
 accepts r w bytes ys c z s u k l a h g =
     let b = byte_here bytes ys c z l a in
-    subst (λ x. Begins r x) (sym b.1)
+    subst (λ x. BeginsText r x) (sym b.1)
     (begins_from r (ys ++ c ∷ []) u (run_step r ys c s (run_other r w ys s h.until) ∙ g) (ascii_scalar ys c l (front_scalars bytes ys (encode_utf8 c ++ z) a.utf8 a.here)))
 
 -- other rules refuse it too
-rejects : (r : Rules) → 16 ≤ r.limit → (bytes ys : List ℕ) (c : ℕ) (z : List ℕ) (s : State) (k : JsonKind) → At bytes ys c z → Stuck ys c s k → step r s c ≡ Err Syntax → ¬ (Begins r (take (length (encode_utf8_all ys) + 1) bytes))
+rejects : (r : Rules) → 16 ≤ r.limit → (bytes ys : List ℕ) (c : ℕ) (z : List ℕ) (s : State) (k : JsonKind) → At bytes ys c z → Stuck ys c s k → step r s c ≡ Err Syntax → ¬ (BeginsText r (take (length (encode_utf8_all ys) + 1) bytes))
 rejects r w bytes ys c z s k a h g = refused_front r ys c s Syntax (run_other r w ys s h.until) g bytes z a.here (length (encode_utf8_all ys) + 1) (omega arith)
 
 -- the reader's answer at a character that it refuses
-pub fault_at : (bytes ys : List ℕ) (c : ℕ) (z : List ℕ) (s : State) (k : JsonKind) → At bytes ys c z → Stuck ys c s k → IsFault bytes k (length (encode_utf8_all ys))
+pub fault_at : (bytes ys : List ℕ) (c : ℕ) (z : List ℕ) (s : State) (k : JsonKind) → At bytes ys c z → Stuck ys c s k → IsJsonFault bytes k (length (encode_utf8_all ys))
 fault_at bytes ys c z s k a h = go k (longest_front bytes ys c z s k a h) (why ys c s k h) h
   where
-    go : (k : JsonKind) → IsLongestFront bytes (length (encode_utf8_all ys)) → Why c (move s.place s.frames c) k → Stuck ys c s k → IsFault bytes k (length (encode_utf8_all ys))
+    go : (k : JsonKind) → IsLongestFront bytes (length (encode_utf8_all ys)) → Why c (move s.place s.frames c) k → Stuck ys c s k → IsJsonFault bytes k (length (encode_utf8_all ys))
     go Syntax l w h = (
       a.utf8,
       l,
@@ -208,18 +208,18 @@ end_scalars bytes ys a = front_scalars bytes ys [] a.utf8 (a.here ∙ sym (appen
 spelled_by : (r : Rules) (bytes ys : List ℕ) (v : Json) → AtEnd bytes ys → Spells r bytes v → IsText r v ys
 spelled_by r bytes ys v a (cs, s, e, t) = subst (λ x. IsText r v x) (encodes_same cs ys (sym e ∙ a.here)) t
 
-pub end_value : (bytes ys : List ℕ) (s : State) (v : Json) → AtEnd bytes ys → run strict (Ok start) ys ≡ Ok s → ended s.place s.frames ≡ Some v → Spells strict bytes v × ((u : Json) → Spells strict bytes u → u ≡ v)
+pub end_value : (bytes ys : List ℕ) (s : State) (v : Json) → AtEnd bytes ys → run strict (Ok start) ys ≡ Ok s → ended_value s.place s.frames ≡ Some v → Spells strict bytes v × ((u : Json) → Spells strict bytes u → u ≡ v)
 end_value bytes ys s v a h e = (
   (ys, end_scalars bytes ys a, a.here, (text_of_run strict ys s h v).1 e),
   λ u w. let f = (text_of_run strict ys s h u).0 (spelled_by strict bytes ys u a w) in let g : Some u ≡ Some v = sym f ∙ e in cc,
 )
 
-pub end_fault : (bytes ys : List ℕ) (s : State) → AtEnd bytes ys → run strict (Ok start) ys ≡ Ok s → ended s.place s.frames ≡ None → IsFault bytes End (length bytes)
+pub end_fault : (bytes ys : List ℕ) (s : State) → AtEnd bytes ys → run strict (Ok start) ys ≡ Ok s → ended_value s.place s.frames ≡ None → IsJsonFault bytes End (length bytes)
 end_fault bytes ys s a h e = (
   a.utf8,
   record {
     within = omega arith;
-    begins = subst (λ x. Begins strict x) (sym (take-length bytes)) (subst (λ x. Begins strict x) (sym a.here) (begins_from strict ys s h (end_scalars bytes ys a)));
+    begins = subst (λ x. BeginsText strict x) (sym (take-length bytes)) (subst (λ x. BeginsText strict x) (sym a.here) (begins_from strict ys s h (end_scalars bytes ys a)));
     longest = λ m l w _. omega arith;
   },
   refl,
@@ -232,9 +232,9 @@ spells_utf8 : (bytes : List ℕ) (v : Json) → Spells strict bytes v → IsUtf8
 spells_utf8 bytes v (cs, s, e, t) = (cs, (s, sym e))
 
 no_longer : (bytes : List ℕ) (n : ℕ) (v : Json) → IsLongestFront bytes n → n < length bytes → Spells strict bytes v → ⊥
-no_longer bytes n v l s w = l.longest (length bytes) s (omega arith) (subst (λ x. Begins strict x) (sym (take-length bytes)) ([], v, subst (λ x. Spells strict x v) (sym (append-nil bytes)) w))
+no_longer bytes n v l s w = l.longest (length bytes) s (omega arith) (subst (λ x. BeginsText strict x) (sym (take-length bytes)) ([], v, subst (λ x. Spells strict x v) (sym (append-nil bytes)) w))
 
-pub fault_refuses : (bytes : List ℕ) (k : JsonKind) (n : ℕ) (v : Json) → k ≢ Memory → IsFault bytes k n → ¬ (Spells strict bytes v)
+pub fault_refuses : (bytes : List ℕ) (k : JsonKind) (n : ℕ) (v : Json) → k ≢ Memory → IsJsonFault bytes k n → ¬ (Spells strict bytes v)
 fault_refuses bytes Syntax n v m (u, l, s, x, y) w = no_longer bytes n v l s w
 fault_refuses bytes End n v m (u, l, e, none) w = none v w
 fault_refuses bytes Depth n v m (u, l, s, x) w = no_longer bytes n v l s w
@@ -243,7 +243,7 @@ fault_refuses bytes Utf8 n v m h w = h.longest (length bytes) h.short (subst (λ
 fault_refuses bytes Memory n v m h w = m refl
 
 -- what the bytes spell has no fault but want of memory
-pub memory_only : (bytes : List ℕ) (k : JsonKind) (n : ℕ) (v : Json) → Spells strict bytes v → IsFault bytes k n → k ≡ Memory
+pub memory_only : (bytes : List ℕ) (k : JsonKind) (n : ℕ) (v : Json) → Spells strict bytes v → IsJsonFault bytes k n → k ≡ Memory
 memory_only bytes Syntax n v w h = absurd (fault_refuses bytes Syntax n v (λ e. cc) h w)
 memory_only bytes End n v w h = absurd (fault_refuses bytes End n v (λ e. cc) h w)
 memory_only bytes Depth n v w h = absurd (fault_refuses bytes Depth n v (λ e. cc) h w)

@@ -13,10 +13,10 @@ use Rattle.json_order.specs.Seen.{json_of, items_with, members_with}
 use Rattle.json_order.specs.Grammar.{is_space, is_mark, AreSpaces, IsSpaced, has_key}
 use Rattle.json_order.specs.Fault.{strict, Spells}
 use Rattle.json_order.specs.private.Entries.{keys_of}
-use Rattle.json_order.specs.private.AtOnce.{Takes, parts_after}
-use Rattle.json_order.specs.private.Machine.{Entries, Place, at_value, at_first_item, behind, at_first_key, at_next_key, in_key, behind_key, in_string, in_number, in_word, Frame, in_list, in_object, State, state, goes, value_move, behind_move, move, judged, step, run, part_step, is_done, quote_step, ended}
-use Rattle.json_order.specs.private.Places.{entries_of, letters_from, value_of}
-use Rattle.json_order.specs.private.Whole.{Crosses, IsBehind, ReadsValue, ReadsNumber, IsQuoted, ReadsWord, before_item, before_key, ReadsKey, IsWhole}
+use Rattle.json_order.specs.private.AtOnce.{TakesTo, parts_after}
+use Rattle.json_order.specs.private.Machine.{Entries, Place, at_value, at_first_item, behind, at_first_key, at_next_key, in_key, behind_key, in_string, in_number, in_word, Frame, in_list, in_object, State, state, goes, value_move, behind_move, move, under_rules, step, run, part_step, is_done, quote_step, ended_value}
+use Rattle.json_order.specs.private.Places.{entries_of_tree, letters_from, value_of}
+use Rattle.json_order.specs.private.Whole.{Crosses, IsBehindValue, ReadsValue, ReadsNumber, IsQuoted, ReadsWord, before_item, before_key, ReadsKey, IsWholeText}
 use Rattle.json_order.specs.declared.fault.JsonKind.{JsonKind}
 use Rattle.json_order.specs.declared.place.Escape.TheVariants.{Outside}
 use Rattle.json_order.specs.declared.place.Part.{Part}
@@ -42,7 +42,7 @@ crosses_more d s t u before mid after p q = (
   λ fs l. run_append (Ok (s fs)) p.0 q.0 ∙ ap (λ o. run strict o q.0) (p.2 fs l) ∙ q.2 fs l,
 )
 
-crosses_takes : (d : ℕ) (p q : Place) (before after : List ℕ) → Takes p q before after → Crosses d (state p) (state q) before after
+crosses_takes : (d : ℕ) (p q : Place) (before after : List ℕ) → TakesTo p q before after → Crosses d (state p) (state q) before after
 crosses_takes d p q before after t = (t.0, t.1, λ fs l. t.2 fs)
 
 -- what may stand within sixteen others may stand within fewer
@@ -112,7 +112,7 @@ done_ends Dot c h e = cc
 done_ends Mark c h e = cc
 done_ends Sign c h e = cc
 
-behind_step : (p : Place) (v : Json) (fs : List Frame) (c : ℕ) → IsBehind p v → Ends c → move p fs c ≡ behind_move v fs c
+behind_step : (p : Place) (v : Json) (fs : List Frame) (c : ℕ) → IsBehindValue p v → Ends c → move p fs c ≡ behind_move v fs c
 behind_step (behind w) v fs c b e = ap (λ x. behind_move x fs c) b
 behind_step (in_number text q) v fs c b e = rw (b.0, done_ends q c b.0 e) (ap (λ x. behind_move x fs c) b.1)
 behind_step (in_word [] w) v fs c b e = ap (λ x. behind_move x fs c) b
@@ -131,7 +131,7 @@ reads_spaced d v before mid after r w = go w.0 w.1 w.2
     go : (spaces : List ℕ) → AreSpaces spaces → mid ≡ spaces ++ after → ReadsValue d v before after
     go [] all e = subst (λ x. ReadsValue d v before x) e r
     go (c ∷ cs) all e =
-        let first = crosses_one d (state r.0) (state (behind v)) c mid (cs ++ after) (λ fs l. ap (judged strict) (behind_step r.0 v fs c r.1 (space_ends c all.0)) ∙ rw all.0 refl) (e ∙ ap (λ x. x ++ (cs ++ after)) (sym (encode_ascii c (space_small c all.0)))) in
+        let first = crosses_one d (state r.0) (state (behind v)) c mid (cs ++ after) (λ fs l. ap (under_rules strict) (behind_step r.0 v fs c r.1 (space_ends c all.0)) ∙ rw all.0 refl) (e ∙ ap (λ x. x ++ (cs ++ after)) (sym (encode_ascii c (space_small c all.0)))) in
         let others = crosses_spaces d (state (behind v)) (λ fs c e. rw e refl) (cs ++ after) after (cs, all.1, refl) in
         (behind v, refl, crosses_more d (state at_value) (state r.0) (state (behind v)) before mid after r.2 (crosses_more d (state r.0) (state (behind v)) (state (behind v)) mid (cs ++ after) after first others))
 
@@ -145,18 +145,18 @@ run_err [] k = refl
 run_err (c ∷ cs) k = run_err cs k
 
 -- behind a `[` a first item is read as any other
-first_item : (cs : List ℕ) (p : Place) (v : Json) (fs : List Frame) → IsBehind p v → run strict (Ok (state at_value (in_list [] ∷ fs))) cs ≡ Ok (state p (in_list [] ∷ fs)) → run strict (Ok (state at_first_item fs)) cs ≡ Ok (state p (in_list [] ∷ fs))
-first_item [] p v fs b r = absurd (subst (λ q. IsBehind q v) (sym (same_place (state at_value (in_list [] ∷ fs)) (state p (in_list [] ∷ fs)) (Ok (state at_value (in_list [] ∷ fs))) refl r)) b)
+first_item : (cs : List ℕ) (p : Place) (v : Json) (fs : List Frame) → IsBehindValue p v → run strict (Ok (state at_value (in_list [] ∷ fs))) cs ≡ Ok (state p (in_list [] ∷ fs)) → run strict (Ok (state at_first_item fs)) cs ≡ Ok (state p (in_list [] ∷ fs))
+first_item [] p v fs b r = absurd (subst (λ q. IsBehindValue q v) (sym (same_place (state at_value (in_list [] ∷ fs)) (state p (in_list [] ∷ fs)) (Ok (state at_value (in_list [] ∷ fs))) refl r)) b)
 first_item (c ∷ cs) p v fs b r =
-    split (λ x. run strict (judged strict (if x then goes (state at_value (in_list [] ∷ fs)) else value_move (in_list [] ∷ fs) c)) cs ≡ Ok (state p (in_list [] ∷ fs)) → run strict (judged strict (if x then goes (state at_first_item fs) else if c == 93 then goes (state (behind (array no_items)) fs) else value_move (in_list [] ∷ fs) c)) cs ≡ Ok (state p (in_list [] ∷ fs))) (is_space c)
+    split (λ x. run strict (under_rules strict (if x then goes (state at_value (in_list [] ∷ fs)) else value_move (in_list [] ∷ fs) c)) cs ≡ Ok (state p (in_list [] ∷ fs)) → run strict (under_rules strict (if x then goes (state at_first_item fs) else if c == 93 then goes (state (behind (array no_items)) fs) else value_move (in_list [] ∷ fs) c)) cs ≡ Ok (state p (in_list [] ∷ fs))) (is_space c)
     (λ e r. first_item cs p v fs b r)
-    (λ e r. split (λ x. run strict (judged strict (if x then goes (state (behind (array no_items)) fs) else value_move (in_list [] ∷ fs) c)) cs ≡ Ok (state p (in_list [] ∷ fs))) (c == 93) (λ g. absurd (refused (is_eq c 93 g) r)) (λ _. r)) r
+    (λ e r. split (λ x. run strict (under_rules strict (if x then goes (state (behind (array no_items)) fs) else value_move (in_list [] ∷ fs) c)) cs ≡ Ok (state p (in_list [] ∷ fs))) (c == 93) (λ g. absurd (refused (is_eq c 93 g) r)) (λ _. r)) r
   where
-    refused : c ≡ 93 → run strict (judged strict (value_move (in_list [] ∷ fs) c)) cs ≡ Ok (state p (in_list [] ∷ fs)) → ⊥
-    refused e r = let t = sym (run_err cs _) ∙ subst (λ x. run strict (judged strict (value_move (in_list [] ∷ fs) x)) cs ≡ Ok (state p (in_list [] ∷ fs))) e r in cc
+    refused : c ≡ 93 → run strict (under_rules strict (value_move (in_list [] ∷ fs) c)) cs ≡ Ok (state p (in_list [] ∷ fs)) → ⊥
+    refused e r = let t = sym (run_err cs _) ∙ subst (λ x. run strict (under_rules strict (value_move (in_list [] ∷ fs) x)) cs ≡ Ok (state p (in_list [] ∷ fs))) e r in cc
 
 abbrev ReadsItem : ℕ → Json → List Json → List ℕ → List ℕ → Type 0
-ReadsItem d v vs before after = (p : Place) × IsBehind p v × Crosses (d + 1) (before_item vs) (λ fs. state p (in_list vs ∷ fs)) before after
+ReadsItem d v vs before after = (p : Place) × IsBehindValue p v × Crosses (d + 1) (before_item vs) (λ fs. state p (in_list vs ∷ fs)) before after
 
 item_read : (d : ℕ) (v : Json) (vs : List Json) (before after : List ℕ) → ReadsValue d v before after → ReadsItem d v vs before after
 item_read d v [] before after r = (r.0, r.1, (r.2.0, r.2.1, λ fs l. first_item r.2.0 r.0 v fs r.1 (r.2.2 (in_list [] ∷ fs) (omega (arith, l)))))
@@ -179,7 +179,7 @@ pub list_more : (d : ℕ) (vs : List Json) (v : Json) (rest left mid next after 
 list_more d vs v rest left mid next after k r e w =
     let i = item_read d v vs left mid r in
     let inside = λ (fs : List Frame). state at_value (in_list (vs ++ v ∷ []) ∷ fs) in
-    let comma = crosses_one (d + 1) (λ fs. state i.0 (in_list vs ∷ fs)) inside 44 mid next (λ fs l. ap (judged strict) (behind_step i.0 v (in_list vs ∷ fs) 44 i.1 (record { digit = refl; dot = refl; mark = refl }))) e in
+    let comma = crosses_one (d + 1) (λ fs. state i.0 (in_list vs ∷ fs)) inside 44 mid next (λ fs l. ap (under_rules strict) (behind_step i.0 v (in_list vs ∷ fs) 44 i.1 (record { digit = refl; dot = refl; mark = refl }))) e in
     let spaces = crosses_spaces (d + 1) inside (λ fs c e. rw e refl) next after w in
     crosses_to (d + 1) (state at_first_item) inside (before_item (vs ++ v ∷ [])) rest after (more_items vs v)
     (crosses_more (d + 1) (state at_first_item) (before_item vs) inside rest left after k
@@ -191,7 +191,7 @@ pub list_whole : (d : ℕ) (vs : List Json) (v : Json) (rest left mid after : Li
 list_whole d vs v rest left mid after k r e =
     let i = item_read d v vs left mid r in
     let done = behind (array (items_with (vs ++ v ∷ []) no_items)) in
-    let bracket = crosses_one (d + 1) (λ fs. state i.0 (in_list vs ∷ fs)) (state done) 93 mid after (λ fs l. ap (judged strict) (behind_step i.0 v (in_list vs ∷ fs) 93 i.1 (record { digit = refl; dot = refl; mark = refl }))) e in
+    let bracket = crosses_one (d + 1) (λ fs. state i.0 (in_list vs ∷ fs)) (state done) 93 mid after (λ fs l. ap (under_rules strict) (behind_step i.0 v (in_list vs ∷ fs) 93 i.1 (record { digit = refl; dot = refl; mark = refl }))) e in
     crosses_more (d + 1) (state at_first_item) (before_item vs) (state done) rest left after k
     (crosses_more (d + 1) (before_item vs) (λ fs. state i.0 (in_list vs ∷ fs)) (state done) left mid after i.2 bracket)
 
@@ -211,9 +211,9 @@ quote_begins [] fs = refl
 quote_begins (e ∷ es) fs = refl
 
 pub key_read : (ms : List (String Global × Tree)) (text : List ℕ) (rest begun mid colon next after : List ℕ) →
-    rest ≡ encode_utf8 34 ++ begun → IsQuoted text begun mid → IsSpaced mid colon → colon ≡ encode_utf8 58 ++ next → has_key (keys_of ms) text ≡ false → IsSpaced next after → ReadsKey (entries_of ms) text rest after
+    rest ≡ encode_utf8 34 ++ begun → IsQuoted text begun mid → IsSpaced mid colon → colon ≡ encode_utf8 58 ++ next → has_key (keys_of ms) text ≡ false → IsSpaced next after → ReadsKey (entries_of_tree ms) text rest after
 key_read ms text rest begun mid colon next after e q w f fresh z =
-    let es = entries_of ms in
+    let es = entries_of_tree ms in
     let named = λ (fs : List Frame). state at_value (in_object es text ∷ fs) in
     let a = crosses_one 0 (before_key es) (state (in_key es [] Outside)) 34 rest begun (λ fs l. quote_begins es fs) e in
     let b = crosses_takes 0 (in_key es [] Outside) (in_key es text Outside) begun q.0 (q.1.1 es) in
@@ -228,7 +228,7 @@ key_read ms text rest begun mid colon next after e q w f fresh z =
     (crosses_more 0 (state (behind_key es text)) named named colon next after g t))))
 
 abbrev ReadsMember : ℕ → Json → Entries → List ℕ → List ℕ → List ℕ → Type 0
-ReadsMember d v es key before after = (p : Place) × IsBehind p v × Crosses (d + 1) (before_key es) (λ fs. state p (in_object es key ∷ fs)) before after
+ReadsMember d v es key before after = (p : Place) × IsBehindValue p v × Crosses (d + 1) (before_key es) (λ fs. state p (in_object es key ∷ fs)) before after
 
 member_read : (d : ℕ) (v : Json) (es : Entries) (key : List ℕ) (before mid after : List ℕ) → ReadsKey es key before mid → ReadsValue d v mid after → ReadsMember d v es key before after
 member_read d v es key before mid after k r = (
@@ -256,7 +256,7 @@ pub object_more : (d : ℕ) (es : Entries) (key : List ℕ) (v : Json) (rest lef
 object_more d es key v rest left begun mid next after k n r e w =
     let i = member_read d v es key left begun mid n r in
     let named = state (at_next_key (es ++ (key, v) ∷ [])) in
-    let comma = crosses_one (d + 1) (λ fs. state i.0 (in_object es key ∷ fs)) named 44 mid next (λ fs l. ap (judged strict) (behind_step i.0 v (in_object es key ∷ fs) 44 i.1 (record { digit = refl; dot = refl; mark = refl }))) e in
+    let comma = crosses_one (d + 1) (λ fs. state i.0 (in_object es key ∷ fs)) named 44 mid next (λ fs l. ap (under_rules strict) (behind_step i.0 v (in_object es key ∷ fs) 44 i.1 (record { digit = refl; dot = refl; mark = refl }))) e in
     let spaces = crosses_spaces (d + 1) named (λ fs c e. rw e refl) next after w in
     crosses_to (d + 1) (state at_first_key) named (before_key (es ++ (key, v) ∷ [])) rest after (more_members es (key, v))
     (crosses_more (d + 1) (state at_first_key) (before_key es) named rest left after k
@@ -265,14 +265,14 @@ object_more d es key v rest left begun mid next after k n r e w =
 
 -- the last member and the brace
 -- an object of some members and a last one, by what it has of keys and values
-pub object_pushed : (v : Json) (ms : List (String Global × Tree)) (m : String Global × Tree) → v ≡ object (members_with (entries_of (ms ++ m ∷ [])) no_members) → v ≡ object (members_with (entries_of ms ++ (string_bytes m.0, json_of m.1) ∷ []) no_members)
+pub object_pushed : (v : Json) (ms : List (String Global × Tree)) (m : String Global × Tree) → v ≡ object (members_with (entries_of_tree (ms ++ m ∷ [])) no_members) → v ≡ object (members_with (entries_of_tree ms ++ (string_bytes m.0, json_of m.1) ∷ []) no_members)
 object_pushed v ms m h = h ∙ ap (λ es. object (members_with es no_members)) (map_push (λ m. (string_bytes m.0, json_of m.1)) ms m)
 
 pub object_whole : (d : ℕ) (es : Entries) (key : List ℕ) (v : Json) (rest left begun mid after : List ℕ) → Crosses (d + 1) (state at_first_key) (before_key es) rest left → ReadsKey es key left begun → ReadsValue d v begun mid → mid ≡ encode_utf8 125 ++ after → Crosses (d + 1) (state at_first_key) (state (behind (object (members_with (es ++ (key, v) ∷ []) no_members)))) rest after
 object_whole d es key v rest left begun mid after k n r e =
     let i = member_read d v es key left begun mid n r in
     let done = behind (object (members_with (es ++ (key, v) ∷ []) no_members)) in
-    let brace = crosses_one (d + 1) (λ fs. state i.0 (in_object es key ∷ fs)) (state done) 125 mid after (λ fs l. ap (judged strict) (behind_step i.0 v (in_object es key ∷ fs) 125 i.1 (record { digit = refl; dot = refl; mark = refl }))) e in
+    let brace = crosses_one (d + 1) (λ fs. state i.0 (in_object es key ∷ fs)) (state done) 125 mid after (λ fs l. ap (under_rules strict) (behind_step i.0 v (in_object es key ∷ fs) 125 i.1 (record { digit = refl; dot = refl; mark = refl }))) e in
     crosses_more (d + 1) (state at_first_key) (before_key es) (state done) rest left after k
     (crosses_more (d + 1) (before_key es) (λ fs. state i.0 (in_object es key ∷ fs)) (state done) left mid after i.2 brace)
 
@@ -345,14 +345,14 @@ nothing : (xs : List ℕ) → length xs ≡ 0 → xs ≡ []
 nothing [] e = refl
 nothing (x ∷ xs) e = absurd (omega arith)
 
-pub text_whole : (text left mid after : List ℕ) (v : Json) → IsSpaced text left → ReadsValue 16 v left mid → IsSpaced mid after → length after ≡ 0 → IsWhole text v
+pub text_whole : (text left mid after : List ℕ) (v : Json) → IsSpaced text left → ReadsValue 16 v left mid → IsSpaced mid after → length after ≡ 0 → IsWholeText text v
 text_whole text left mid after v w r z e =
     let first = crosses_spaces 16 (state at_value) (λ fs c e. rw e refl) text left w in
     let read = reads_spaced 16 v left mid after r z in
     let whole = crosses_more 16 (state at_value) (state at_value) (state read.0) text left after first read.2 in
     (read.0, read.1, (whole.0, whole.1 ∙ ap (λ x. encode_utf8_all whole.0 ++ x) (nothing after e), whole.2 [] (omega arith)))
 
-behind_ended : (p : Place) (v : Json) → IsBehind p v → ended p [] ≡ Some v
+behind_ended : (p : Place) (v : Json) → IsBehindValue p v → ended_value p [] ≡ Some v
 behind_ended (behind w) v b = ap (λ x. Some x) b
 behind_ended (in_number text q) v b = rw b.0 (ap (λ x. Some x) b.1)
 behind_ended (in_word [] w) v b = ap (λ x. Some x) b
@@ -365,7 +365,7 @@ behind_ended (behind_key es key) v b = absurd b
 behind_ended (in_string text q) v b = absurd b
 behind_ended (in_word (l ∷ ls) w) v b = absurd b
 
-pub whole_value : (text : List ℕ) (v : Json) → IsUtf8 text → IsWhole text v → Spells strict text v × ((u : Json) → Spells strict text u → u ≡ v)
+pub whole_value : (text : List ℕ) (v : Json) → IsUtf8 text → IsWholeText text v → Spells strict text v × ((u : Json) → Spells strict text u → u ≡ v)
 whole_value text v utf8 h =
     let s = h.2 in
     end_value text s.0 (state h.0 []) v (all_seen text s.0 [] utf8 s.1 refl) s.2 (behind_ended h.0 v h.1)

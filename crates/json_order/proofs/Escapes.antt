@@ -14,7 +14,7 @@ use Rattle.std.proofs.lemmas.List.Elements.{All-from_recursion}
 use Rattle.std.proofs.lemmas.List.{length-append}
 use Rattle.json_order.specs.Grammar.{is_plain, short_escape, IsHex, IsUnit, is_high_surrogate, is_low_surrogate, plain, short, one_unit, two_units}
 use Rattle.json_order.specs.Fault.{strict}
-use Rattle.json_order.specs.private.Machine.{Entries, Frame, state, run, in_string, in_key, Quote, going, closed, quote_step, spelled, first_unit}
+use Rattle.json_order.specs.private.Machine.{Entries, Frame, state, run, in_string, in_key, Quote, going, closed, quote_step, quote_spelled, first_unit}
 use Rattle.json_order.specs.private.AtOnce.{TakesQuoted, MovesPlain, UnitEnds, IsEscape}
 use Rattle.json_order.specs.declared.place.Escape.{Escape}
 use Rattle.json_order.specs.declared.place.Escape.TheVariants.{Outside, Slash, Unit0, Unit1, Unit2, Unit3, High, Low0, Low1, Low2, Low3}
@@ -144,7 +144,7 @@ low1_on text s c h r = rw (lt_to (digit_value c) 16 h, r) refl
 low2_on : (text : List ℕ) (s v c : ℕ) → digit_value c < 16 → quote_step text (Low2 s v) c ≡ Some (going text (Low3 s (16 * v + digit_value c)))
 low2_on text s v c h = rw (lt_to (digit_value c) 16 h) refl
 
-low3_on : (text : List ℕ) (s v c : ℕ) → digit_value c < 16 → quote_step text (Low3 s v) c ≡ spelled text (Some (surrogate_pair_char s (16 * v + digit_value c)))
+low3_on : (text : List ℕ) (s v c : ℕ) → digit_value c < 16 → quote_step text (Low3 s v) c ≡ quote_spelled text (Some (surrogate_pair_char s (16 * v + digit_value c)))
 low3_on text s v c h = rw (lt_to (digit_value c) 16 h) refl
 
 outside_range : (lo hi c : ℕ) → (c < lo) ⊎ (hi < c) → is_in_range lo hi c ≡ false
@@ -167,13 +167,13 @@ first_steps text n before after f ok =
     no_low x y z w e lz lw (inr l) = inr (omega arith)
 
 -- and those of a second one
-second_steps : (text : List ℕ) (h n : ℕ) (before after : List ℕ) → (f : Four n before after) → 0xDC00 ≤ n → n ≤ 0xDFFF → quoted (Some (going text (High h))) (92 ∷ 117 ∷ f.a ∷ f.b ∷ f.c ∷ f.d ∷ []) ≡ spelled text (Some (surrogate_pair_char h n))
+second_steps : (text : List ℕ) (h n : ℕ) (before after : List ℕ) → (f : Four n before after) → 0xDC00 ≤ n → n ≤ 0xDFFF → quoted (Some (going text (High h))) (92 ∷ 117 ∷ f.a ∷ f.b ∷ f.c ∷ f.d ∷ []) ≡ quote_spelled text (Some (surrogate_pair_char h n))
 second_steps text h n before after f l m =
     ap (λ q. quoted q (f.b ∷ f.c ∷ f.d ∷ [])) (low0_on text h f.a (first (digit_value f.a) (digit_value f.b) (digit_value f.c) (digit_value f.d) f.is f.small_a f.small_b f.small_c f.small_d))
     ∙ ap (λ q. quoted q (f.c ∷ f.d ∷ [])) (low1_on text h f.b f.small_b (let r = second (digit_value f.a) (digit_value f.b) (digit_value f.c) (digit_value f.d) f.is f.small_a f.small_b f.small_c f.small_d in inside_range 0xDC 0xDF (0xD0 + digit_value f.b) r.0 r.1))
     ∙ ap (λ q. quoted q (f.d ∷ [])) (low2_on text h (0xD0 + digit_value f.b) f.c f.small_c)
     ∙ low3_on text h (16 * (0xD0 + digit_value f.b) + digit_value f.c) f.d f.small_d
-    ∙ ap (λ x. spelled text (Some (surrogate_pair_char h x))) (whole (digit_value f.a) (digit_value f.b) (digit_value f.c) (digit_value f.d) f.is f.small_a f.small_b f.small_c f.small_d)
+    ∙ ap (λ x. quote_spelled text (Some (surrogate_pair_char h x))) (whole (digit_value f.a) (digit_value f.b) (digit_value f.c) (digit_value f.d) f.is f.small_a f.small_b f.small_c f.small_d)
   where
     first : (x y z w : ℕ) → n ≡ 16 * (16 * (16 * x + y) + z) + w → x < 16 → y < 16 → z < 16 → w < 16 → x ≡ 13
     first x y z w e lx ly lz lw = omega arith

@@ -8,7 +8,7 @@ use Rattle.std.proofs.Common.{ℕ, suc, ◌+◌, ◌*◌, ◌<◌, ◌≤◌, �
 use Rattle.json_order.specs.Json.{Json, null, boolean, number, array, object, no_items, no_members}
 use Rattle.json_order.specs.Seen.{items_with, members_with}
 use Rattle.json_order.specs.Grammar.{is_space, short_escape, is_high_surrogate}
-use Rattle.json_order.specs.private.Machine.{Entries, Place, at_value, at_first_item, behind, at_first_key, at_next_key, in_key, behind_key, in_string, in_number, in_word, Frame, in_list, in_object, State, state, Move, goes, opens, names, stops, value_move, next_move, behind_move, key_move, string_move, number_move, word_move, move, IsFinePlace, Quote, going, closed, quote_step, spelled, first_unit, part_step, is_done}
+use Rattle.json_order.specs.private.Machine.{Entries, Place, at_value, at_first_item, behind, at_first_key, at_next_key, in_key, behind_key, in_string, in_number, in_word, Frame, in_list, in_object, State, state, Move, goes, opens, names, stops, value_move, next_move, behind_move, key_move, string_move, number_move, word_move, move, IsFinePlace, Quote, going, closed, quote_step, quote_spelled, first_unit, part_step, is_done}
 use Rattle.json_order.specs.declared.place.Escape.{Escape}
 use Rattle.json_order.specs.declared.place.Escape.TheVariants.{Outside, Slash, Unit0, Unit1, Unit2, Unit3, High, HighSlash, Low0, Low1, Low2, Low3}
 use Rattle.json_order.specs.declared.place.Part.{Part}
@@ -85,16 +85,16 @@ ClosesBy c None = Unit {0}
 ClosesBy c (Some (going u f)) = Unit {0}
 ClosesBy c (Some (closed u)) = c ≡ 34
 
-by_spelled : (c : ℕ) (text : List ℕ) (o : Option ℕ) → ClosesBy c (spelled text o)
+by_spelled : (c : ℕ) (text : List ℕ) (o : Option ℕ) → ClosesBy c (quote_spelled text o)
 by_spelled c text None = tt
 by_spelled c text (Some x) = tt
 
 by_quote : (c : ℕ) (text : List ℕ) (e : Escape) → ClosesBy c (quote_step text e c)
 by_quote c text Outside =
-    split (λ b. ClosesBy c (if b then Some (closed text) else if c == 92 then Some (going text Slash) else if nat_le 32 c then spelled text (Some c) else None)) (c == 34) (λ h. is_eq c 34 h)
-    (λ _. split (λ b. ClosesBy c (if b then Some (going text Slash) else if nat_le 32 c then spelled text (Some c) else None)) (c == 92) (λ _. tt)
-    (λ _. split (λ b. ClosesBy c (if b then spelled text (Some c) else None)) (nat_le 32 c) (λ _. tt) (λ _. tt)))
-by_quote c text Slash = split (λ b. ClosesBy c (if b then Some (going text Unit0) else spelled text (short_escape c))) (c == 117) (λ _. tt) (λ _. by_spelled c text (short_escape c))
+    split (λ b. ClosesBy c (if b then Some (closed text) else if c == 92 then Some (going text Slash) else if nat_le 32 c then quote_spelled text (Some c) else None)) (c == 34) (λ h. is_eq c 34 h)
+    (λ _. split (λ b. ClosesBy c (if b then Some (going text Slash) else if nat_le 32 c then quote_spelled text (Some c) else None)) (c == 92) (λ _. tt)
+    (λ _. split (λ b. ClosesBy c (if b then quote_spelled text (Some c) else None)) (nat_le 32 c) (λ _. tt) (λ _. tt)))
+by_quote c text Slash = split (λ b. ClosesBy c (if b then Some (going text Unit0) else quote_spelled text (short_escape c))) (c == 117) (λ _. tt) (λ _. by_spelled c text (short_escape c))
 by_quote c text Unit0 = split (λ b. ClosesBy c (if b then Some (going text (Unit1 (digit_value c))) else None)) (nat_lt (digit_value c) 16) (λ _. tt) (λ _. tt)
 by_quote c text (Unit1 v) =
     split (λ b. ClosesBy c (if b then (if is_in_range 0xDC 0xDF (16 * v + digit_value c) then None else Some (going text (Unit2 (16 * v + digit_value c)))) else None)) (nat_lt (digit_value c) 16)
@@ -102,7 +102,7 @@ by_quote c text (Unit1 v) =
 by_quote c text (Unit2 v) = split (λ b. ClosesBy c (if b then Some (going text (Unit3 (16 * v + digit_value c))) else None)) (nat_lt (digit_value c) 16) (λ _. tt) (λ _. tt)
 by_quote c text (Unit3 v) =
     split (λ b. ClosesBy c (if b then first_unit text (16 * v + digit_value c) else None)) (nat_lt (digit_value c) 16)
-    (λ _. split (λ b. ClosesBy c (if b then Some (going text (High (16 * v + digit_value c))) else spelled text (Some (16 * v + digit_value c)))) (is_high_surrogate (16 * v + digit_value c)) (λ _. tt) (λ _. tt)) (λ _. tt)
+    (λ _. split (λ b. ClosesBy c (if b then Some (going text (High (16 * v + digit_value c))) else quote_spelled text (Some (16 * v + digit_value c)))) (is_high_surrogate (16 * v + digit_value c)) (λ _. tt) (λ _. tt)) (λ _. tt)
 by_quote c text (High s) = split (λ b. ClosesBy c (if b then Some (going text (HighSlash s)) else None)) (c == 92) (λ _. tt) (λ _. tt)
 by_quote c text (HighSlash s) = split (λ b. ClosesBy c (if b then Some (going text (Low0 s)) else None)) (c == 117) (λ _. tt) (λ _. tt)
 by_quote c text (Low0 s) =

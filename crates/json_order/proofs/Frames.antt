@@ -7,7 +7,7 @@ use Rattle.std.proofs.lemmas.List.{take_all, take_more, take_more_set, length-se
 use Rattle.json_order.specs.Seen.{json_of}
 use Rattle.json_order.specs.Fault.{strict}
 use Rattle.json_order.specs.Grammar.{is_space}
-use Rattle.json_order.specs.private.Machine.{Frame, in_list, state, at_value, at_first_item, judged, move, next_move, value_move}
+use Rattle.json_order.specs.private.Machine.{Frame, in_list, state, at_value, at_first_item, under_rules, move, next_move, value_move}
 use Rattle.json_order.specs.private.Places.{frame_of, frames_of}
 use Rattle.json_order.specs.declared.tree.Tree.{Tree}
 use Rattle.json_order.specs.declared.place.Frame.{Frame as CodeFrame}
@@ -29,7 +29,7 @@ frames_set fs i f e =
     ∙ frames_push (take i fs) f
 
 -- an item more, and a comma
-pub item_pushed : (fs : List CodeFrame) (i : ℕ) (old new : Vec Tree Global) (value : Tree) → i + 1 ≡ length fs → get_or fs i (ListFrame old) ≡ ListFrame old → new.items ≡ old.items ++ value ∷ [] → judged strict (next_move (json_of value) (frames_of fs) 44) ≡ Ok (state at_value (frames_of (set fs i (ListFrame new))))
+pub item_pushed : (fs : List CodeFrame) (i : ℕ) (old new : Vec Tree Global) (value : Tree) → i + 1 ≡ length fs → get_or fs i (ListFrame old) ≡ ListFrame old → new.items ≡ old.items ++ value ∷ [] → under_rules strict (next_move (json_of value) (frames_of fs) 44) ≡ Ok (state at_value (frames_of (set fs i (ListFrame new))))
 item_pushed fs i old new value e here more =
     rw (last_frame fs i (ListFrame old) e here, frames_set fs i (ListFrame new) e, more, map_push json_of old.items value) refl
 

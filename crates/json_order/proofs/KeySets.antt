@@ -16,7 +16,7 @@ use Rattle.std.proofs.Common.{ℕ, zero, suc, ◌+◌, ◌-◌, ◌<◌, ◌≤�
 use Rattle.json_order.specs.Grammar.{has_key}
 use Rattle.json_order.specs.private.Entries.{keys_of}
 use Rattle.json_order.specs.private.Marks.{mark_of}
-use Rattle.json_order.specs.private.KeySets.{named, is_at, taken, finds, start_of, window, or_beside, has_text, Table}
+use Rattle.json_order.specs.private.KeySets.{is_key_named, is_key_at, slots_taken, finds, start_of, window, or_beside, has_text, Table}
 use Rattle.json_order.specs.declared.key_set.Slot.{Slot}
 use Rattle.json_order.specs.declared.tree.Tree.{Tree}
 use Rattle.json_order.proofs.Keys.{keys_push}
@@ -42,22 +42,22 @@ eq_by false false f g = refl
 
 -- KEYS BY THEIR PLACES
 
-pub named_at : (ms : List (String Global × Tree)) (i : ℕ) (m : String Global × Tree) (key : List ℕ) → i < length ms → m ≡ get_or ms i m → named (keys_of ms) i key ≡ bytes_eq (string_bytes m.0) key
+pub named_at : (ms : List (String Global × Tree)) (i : ℕ) (m : String Global × Tree) (key : List ℕ) → i < length ms → m ≡ get_or ms i m → is_key_named (keys_of ms) i key ≡ bytes_eq (string_bytes m.0) key
 named_at [] i m key l e = absurd (omega arith)
 named_at (x ∷ ms) zero m key l e = ap (λ y. bytes_eq (string_bytes y.0) key) (sym e)
 named_at (x ∷ ms) (suc i) m key l e = named_at ms i m key (omega arith) e
 
-named_has : (ks : List (List ℕ)) (i : ℕ) (key : List ℕ) → named ks i key ≡ true → has_key ks key ≡ true
+named_has : (ks : List (List ℕ)) (i : ℕ) (key : List ℕ) → is_key_named ks i key ≡ true → has_key ks key ≡ true
 named_has [] i key h = cc
 named_has (k ∷ ks) zero key h = ap (λ b. b || has_key ks key) h
 named_has (k ∷ ks) (suc i) key h = or_right (bytes_eq k key) (has_key ks key) (named_has ks i key h)
 
-named_front : (ks ls : List (List ℕ)) (i : ℕ) (key : List ℕ) → named ks i key ≡ true → named (ks ++ ls) i key ≡ true
+named_front : (ks ls : List (List ℕ)) (i : ℕ) (key : List ℕ) → is_key_named ks i key ≡ true → is_key_named (ks ++ ls) i key ≡ true
 named_front [] ls i key h = cc
 named_front (k ∷ ks) ls zero key h = h
 named_front (k ∷ ks) ls (suc i) key h = named_front ks ls i key h
 
-named_last : (ks : List (List ℕ)) (k key : List ℕ) → named (ks ++ k ∷ []) (length ks) key ≡ bytes_eq k key
+named_last : (ks : List (List ℕ)) (k key : List ℕ) → is_key_named (ks ++ k ∷ []) (length ks) key ≡ bytes_eq k key
 named_last [] k key = refl
 named_last (x ∷ ks) k key = named_last ks k key
 
@@ -100,22 +100,22 @@ same_bytes xs ys h = grind (arith, bytes_eq-Decides)
 -- what is found is a key
 sound : (w : List Slot) (ks : List (List ℕ)) (mark : ℕ) (key : List ℕ) (b : Bool) → (b ≡ true → has_key ks key ≡ true) → or_beside (finds w ks mark key) b ≡ true → has_key ks key ≡ true
 sound [] ks mark key b f h = f h
-sound (s ∷ w) ks mark key b f h = go (s.number == 0) (is_at ks mark key s) (λ a. named_has ks (s.number - 1) key (both (s.mark == mark) (named ks (s.number - 1) key) a).1) (λ g. sound w ks mark key b f g) h
+sound (s ∷ w) ks mark key b f h = go (s.number == 0) (is_key_at ks mark key s) (λ a. named_has ks (s.number - 1) key (both (s.mark == mark) (is_key_named ks (s.number - 1) key) a).1) (λ g. sound w ks mark key b f g) h
   where
     go : (free here : Bool) → (here ≡ true → has_key ks key ≡ true) → (or_beside (finds w ks mark key) b ≡ true → has_key ks key ≡ true) → or_beside (if free then Some false else if here then Some true else finds w ks mark key) b ≡ true → has_key ks key ≡ true
     go true here g m h = cc
     go false true g m h = g refl
     go false false g m h = m h
 
-at_more : (ks ls : List (List ℕ)) (mark : ℕ) (key : List ℕ) (s : Slot) → is_at ks mark key s ≡ true → is_at (ks ++ ls) mark key s ≡ true
+at_more : (ks ls : List (List ℕ)) (mark : ℕ) (key : List ℕ) (s : Slot) → is_key_at ks mark key s ≡ true → is_key_at (ks ++ ls) mark key s ≡ true
 at_more ks ls mark key s h =
-    let p = both (s.mark == mark) (named ks (s.number - 1) key) h in
+    let p = both (s.mark == mark) (is_key_named ks (s.number - 1) key) h in
     rw (p.0, named_front ks ls (s.number - 1) key p.1) refl
 
 -- what is found stays found, with more keys
 grown : (w : List Slot) (ks ls : List (List ℕ)) (mark : ℕ) (key : List ℕ) (b c : Bool) → (b ≡ true → c ≡ true) → or_beside (finds w ks mark key) b ≡ true → or_beside (finds w (ks ++ ls) mark key) c ≡ true
 grown [] ks ls mark key b c f h = f h
-grown (s ∷ w) ks ls mark key b c f h = go (s.number == 0) (is_at ks mark key s) (is_at (ks ++ ls) mark key s) (at_more ks ls mark key s) (λ g. grown w ks ls mark key b c f g) h
+grown (s ∷ w) ks ls mark key b c f h = go (s.number == 0) (is_key_at ks mark key s) (is_key_at (ks ++ ls) mark key s) (at_more ks ls mark key s) (λ g. grown w ks ls mark key b c f g) h
   where
     go : (free here there : Bool) → (here ≡ true → there ≡ true) → (or_beside (finds w ks mark key) b ≡ true → or_beside (finds w (ks ++ ls) mark key) c ≡ true) → or_beside (if free then Some false else if here then Some true else finds w ks mark key) b ≡ true → or_beside (if free then Some false else if there then Some true else finds w (ks ++ ls) mark key) c ≡ true
     go true here there g m h = cc
@@ -129,7 +129,7 @@ kept [] i new d ks ls mark key b l e h = absurd (omega arith)
 kept (s ∷ w) zero new d ks ls mark key b l e h =
     let z : (s.number == 0) ≡ true = eq-eqb s.number 0 e in
     let never : false ≡ true = rw z at h in cc
-kept (s ∷ w) (suc i) new d ks ls mark key b l e h = go (s.number == 0) (is_at ks mark key s) (is_at (ks ++ ls) mark key s) (at_more ks ls mark key s) (λ g. kept w i new d ks ls mark key b (omega arith) e g) h
+kept (s ∷ w) (suc i) new d ks ls mark key b l e h = go (s.number == 0) (is_key_at ks mark key s) (is_key_at (ks ++ ls) mark key s) (at_more ks ls mark key s) (λ g. kept w i new d ks ls mark key b (omega arith) e g) h
   where
     go : (free here there : Bool) → (here ≡ true → there ≡ true) → (or_beside (finds w ks mark key) b ≡ true → or_beside (finds (set w i new) (ks ++ ls) mark key) b ≡ true) → or_beside (if free then Some false else if here then Some true else finds w ks mark key) b ≡ true → or_beside (if free then Some false else if there then Some true else finds (set w i new) (ks ++ ls) mark key) b ≡ true
     go true here there g m h = cc
@@ -138,41 +138,41 @@ kept (s ∷ w) (suc i) new d ks ls mark key b l e h = go (s.number == 0) (is_at 
     go false false false g m h = m h
 
 -- behind the taken slots one is free
-gap : (w : List Slot) (d : Slot) → taken w < length w → (get_or w (taken w) d).number ≡ 0
+gap : (w : List Slot) (d : Slot) → slots_taken w < length w → (get_or w (slots_taken w) d).number ≡ 0
 gap [] d l = absurd (omega arith)
 gap (s ∷ w) d l = go (s.number == 0) refl (λ g. gap w d g) l
   where
-    go : (free : Bool) → (s.number == 0) ≡ free → (taken w < length w → (get_or w (taken w) d).number ≡ 0) → (if free then 0 else suc (taken w)) < suc (length w) → (get_or (s ∷ w) (if free then 0 else suc (taken w)) d).number ≡ 0
+    go : (free : Bool) → (s.number == 0) ≡ free → (slots_taken w < length w → (get_or w (slots_taken w) d).number ≡ 0) → (if free then 0 else suc (slots_taken w)) < suc (length w) → (get_or (s ∷ w) (if free then 0 else suc (slots_taken w)) d).number ≡ 0
     go true e f l = grind (arith, nat_tests)
     go false e f l = f (omega arith)
 
-pub taken_most : (w : List Slot) → taken w ≤ length w
+pub taken_most : (w : List Slot) → slots_taken w ≤ length w
 taken_most [] = omega arith
 taken_most (s ∷ w) = go (s.number == 0) (taken_most w)
   where
-    go : (free : Bool) → taken w ≤ length w → (if free then 0 else suc (taken w)) ≤ suc (length w)
+    go : (free : Bool) → slots_taken w ≤ length w → (if free then 0 else suc (slots_taken w)) ≤ suc (length w)
     go true l = omega arith
     go false l = omega arith
 
 -- a key that takes that slot is found
-stored_found : (w : List Slot) (new : Slot) (ks : List (List ℕ)) (mark : ℕ) (key : List ℕ) (b : Bool) → taken w < length w → (new.number == 0) ≡ false → is_at ks mark key new ≡ true → or_beside (finds (set w (taken w) new) ks mark key) b ≡ true
+stored_found : (w : List Slot) (new : Slot) (ks : List (List ℕ)) (mark : ℕ) (key : List ℕ) (b : Bool) → slots_taken w < length w → (new.number == 0) ≡ false → is_key_at ks mark key new ≡ true → or_beside (finds (set w (slots_taken w) new) ks mark key) b ≡ true
 stored_found [] new ks mark key b l n a = absurd (omega arith)
 stored_found (s ∷ w) new ks mark key b l n a = go (s.number == 0) refl (λ g. stored_found w new ks mark key b g n a) l
   where
-    go : (free : Bool) → (s.number == 0) ≡ free → (taken w < length w → or_beside (finds (set w (taken w) new) ks mark key) b ≡ true) → (if free then 0 else suc (taken w)) < suc (length w) → or_beside (finds (set (s ∷ w) (if free then 0 else suc (taken w)) new) ks mark key) b ≡ true
+    go : (free : Bool) → (s.number == 0) ≡ free → (slots_taken w < length w → or_beside (finds (set w (slots_taken w) new) ks mark key) b ≡ true) → (if free then 0 else suc (slots_taken w)) < suc (length w) → or_beside (finds (set (s ∷ w) (if free then 0 else suc (slots_taken w)) new) ks mark key) b ≡ true
     go true e f l = rw (n, a) refl
-    go false e f l = rw e (here (is_at ks mark key s) (f (omega arith)))
+    go false e f l = rw e (here (is_key_at ks mark key s) (f (omega arith)))
       where
-        here : (x : Bool) → or_beside (finds (set w (taken w) new) ks mark key) b ≡ true → or_beside (if x then Some true else finds (set w (taken w) new) ks mark key) b ≡ true
+        here : (x : Bool) → or_beside (finds (set w (slots_taken w) new) ks mark key) b ≡ true → or_beside (if x then Some true else finds (set w (slots_taken w) new) ks mark key) b ≡ true
         here true h = refl
         here false h = h
 
 -- and one for which no slot is left is looked for beside the table
-full_found : (w : List Slot) (ks : List (List ℕ)) (mark : ℕ) (key : List ℕ) → taken w ≡ length w → or_beside (finds w ks mark key) true ≡ true
+full_found : (w : List Slot) (ks : List (List ℕ)) (mark : ℕ) (key : List ℕ) → slots_taken w ≡ length w → or_beside (finds w ks mark key) true ≡ true
 full_found [] ks mark key e = refl
-full_found (s ∷ w) ks mark key e = go (s.number == 0) (is_at ks mark key s) (λ g. full_found w ks mark key g) e
+full_found (s ∷ w) ks mark key e = go (s.number == 0) (is_key_at ks mark key s) (λ g. full_found w ks mark key g) e
   where
-    go : (free here : Bool) → (taken w ≡ length w → or_beside (finds w ks mark key) true ≡ true) → (if free then 0 else suc (taken w)) ≡ suc (length w) → or_beside (if free then Some false else if here then Some true else finds w ks mark key) true ≡ true
+    go : (free here : Bool) → (slots_taken w ≡ length w → or_beside (finds w ks mark key) true ≡ true) → (if free then 0 else suc (slots_taken w)) ≡ suc (length w) → or_beside (if free then Some false else if here then Some true else finds w ks mark key) true ≡ true
     go true here f e = absurd (omega arith)
     go false true f e = refl
     go false false f e = f (omega arith)
@@ -204,24 +204,24 @@ window_kept slots j new d ks ls n mark key b l e h = elim (cases_lt j n) [ inl b
     behind r q = rw (q, drop-set-add n slots r new) (within r q (cases_lt r 8))
 
 -- the slot behind the taken ones is free, and is one of the table
-slot_free : (slots : List Slot) (n : ℕ) (d : Slot) → taken (take 8 (drop n slots)) < 8 → n + 8 ≤ length slots → (get_or slots (n + taken (take 8 (drop n slots))) d).number ≡ 0
+slot_free : (slots : List Slot) (n : ℕ) (d : Slot) → slots_taken (take 8 (drop n slots)) < 8 → n + 8 ≤ length slots → (get_or slots (n + slots_taken (take 8 (drop n slots))) d).number ≡ 0
 slot_free slots n d l m =
     let w = take 8 (drop n slots) in
-    let long : taken w < length w = omega (arith, length-take 8 (drop n slots), length-drop n slots) in
-    ap (λ s. s.number) (sym (get_or-take 8 (drop n slots) (taken w) d l ∙ get_or-drop n slots (taken w) d)) ∙ gap w d long
+    let long : slots_taken w < length w = omega (arith, length-take 8 (drop n slots), length-drop n slots) in
+    ap (λ s. s.number) (sym (get_or-take 8 (drop n slots) (slots_taken w) d l ∙ get_or-drop n slots (slots_taken w) d)) ∙ gap w d long
 
 -- the key that takes it is found
-here_found : (slots : List Slot) (n : ℕ) (new : Slot) (ks : List (List ℕ)) (mark : ℕ) (k : List ℕ) (b : Bool) → taken (take 8 (drop n slots)) < 8 → n + 8 ≤ length slots → new.mark ≡ mark → new.number ≡ length ks + 1 → or_beside (finds (take 8 (drop n (set slots (n + taken (take 8 (drop n slots))) new))) (ks ++ k ∷ []) mark k) b ≡ true
+here_found : (slots : List Slot) (n : ℕ) (new : Slot) (ks : List (List ℕ)) (mark : ℕ) (k : List ℕ) (b : Bool) → slots_taken (take 8 (drop n slots)) < 8 → n + 8 ≤ length slots → new.mark ≡ mark → new.number ≡ length ks + 1 → or_beside (finds (take 8 (drop n (set slots (n + slots_taken (take 8 (drop n slots))) new))) (ks ++ k ∷ []) mark k) b ≡ true
 here_found slots n new ks mark k b l m e f =
     let w = take 8 (drop n slots) in
-    let long : taken w < length w = omega (arith, length-take 8 (drop n slots), length-drop n slots) in
-    let named_it : named (ks ++ k ∷ []) (new.number - 1) k ≡ true = (let i : new.number - 1 ≡ length ks = omega arith in ap (λ x. named (ks ++ k ∷ []) x k) i ∙ named_last ks k k ∙ bytes_same k) in
-    let it : is_at (ks ++ k ∷ []) mark k new ≡ true = rw (eq-eqb new.mark mark e, named_it) refl in
+    let long : slots_taken w < length w = omega (arith, length-take 8 (drop n slots), length-drop n slots) in
+    let named_it : is_key_named (ks ++ k ∷ []) (new.number - 1) k ≡ true = (let i : new.number - 1 ≡ length ks = omega arith in ap (λ x. is_key_named (ks ++ k ∷ []) x k) i ∙ named_last ks k k ∙ bytes_same k) in
+    let it : is_key_at (ks ++ k ∷ []) mark k new ≡ true = rw (eq-eqb new.mark mark e, named_it) refl in
     let some : (new.number == 0) ≡ false = not_zero new.number (omega arith) in
-    rw (drop-set-add n slots (taken w) new, take-set-lt 8 (drop n slots) (taken w) new l) (stored_found w new (ks ++ k ∷ []) mark k b long some it)
+    rw (drop-set-add n slots (slots_taken w) new, take-set-lt 8 (drop n slots) (slots_taken w) new l) (stored_found w new (ks ++ k ∷ []) mark k b long some it)
 
 -- a key more, in the table
-pub stored : (slots : List Slot) (others : BTreeSet (String Global)) (ks : List (List ℕ)) (k : List ℕ) (new d : Slot) (n : ℕ) → Table slots others ks → n ≡ start_of (length slots) (mark_of k) → n + 8 ≤ length slots → taken (take 8 (drop n slots)) < 8 → new.mark ≡ mark_of k → new.number ≡ length ks + 1 → Table (set slots (n + taken (take 8 (drop n slots))) new) others (ks ++ k ∷ [])
+pub stored : (slots : List Slot) (others : BTreeSet (String Global)) (ks : List (List ℕ)) (k : List ℕ) (new d : Slot) (n : ℕ) → Table slots others ks → n ≡ start_of (length slots) (mark_of k) → n + 8 ≤ length slots → slots_taken (take 8 (drop n slots)) < 8 → new.mark ≡ mark_of k → new.number ≡ length ks + 1 → Table (set slots (n + slots_taken (take 8 (drop n slots))) new) others (ks ++ k ∷ [])
 stored slots others ks k new d n t q m l e f = record {
   wide = (let w = t.wide in omega (arith, length-set slots j new));
   numbers = All-set (λ s. s.number ≤ length (ks ++ k ∷ [])) slots j new (omega (arith, more)) (All-weaker (λ s. s.number ≤ length ks) (λ s. s.number ≤ length (ks ++ k ∷ [])) (λ s g. omega (arith, more)) slots t.numbers);
@@ -230,7 +230,7 @@ stored slots others ks k new d n t q m l e f = record {
 }
   where
     j : ℕ
-    j = n + taken (take 8 (drop n slots))
+    j = n + slots_taken (take 8 (drop n slots))
 
     more : length (ks ++ k ∷ []) ≡ length ks + 1
     more = length-append ks (k ∷ [])
@@ -242,7 +242,7 @@ stored slots others ks k new d n t q m l e f = record {
     here key same = subst (λ x. or_beside (finds (take 8 (drop (start_of (length slots) (mark_of x)) (set slots j new))) (ks ++ k ∷ []) (mark_of x) x) (contains_text others x) ≡ true) same (subst (λ x. or_beside (finds (take 8 (drop x (set slots j new))) (ks ++ k ∷ []) (mark_of k) k) (contains_text others k) ≡ true) q (here_found slots n new ks (mark_of k) k (contains_text others k) l m e f))
 
 -- a key more, beside the table
-pub put_beside : (slots : List Slot) (others more : BTreeSet (String Global)) (ks : List (List ℕ)) (k : List ℕ) → Table slots others ks → 8 ≤ taken (window (mark_of k) slots) → ((key : List ℕ) → contains_text more key ≡ cond (bytes_eq k key) true (contains_text others key)) → Table slots more (ks ++ k ∷ [])
+pub put_beside : (slots : List Slot) (others more : BTreeSet (String Global)) (ks : List (List ℕ)) (k : List ℕ) → Table slots others ks → 8 ≤ slots_taken (window (mark_of k) slots) → ((key : List ℕ) → contains_text more key ≡ cond (bytes_eq k key) true (contains_text others key)) → Table slots more (ks ++ k ∷ [])
 put_beside slots others more ks k t full add = record {
   wide = t.wide;
   numbers = All-weaker (λ s. s.number ≤ length ks) (λ s. s.number ≤ length (ks ++ k ∷ [])) (λ s g. omega (arith, length-append ks (k ∷ []))) slots t.numbers;
@@ -261,7 +261,7 @@ put_beside slots others more ks k t full add = record {
     among key true e h = has_last ks k key e
     among key false e h = has_front ks k key (t.beside key h)
 
-    whole : taken (window (mark_of k) slots) ≡ length (window (mark_of k) slots)
+    whole : slots_taken (window (mark_of k) slots) ≡ length (window (mark_of k) slots)
     whole = omega (arith, taken_most (window (mark_of k) slots), length-take 8 (drop (start_of (length slots) (mark_of k)) slots))
 
     inside : contains_text more k ≡ true
@@ -289,17 +289,17 @@ keys_more : (ms : List (String Global × Tree)) (place : ℕ) (m : String Global
 keys_more ms place m l e = ap keys_of (take_more ms place m l ∙ ap (λ x. take place ms ++ x ∷ []) (sym e)) ∙ keys_push (take place ms) m.0 m.1
 
 -- the key of a member goes into the table behind those of the members before it
-pub added : (slots : List Slot) (others : BTreeSet (String Global)) (ms : List (String Global × Tree)) (place : ℕ) (m : String Global × Tree) (new : Slot) (n used : ℕ) → Table slots others (keys_of (take place ms)) → place < length ms → m ≡ get_or ms place m → n ≡ start_of (length slots) (mark_of (string_bytes m.0)) → n + 8 ≤ length slots → used ≡ taken (take 8 (drop n slots)) → used < 8 → new.mark ≡ mark_of (string_bytes m.0) → new.number ≡ place + 1 → Table (set slots (n + used) new) others (keys_of (take (place + 1) ms))
+pub added : (slots : List Slot) (others : BTreeSet (String Global)) (ms : List (String Global × Tree)) (place : ℕ) (m : String Global × Tree) (new : Slot) (n used : ℕ) → Table slots others (keys_of (take place ms)) → place < length ms → m ≡ get_or ms place m → n ≡ start_of (length slots) (mark_of (string_bytes m.0)) → n + 8 ≤ length slots → used ≡ slots_taken (take 8 (drop n slots)) → used < 8 → new.mark ≡ mark_of (string_bytes m.0) → new.number ≡ place + 1 → Table (set slots (n + used) new) others (keys_of (take (place + 1) ms))
 added slots others ms place m new n used t l e q w u v a b =
     let count : new.number ≡ length (keys_of (take place ms)) + 1 = omega (arith, keys_length (take place ms), length-take-le place ms (omega arith)) in
-    let few : taken (take 8 (drop n slots)) < 8 = omega arith in
+    let few : slots_taken (take 8 (drop n slots)) < 8 = omega arith in
     subst (λ ks. Table (set slots (n + used) new) others ks) (sym (keys_more ms place m l e))
     (subst (λ x. Table (set slots (n + x) new) others (keys_of (take place ms) ++ string_bytes m.0 ∷ [])) (sym u) (stored slots others (keys_of (take place ms)) (string_bytes m.0) new new n t q w few a count))
 
 -- or beside it
-pub added_beside : (slots : List Slot) (others more : BTreeSet (String Global)) (ms : List (String Global × Tree)) (place : ℕ) (m : String Global × Tree) (n used : ℕ) → Table slots others (keys_of (take place ms)) → place < length ms → m ≡ get_or ms place m → n ≡ start_of (length slots) (mark_of (string_bytes m.0)) → used ≡ taken (take 8 (drop n slots)) → 8 ≤ used → ((key : List ℕ) → contains_text more key ≡ cond (bytes_eq (string_bytes m.0) key) true (contains_text others key)) → Table slots more (keys_of (take (place + 1) ms))
+pub added_beside : (slots : List Slot) (others more : BTreeSet (String Global)) (ms : List (String Global × Tree)) (place : ℕ) (m : String Global × Tree) (n used : ℕ) → Table slots others (keys_of (take place ms)) → place < length ms → m ≡ get_or ms place m → n ≡ start_of (length slots) (mark_of (string_bytes m.0)) → used ≡ slots_taken (take 8 (drop n slots)) → 8 ≤ used → ((key : List ℕ) → contains_text more key ≡ cond (bytes_eq (string_bytes m.0) key) true (contains_text others key)) → Table slots more (keys_of (take (place + 1) ms))
 added_beside slots others more ms place m n used t l e q u v add =
-    let full : 8 ≤ taken (window (mark_of (string_bytes m.0)) slots) = subst (λ x. 8 ≤ taken (take 8 (drop x slots))) q (omega arith) in
+    let full : 8 ≤ slots_taken (window (mark_of (string_bytes m.0)) slots) = subst (λ x. 8 ≤ slots_taken (take 8 (drop x slots))) q (omega arith) in
     subst (λ ks. Table slots more ks) (sym (keys_more ms place m l e)) (put_beside slots others more (keys_of (take place ms)) (string_bytes m.0) t full add)
 
 -- the numbers in the slots for a mark are those of members

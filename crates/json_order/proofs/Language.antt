@@ -7,7 +7,7 @@ use Rattle.std.specs.Char.Utf16.{surrogate_pair_char}
 use Rattle.json_order.specs.Json.{Json, number, string, array, object, Items, item, Members, member}
 use Rattle.json_order.specs.Seen.{items_with, members_with}
 use Rattle.json_order.specs.Grammar.{Rules, IsSpaced, AreDigits, SomeDigits, IsFraction, IsExponent, IsPower, IsUnsigned, short_escape, IsHex, IsUnit, is_high_surrogate, is_low_surrogate, AreCharacters, IsKey, may_follow, IsValue, AreItems, AreMoreItems, AreMembers, AreMoreMembers}
-use Rattle.json_order.specs.private.Machine.{keys, Place, at_value, at_first_item, behind, at_first_key, at_next_key, in_key, behind_key, in_string, in_number, in_word, Frame, in_list, in_object, State}
+use Rattle.json_order.specs.private.Machine.{entry_keys, Place, at_value, at_first_item, behind, at_first_key, at_next_key, in_key, behind_key, in_string, in_number, in_word, Frame, in_list, in_object, State}
 use Rattle.json_order.specs.declared.place.Escape.{Escape}
 use Rattle.json_order.specs.declared.place.Escape.TheVariants.{Outside, Slash, Unit0, Unit1, Unit2, Unit3, High, HighSlash, Low0, Low1, Low2, Low3}
 use Rattle.json_order.specs.declared.place.Part.{Part}
@@ -78,7 +78,7 @@ StringRest (Low3 h v) cs before after = FirstCharacter (Low3 h v) cs before afte
 abbrev pub Closes : Rules → List Frame → Json → List ℕ → Json → Type 0
 Closes r [] v rest t = IsSpaced rest [] × (t ≡ v)
 Closes r (in_list vs ∷ fs) v rest t = (more : Items) × (m after : List ℕ) × IsSpaced rest m × AreMoreItems r (suc (length fs)) more m after × Closes r fs (array (items_with vs (item v more))) after t
-Closes r (in_object es key ∷ fs) v rest t = (more : Members) × (m after : List ℕ) × IsSpaced rest m × AreMoreMembers r (suc (length fs)) (keys es ++ key ∷ []) more m after × Closes r fs (object (members_with es (member key v more))) after t
+Closes r (in_object es key ∷ fs) v rest t = (more : Members) × (m after : List ℕ) × IsSpaced rest m × AreMoreMembers r (suc (length fs)) (entry_keys es ++ key ∷ []) more m after × Closes r fs (object (members_with es (member key v more))) after t
 
 -- a value, and what closes the frames around it
 abbrev pub BeginsValue : Rules → List Frame → List ℕ → Json → Type 0
@@ -92,8 +92,8 @@ CompletesAt r at_value fs rest t = Opens r fs rest t
 CompletesAt r at_first_item fs rest t = (items : Items) × (after : List ℕ) × AreItems r (suc (length fs)) items rest after × Closes r fs (array items) after t
 CompletesAt r (behind v) fs rest t = Closes r fs v rest t
 CompletesAt r at_first_key fs rest t = (members : Members) × (after : List ℕ) × AreMembers r (suc (length fs)) members rest after × Closes r fs (object members) after t
-CompletesAt r (at_next_key es) fs rest t = (key m : List ℕ) × IsKey r (keys es) key rest m × Opens r (in_object es key ∷ fs) m t
-CompletesAt r (in_key es text e) fs rest t = (cs k c m : List ℕ) × StringRest e cs rest k × (may_follow r (keys es) (text ++ encode_utf8_all cs) ≡ true) × IsSpaced k c × (c ≡ 58 ∷ m) × Opens r (in_object es (text ++ encode_utf8_all cs) ∷ fs) m t
+CompletesAt r (at_next_key es) fs rest t = (key m : List ℕ) × IsKey r (entry_keys es) key rest m × Opens r (in_object es key ∷ fs) m t
+CompletesAt r (in_key es text e) fs rest t = (cs k c m : List ℕ) × StringRest e cs rest k × (may_follow r (entry_keys es) (text ++ encode_utf8_all cs) ≡ true) × IsSpaced k c × (c ≡ 58 ∷ m) × Opens r (in_object es (text ++ encode_utf8_all cs) ∷ fs) m t
 CompletesAt r (behind_key es key) fs rest t = (c m : List ℕ) × IsSpaced rest c × (c ≡ 58 ∷ m) × Opens r (in_object es key ∷ fs) m t
 CompletesAt r (in_string text e) fs rest t = (cs m : List ℕ) × StringRest e cs rest m × Closes r fs (string (text ++ encode_utf8_all cs)) m t
 CompletesAt r (in_number text p) fs rest t = (more m : List ℕ) × NumberRest p more × (rest ≡ more ++ m) × Closes r fs (number (text ++ more)) m t

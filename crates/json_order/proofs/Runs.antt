@@ -5,7 +5,7 @@ use Rattle.std.proofs.Common.{ℕ, suc, ◌≤◌, ◌≡◌, ◌⊎◌, inl, in
 use Rattle.json_order.specs.Json.{Json, null, boolean, number, string, array, object, no_items, item, no_members, member}
 use Rattle.json_order.specs.Grammar.{Rules, IsSpaced, IsCharacter, plain, short, one_unit, two_units, IsKey, has_key, may_follow, IsValue, IsText}
 use Rattle.json_order.specs.Fault.{strict, deeper, repeating}
-use Rattle.json_order.specs.private.Machine.{Place, at_value, at_first_item, behind, at_first_key, at_next_key, in_key, behind_key, in_string, in_number, in_word, Frame, in_list, in_object, State, Move, goes, opens, names, stops, move, judged, step, start, run_on, run, ended, is_done}
+use Rattle.json_order.specs.private.Machine.{Place, at_value, at_first_item, behind, at_first_key, at_next_key, in_key, behind_key, in_string, in_number, in_word, Frame, in_list, in_object, State, Move, goes, opens, names, stops, move, under_rules, step, start, run_on, run, ended_value, is_done}
 use Rattle.json_order.specs.declared.fault.JsonKind.{JsonKind}
 use Rattle.json_order.specs.declared.fault.JsonKind.TheVariants.{Syntax, End, Depth, Duplicate, Utf8, Memory}
 use Rattle.json_order.specs.declared.place.Escape.{Escape}
@@ -29,7 +29,7 @@ abbrev Judged : Rules → (List ℕ → Json → Type 0) → Result State JsonKi
 Judged r L (Ok u) = IsSound r.limit u × Onto r L u
 Judged r L (Err k) = (rest : List ℕ) (t : Json) → ¬ (L rest t)
 
-judge : (r : Rules) (c : ℕ) (L : List ℕ → Json → Type 0) (m : Move) → Leads r L m → Facts r.limit c m → Judged r L (judged r m)
+judge : (r : Rules) (c : ℕ) (L : List ℕ → Json → Type 0) (m : Move) → Leads r L m → Facts r.limit c m → Judged r L (under_rules r m)
 judge r c L (goes u) h f = (f, h)
 judge r c L (opens u) h f =
     split (λ b. Judged r L (if b then Ok u else Err Depth)) (nat_lt (length u.frames) r.limit)
@@ -142,7 +142,7 @@ frames_none r (in_list vs) fs v t (item x is, m, after, sp, (b, s, e, z, q, sp',
 frames_none r (in_object es key) fs v t (no_members, m, after, sp, q, k) = let n = spaced_nil m sp in cc
 frames_none r (in_object es key) fs v t (member x y ms, m, after, sp, (b, n', s, e, z, q, isk, sp', w, sp'', more), k) = let n = spaced_nil m sp in cc
 
-ended_to : (r : Rules) (p : Place) (fs : List Frame) (t : Json) → CompletesAt r p fs [] t → ended p fs ≡ Some t
+ended_to : (r : Rules) (p : Place) (fs : List Frame) (t : Json) → CompletesAt r p fs [] t → ended_value p fs ≡ Some t
 ended_to r at_value fs t w = absurd (opens_none r fs t w)
 ended_to r at_first_item fs t (no_items, after, sp, k) = let n = spaced_nil (93 ∷ after) sp in cc
 ended_to r at_first_item fs t (item v is, after, (s, e, m, sp, w, sp', more), k) = absurd (value_none r (suc (length fs)) v e (subst (λ y. IsValue r (suc (length fs)) v y e) (spaced_nil s sp) w))
@@ -166,7 +166,7 @@ ended_to r (in_word [] v) (f ∷ fs) t (m, q, k) = absurd (frames_none r f fs v 
 ended_to r (in_word (l ∷ ls) v) [] t (m, q, k) = cc
 ended_to r (in_word (l ∷ ls) v) (f ∷ fs) t (m, q, k) = cc
 
-ended_from : (r : Rules) (p : Place) (fs : List Frame) (t : Json) → ended p fs ≡ Some t → CompletesAt r p fs [] t
+ended_from : (r : Rules) (p : Place) (fs : List Frame) (t : Json) → ended_value p fs ≡ Some t → CompletesAt r p fs [] t
 ended_from r at_value fs t h = cc
 ended_from r at_first_item fs t h = cc
 ended_from r (behind v) [] t h = (none_spaced [], cc)
@@ -190,10 +190,10 @@ ended_from r (in_word (l ∷ ls) v) (f ∷ fs) t h = cc
 -- WHOLE TEXTS
 
 -- a run that ends in a state: its text is a value's just where the state says so
-pub text_of_run : (r : Rules) (cs : List ℕ) (u : State) → run r (Ok start) cs ≡ Ok u → (t : Json) → (IsText r t cs → ended u.place u.frames ≡ Some t) × (ended u.place u.frames ≡ Some t → IsText r t cs)
+pub text_of_run : (r : Rules) (cs : List ℕ) (u : State) → run r (Ok start) cs ≡ Ok u → (t : Json) → (IsText r t cs → ended_value u.place u.frames ≡ Some t) × (ended_value u.place u.frames ≡ Some t → IsText r t cs)
 text_of_run r cs u h t = go (subst (λ o. Ran r start cs o) h (ran r start cs (start_sound r.limit)))
   where
-    go : Ran r start cs (Ok u) → (IsText r t cs → ended u.place u.frames ≡ Some t) × (ended u.place u.frames ≡ Some t → IsText r t cs)
+    go : Ran r start cs (Ok u) → (IsText r t cs → ended_value u.place u.frames ≡ Some t) × (ended_value u.place u.frames ≡ Some t → IsText r t cs)
     go w = (
       λ x. ended_to r u.place u.frames t ((w.1 [] t).0 (subst (λ y. Completes r start y t) (sym (append-nil cs)) (text_to r t cs x))),
       λ e. text_from r t cs (subst (λ y. Completes r start y t) (append-nil cs) ((w.1 [] t).1 (ended_from r u.place u.frames t e))),
@@ -216,11 +216,11 @@ refused_run r cs k h rest t x = (subst (λ o. Ran r start cs o) h (ran r start c
 -- OTHER RULES
 
 -- what the strict rules accept, others do that are no narrower
-judged_weaker : (r : Rules) → 16 ≤ r.limit → (m : Move) (u : State) → judged strict m ≡ Ok u → judged r m ≡ Ok u
+judged_weaker : (r : Rules) → 16 ≤ r.limit → (m : Move) (u : State) → under_rules strict m ≡ Ok u → under_rules r m ≡ Ok u
 judged_weaker r w (goes s) u h = h
 judged_weaker r w (opens s) u h = go (nat_lt (length s.frames) 16) refl h
   where
-    go : (b : Bool) → nat_lt (length s.frames) 16 ≡ b → (if b then Ok s else Err Depth) ≡ Ok u → judged r (opens s) ≡ Ok u
+    go : (b : Bool) → nat_lt (length s.frames) 16 ≡ b → (if b then Ok s else Err Depth) ≡ Ok u → under_rules r (opens s) ≡ Ok u
     go true e h = let l = lt_from (length s.frames) 16 e in rw (lt_to (length s.frames) r.limit (omega arith)) h
     go false e h = cc
 judged_weaker r w (names earlier key s) u h = go (has_key earlier key) refl h
@@ -229,7 +229,7 @@ judged_weaker r w (names earlier key s) u h = go (has_key earlier key) refl h
     flip true = refl
     flip false = refl
 
-    go : (b : Bool) → has_key earlier key ≡ b → (if not b then Ok s else Err Duplicate) ≡ Ok u → judged r (names earlier key s) ≡ Ok u
+    go : (b : Bool) → has_key earlier key ≡ b → (if not b then Ok s else Err Duplicate) ≡ Ok u → under_rules r (names earlier key s) ≡ Ok u
     go true e h = cc
     go false e h = rw (e, flip r.repeats) h
 judged_weaker r w stops u h = cc
@@ -246,14 +246,14 @@ run_weaker r w s (c ∷ cs) u h = go (λ v g. run_weaker r w v cs u g) (step str
 
 -- Syntax under all rules, Depth for a bracket that fits one level deeper, Duplicate for a quote that fits where keys may repeat
 abbrev pub Why : ℕ → Move → JsonKind → Type 0
-Why c m Syntax = (r : Rules) → judged r m ≡ Err Syntax
-Why c m Depth = ((c ≡ 91) ⊎ (c ≡ 123)) × ((u : State) × (judged deeper m ≡ Ok u))
-Why c m Duplicate = (c ≡ 34) × ((u : State) × (judged repeating m ≡ Ok u))
+Why c m Syntax = (r : Rules) → under_rules r m ≡ Err Syntax
+Why c m Depth = ((c ≡ 91) ⊎ (c ≡ 123)) × ((u : State) × (under_rules deeper m ≡ Ok u))
+Why c m Duplicate = (c ≡ 34) × ((u : State) × (under_rules repeating m ≡ Ok u))
 Why c m End = ⊥
 Why c m Utf8 = ⊥
 Why c m Memory = ⊥
 
-why_of : (c : ℕ) (m : Move) → Facts 16 c m → (k : JsonKind) → judged strict m ≡ Err k → Why c m k
+why_of : (c : ℕ) (m : Move) → Facts 16 c m → (k : JsonKind) → under_rules strict m ≡ Err k → Why c m k
 why_of c (goes s) f k h = cc
 why_of c (opens s) f k h = go (nat_lt (length s.frames) 16) refl h
   where

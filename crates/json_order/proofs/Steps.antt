@@ -4,7 +4,7 @@ use Rattle.std.proofs.Common.{ℕ, suc, ◌≤◌, ◌≡◌, ◌≢◌, ◌⊎�
 use Rattle.json_order.specs.Json.{Json, number, string, array, object, Items, no_items, item, Members, no_members, member}
 use Rattle.json_order.specs.Seen.{items_with, members_with}
 use Rattle.json_order.specs.Grammar.{Rules, is_space, IsSpaced, AreCharacters, IsString, IsKey, may_follow, AreMoreItems, AreMoreMembers}
-use Rattle.json_order.specs.private.Machine.{Entries, keys, Place, at_value, at_first_item, behind, at_first_key, at_next_key, in_key, behind_key, in_string, in_number, in_word, Frame, in_list, in_object, State, state, Move, goes, stops, value_move, next_move, behind_move, key_move, string_move, number_move, move, IsFine, IsFinePlace, Quote, going, closed, quote_step, part_step, is_done}
+use Rattle.json_order.specs.private.Machine.{Entries, entry_keys, Place, at_value, at_first_item, behind, at_first_key, at_next_key, in_key, behind_key, in_string, in_number, in_word, Frame, in_list, in_object, State, state, Move, goes, stops, value_move, next_move, behind_move, key_move, string_move, number_move, move, IsFine, IsFinePlace, Quote, going, closed, quote_step, part_step, is_done}
 use Rattle.json_order.specs.declared.place.Escape.{Escape}
 use Rattle.json_order.specs.declared.place.Escape.TheVariants.{Outside}
 use Rattle.json_order.specs.declared.place.Part.{Part}
@@ -90,7 +90,7 @@ members_push : (es : Entries) (k : List ℕ) (v : Json) (ms : Members) → membe
 members_push [] k v ms = refl
 members_push (x ∷ xs) k v ms = ap (λ y. member x.0 x.1 y) (members_push xs k v ms)
 
-keys_push : (es : Entries) (k : List ℕ) (v : Json) → keys (es ++ (k, v) ∷ []) ≡ keys es ++ k ∷ []
+keys_push : (es : Entries) (k : List ℕ) (v : Json) → entry_keys (es ++ (k, v) ∷ []) ≡ entry_keys es ++ k ∷ []
 keys_push [] k v = refl
 keys_push (x ∷ xs) k v = ap (λ y. x.0 ∷ y) (keys_push xs k v)
 
@@ -98,7 +98,7 @@ keys_push (x ∷ xs) k v = ap (λ y. x.0 ∷ y) (keys_push xs k v)
 abbrev Next : Rules → List Frame → Json → List ℕ → Json → Type 0
 Next r [] v m t = (m ≡ []) × (t ≡ v)
 Next r (in_list vs ∷ fs) v m t = (more : Items) × (after : List ℕ) × AreMoreItems r (suc (length fs)) more m after × Closes r fs (array (items_with vs (item v more))) after t
-Next r (in_object es key ∷ fs) v m t = (more : Members) × (after : List ℕ) × AreMoreMembers r (suc (length fs)) (keys es ++ key ∷ []) more m after × Closes r fs (object (members_with es (member key v more))) after t
+Next r (in_object es key ∷ fs) v m t = (more : Members) × (after : List ℕ) × AreMoreMembers r (suc (length fs)) (entry_keys es ++ key ∷ []) more m after × Closes r fs (object (members_with es (member key v more))) after t
 
 next_form : (r : Rules) (fs : List Frame) (v : Json) (rest : List ℕ) (t : Json) → (Closes r fs v rest t → Behind (λ x. Next r fs v x t) rest) × (Behind (λ x. Next r fs v x t) rest → Closes r fs v rest t)
 next_form r [] v rest t = (λ w. ([], w.0, (refl, w.1)), λ w. (subst (λ y. IsSpaced rest y) w.2.0 w.1, w.2.1))
@@ -142,7 +142,7 @@ item_close r fs vs v c h rest t = (to, from)
 
 -- from a key's quote on
 abbrev KeyAt : Rules → Entries → List Frame → List ℕ → Json → Type 0
-KeyAt r es fs s t = (key k c m : List ℕ) × IsString key s k × (may_follow r (keys es) key ≡ true) × IsSpaced k c × (c ≡ 58 ∷ m) × Opens r (in_object es key ∷ fs) m t
+KeyAt r es fs s t = (key k c m : List ℕ) × IsString key s k × (may_follow r (entry_keys es) key ≡ true) × IsSpaced k c × (c ≡ 58 ∷ m) × Opens r (in_object es key ∷ fs) m t
 
 next_key_form : (r : Rules) (es : Entries) (fs : List Frame) (rest : List ℕ) (t : Json) → (CompletesAt r (at_next_key es) fs rest t → Behind (λ x. KeyAt r es fs x t) rest) × (Behind (λ x. KeyAt r es fs x t) rest → CompletesAt r (at_next_key es) fs rest t)
 next_key_form r es fs rest t = (
@@ -160,7 +160,7 @@ member_comma r fs es key v c h rest t = (to, from)
         let tail : b ≡ rest = cc in let ks = sym (keys_push es key v) in (
           x,
           n,
-          subst (λ z. IsKey r z x rest n) ks (subst (λ z. IsKey r (keys es ++ key ∷ []) x z n) tail isk),
+          subst (λ z. IsKey r z x rest n) ks (subst (λ z. IsKey r (entry_keys es ++ key ∷ []) x z n) tail isk),
           (
             s,
             sp,
@@ -249,7 +249,7 @@ key_quote r es fs c h rest t = (to, from)
     to : KeyAt r es fs (c ∷ rest) t → CompletesAt r (in_key es [] Outside) fs rest t
     to (key, k, d, m, (cs, mid, q, z, w), f, sp, e, o) =
         let tail : mid ≡ rest = cc in
-        (cs, k, d, m, subst (λ y. AreCharacters cs y k) tail w, subst (λ y. may_follow r (keys es) y ≡ true) z f, sp, e, subst (λ y. Opens r (in_object es y ∷ fs) m t) z o)
+        (cs, k, d, m, subst (λ y. AreCharacters cs y k) tail w, subst (λ y. may_follow r (entry_keys es) y ≡ true) z f, sp, e, subst (λ y. Opens r (in_object es y ∷ fs) m t) z o)
 
     from : CompletesAt r (in_key es [] Outside) fs rest t → KeyAt r es fs (c ∷ rest) t
     from (cs, k, d, m, w, f, sp, e, o) = (encode_utf8_all cs, k, d, m, (cs, rest, ap (λ y. y ∷ rest) h, refl, w), f, sp, e, o)
@@ -355,7 +355,7 @@ leads_string r fs text e c fine = go (quote_step text e c) (quotes text e c fine
 
 -- what has to follow a key
 abbrev KeyEnd : Rules → Entries → List Frame → List ℕ → List ℕ → Json → Type 0
-KeyEnd r es fs whole k t = (may_follow r (keys es) whole ≡ true) × CompletesAt r (behind_key es whole) fs k t
+KeyEnd r es fs whole k t = (may_follow r (entry_keys es) whole ≡ true) × CompletesAt r (behind_key es whole) fs k t
 
 key_form : (r : Rules) (es : Entries) (fs : List Frame) (text : List ℕ) (e : Escape) → Same (CompletesAt r (in_key es text e) fs) (Quoted (KeyEnd r es fs) text e)
 key_form r es fs text e rest t = (to, from)
@@ -365,7 +365,7 @@ key_form r es fs text e rest t = (to, from)
 
     from : Quoted (KeyEnd r es fs) text e rest t → CompletesAt r (in_key es text e) fs rest t
     from (k, whole, (cs, w, z), (f, (c, m, sp, q, o))) =
-        (cs, k, c, m, w, subst (λ y. may_follow r (keys es) y ≡ true) z f, sp, q, subst (λ y. Opens r (in_object es y ∷ fs) m t) z o)
+        (cs, k, c, m, w, subst (λ y. may_follow r (entry_keys es) y ≡ true) z f, sp, q, subst (λ y. Opens r (in_object es y ∷ fs) m t) z o)
 
 leads_key : (r : Rules) (es : Entries) (fs : List Frame) (text : List ℕ) (e : Escape) (c : ℕ) → IsFine e → Leads r (λ rest t. CompletesAt r (in_key es text e) fs (c ∷ rest) t) (move (in_key es text e) fs c)
 leads_key r es fs text e c fine = go (quote_step text e c) (quotes text e c fine)

@@ -6,7 +6,7 @@ use Rattle.std.specs.Char.{IsScalar, digit_value}
 use Rattle.std.specs.Char.Utf16.{surrogate_pair_char}
 use Rattle.std.specs.Int.{is_in_range}
 use Rattle.json_order.specs.Grammar.{is_plain, short_escape, IsHex, is_high_surrogate, is_low_surrogate, IsCharacter, plain, short, one_unit, two_units, AreCharacters}
-use Rattle.json_order.specs.private.Machine.{IsFine, Quote, going, closed, quote_step, spelled, first_unit}
+use Rattle.json_order.specs.private.Machine.{IsFine, Quote, going, closed, quote_step, quote_spelled, first_unit}
 use Rattle.json_order.specs.declared.place.Escape.{Escape}
 use Rattle.json_order.specs.declared.place.Escape.TheVariants.{Outside, Slash, Unit0, Unit1, Unit2, Unit3, High, HighSlash, Low0, Low1, Low2, Low3}
 use Rattle.json_order.proofs.Language.{UnitRest, LowRest, FirstRest, EscapeRest, FirstCharacter, StringRest}
@@ -223,7 +223,7 @@ last_unit v c fine h s x rest mid = (to, from)
 quotes_unit3 : (text : List ℕ) (v c : ℕ) → IsFine (Unit3 v) → Quotes text (Unit3 v) c (quote_step text (Unit3 v) c)
 quotes_unit3 text v c fine =
     split (λ b. Quotes text (Unit3 v) c (if b then first_unit text (16 * v + digit_value c) else None)) (nat_lt (digit_value c) 16)
-    (λ h. split (λ b. Quotes text (Unit3 v) c (if b then Some (going text (High (16 * v + digit_value c))) else spelled text (Some (16 * v + digit_value c)))) (is_high_surrogate (16 * v + digit_value c))
+    (λ h. split (λ b. Quotes text (Unit3 v) c (if b then Some (going text (High (16 * v + digit_value c))) else quote_spelled text (Some (16 * v + digit_value c)))) (is_high_surrogate (16 * v + digit_value c))
     (λ s. goes_by (Unit3 v) (High (16 * v + digit_value c)) text c (on_high v c (lt_from _ _ h) s))
     (λ s. ends_by (Unit3 v) text c (16 * v + digit_value c) (last_unit v c fine (lt_from _ _ h) s)))
     (λ n. stops_by (Unit3 v) text c (never_digit 0 v c (lt_not _ _ n)))
@@ -289,7 +289,7 @@ last_low s v c fine h x rest mid = (to, from)
 
 quotes_low3 : (text : List ℕ) (s v c : ℕ) → IsFine (Low3 s v) → Quotes text (Low3 s v) c (quote_step text (Low3 s v) c)
 quotes_low3 text s v c fine =
-    split (λ b. Quotes text (Low3 s v) c (if b then spelled text (Some (surrogate_pair_char s (16 * v + digit_value c))) else None)) (nat_lt (digit_value c) 16)
+    split (λ b. Quotes text (Low3 s v) c (if b then quote_spelled text (Some (surrogate_pair_char s (16 * v + digit_value c))) else None)) (nat_lt (digit_value c) 16)
     (λ h. ends_by (Low3 s v) text c (surrogate_pair_char s (16 * v + digit_value c)) (last_low s v c fine (lt_from _ _ h)))
     (λ n. stops_by (Low3 s v) text c (never_low s 0 v c (lt_not _ _ n)))
 
@@ -319,11 +319,11 @@ slash_never c n s x rest mid (inr (m, q, w)) = n cc
 
 quotes_slash : (text : List ℕ) (c : ℕ) → Quotes text Slash c (quote_step text Slash c)
 quotes_slash text c =
-    split (λ b. Quotes text Slash c (if b then Some (going text Unit0) else spelled text (short_escape c))) (c == 117)
+    split (λ b. Quotes text Slash c (if b then Some (going text Unit0) else quote_spelled text (short_escape c))) (c == 117)
     (λ h. goes_by Slash Unit0 text c (slash_on c (is_eq c 117 h)))
     (λ n. go (short_escape c) refl (not_eq c 117 n))
   where
-    go : (o : Option ℕ) → short_escape c ≡ o → c ≢ 117 → Quotes text Slash c (spelled text o)
+    go : (o : Option ℕ) → short_escape c ≡ o → c ≢ 117 → Quotes text Slash c (quote_spelled text o)
     go None s n = stops_by Slash text c (slash_never c n s)
     go (Some u) s n = ends_by Slash text c u (slash_last c u n s)
 
@@ -393,11 +393,11 @@ le_not a b h = grind (arith, nat_tests)
 
 quotes_outside : (text : List ℕ) (c : ℕ) → Quotes text Outside c (quote_step text Outside c)
 quotes_outside text c =
-    split (λ b. Quotes text Outside c (if b then Some (closed text) else if c == 92 then Some (going text Slash) else if nat_le 32 c then spelled text (Some c) else None)) (c == 34)
+    split (λ b. Quotes text Outside c (if b then Some (closed text) else if c == 92 then Some (going text Slash) else if nat_le 32 c then quote_spelled text (Some c) else None)) (c == 34)
     (λ h. outside_quote text c (is_eq c 34 h))
-    (λ n. split (λ b. Quotes text Outside c (if b then Some (going text Slash) else if nat_le 32 c then spelled text (Some c) else None)) (c == 92)
+    (λ n. split (λ b. Quotes text Outside c (if b then Some (going text Slash) else if nat_le 32 c then quote_spelled text (Some c) else None)) (c == 92)
     (λ h. outside_slash text c (is_eq c 92 h))
-    (λ m. split (λ b. Quotes text Outside c (if b then spelled text (Some c) else None)) (nat_le 32 c)
+    (λ m. split (λ b. Quotes text Outside c (if b then quote_spelled text (Some c) else None)) (nat_le 32 c)
     (λ h. outside_plain text c (not_eq c 34 n) (not_eq c 92 m) (plain_from c (le_from 32 c h) (not_eq c 34 n) (not_eq c 92 m)))
     (λ l. outside_none text c (not_eq c 34 n) (not_eq c 92 m) (le_not 32 c l))))
 
@@ -422,7 +422,7 @@ FineQuote None = Unit {0}
 FineQuote (Some (going text e)) = IsFine e
 FineQuote (Some (closed text)) = Unit {0}
 
-fine_spelled : (text : List ℕ) (o : Option ℕ) → FineQuote (spelled text o)
+fine_spelled : (text : List ℕ) (o : Option ℕ) → FineQuote (quote_spelled text o)
 fine_spelled text None = tt
 fine_spelled text (Some c) = tt
 
@@ -435,10 +435,10 @@ fine_unit3 v d (a, inr l) k = (omega arith, inr (omega arith))
 
 pub fine_quote : (text : List ℕ) (e : Escape) (c : ℕ) → IsFine e → FineQuote (quote_step text e c)
 fine_quote text Outside c fine =
-    split (λ b. FineQuote (if b then Some (closed text) else if c == 92 then Some (going text Slash) else if nat_le 32 c then spelled text (Some c) else None)) (c == 34) (λ h. tt)
-    (λ n. split (λ b. FineQuote (if b then Some (going text Slash) else if nat_le 32 c then spelled text (Some c) else None)) (c == 92) (λ h. tt)
-    (λ m. split (λ b. FineQuote (if b then spelled text (Some c) else None)) (nat_le 32 c) (λ h. tt) (λ l. tt)))
-fine_quote text Slash c fine = split (λ b. FineQuote (if b then Some (going text Unit0) else spelled text (short_escape c))) (c == 117) (λ h. tt) (λ n. fine_spelled text (short_escape c))
+    split (λ b. FineQuote (if b then Some (closed text) else if c == 92 then Some (going text Slash) else if nat_le 32 c then quote_spelled text (Some c) else None)) (c == 34) (λ h. tt)
+    (λ n. split (λ b. FineQuote (if b then Some (going text Slash) else if nat_le 32 c then quote_spelled text (Some c) else None)) (c == 92) (λ h. tt)
+    (λ m. split (λ b. FineQuote (if b then quote_spelled text (Some c) else None)) (nat_le 32 c) (λ h. tt) (λ l. tt)))
+fine_quote text Slash c fine = split (λ b. FineQuote (if b then Some (going text Unit0) else quote_spelled text (short_escape c))) (c == 117) (λ h. tt) (λ n. fine_spelled text (short_escape c))
 fine_quote text Unit0 c fine = split (λ b. FineQuote (if b then Some (going text (Unit1 (digit_value c))) else None)) (nat_lt (digit_value c) 16) (λ h. lt_from (digit_value c) 16 h) (λ n. tt)
 fine_quote text (Unit1 v) c fine =
     split (λ b. FineQuote (if b then (if is_in_range 0xDC 0xDF (16 * v + digit_value c) then None else Some (going text (Unit2 (16 * v + digit_value c)))) else None)) (nat_lt (digit_value c) 16)
@@ -450,7 +450,7 @@ fine_quote text (Unit2 v) c fine =
     (λ h. fine_unit3 v (digit_value c) fine (lt_from (digit_value c) 16 h)) (λ n. tt)
 fine_quote text (Unit3 v) c fine =
     split (λ b. FineQuote (if b then first_unit text (16 * v + digit_value c) else None)) (nat_lt (digit_value c) 16)
-    (λ h. split (λ b. FineQuote (if b then Some (going text (High (16 * v + digit_value c))) else spelled text (Some (16 * v + digit_value c)))) (is_high_surrogate (16 * v + digit_value c))
+    (λ h. split (λ b. FineQuote (if b then Some (going text (High (16 * v + digit_value c))) else quote_spelled text (Some (16 * v + digit_value c)))) (is_high_surrogate (16 * v + digit_value c))
     (λ s. high_to (16 * v + digit_value c) s) (λ s. tt))
     (λ n. tt)
 fine_quote text (High s) c fine = split (λ b. FineQuote (if b then Some (going text (HighSlash s)) else None)) (c == 92) (λ h. fine) (λ n. tt)
@@ -467,4 +467,4 @@ fine_quote text (Low2 s v) c fine =
     split (λ b. FineQuote (if b then Some (going text (Low3 s (16 * v + digit_value c))) else None)) (nat_lt (digit_value c) 16)
     (λ h. let d = lt_from (digit_value c) 16 h in (fine.0, fine.1, omega (arith, fine.2), omega (arith, fine.3))) (λ n. tt)
 fine_quote text (Low3 s v) c fine =
-    split (λ b. FineQuote (if b then spelled text (Some (surrogate_pair_char s (16 * v + digit_value c))) else None)) (nat_lt (digit_value c) 16) (λ h. tt) (λ n. tt)
+    split (λ b. FineQuote (if b then quote_spelled text (Some (surrogate_pair_char s (16 * v + digit_value c))) else None)) (nat_lt (digit_value c) 16) (λ h. tt) (λ n. tt)

@@ -2,10 +2,10 @@
 use Rattle.std.specs.Prelude.{encode_utf8, encode_utf8_all, IsUtf8}
 use Rattle.std.proofs.Common.{ℕ, ◌+◌, ◌≡◌, ◌≢◌, List, [], ◌∷◌, ◌++◌, length, refl, sym, ap, ◌∙◌, subst, arith, Ok, Err, append-nil, append_assoc, length-append}
 use Rattle.std.proofs.lemmas.Str.{encodes-append}
-use Rattle.json_order.specs.Fault.{strict, IsFault}
+use Rattle.json_order.specs.Fault.{strict, IsJsonFault}
 use Rattle.json_order.specs.private.Machine.{State, step, start, run, IsFinePlace}
 use Rattle.json_order.specs.private.AtOnce.{Stands}
-use Rattle.json_order.specs.private.Places.{Says}
+use Rattle.json_order.specs.private.Places.{OutcomeSays}
 use Rattle.json_order.specs.declared.fault.JsonKind.{JsonKind}
 use Rattle.json_order.specs.declared.fault.JsonKind.TheVariants.{Syntax, End, Depth, Duplicate, Utf8, Memory}
 use Rattle.json_order.proofs.Runs.{sound_run, run_step}
@@ -18,15 +18,15 @@ pub record Told (k : JsonKind) (at : ℕ) (kind : JsonKind) (place : ℕ) : Type
   pub other : k ≢ Memory → place ≡ at
 
 pub fault_told : (bytes ys : List ℕ) (c : ℕ) (rest z : List ℕ) (s : State) (k : JsonKind) (at : ℕ) (kind : JsonKind) (place : ℕ) →
-    IsUtf8 bytes → bytes ≡ encode_utf8_all ys ++ rest → rest ≡ encode_utf8 c ++ z → run strict (Ok start) ys ≡ Ok s → Says (step strict s c) k → at ≡ length (encode_utf8_all ys) → Told k at kind place → IsFault bytes kind place
-fault_told bytes ys c rest z s k at kind place u seen next ran says here told = subst (λ x. IsFault bytes x place) (sym told.same) (go k says told)
+    IsUtf8 bytes → bytes ≡ encode_utf8_all ys ++ rest → rest ≡ encode_utf8 c ++ z → run strict (Ok start) ys ≡ Ok s → OutcomeSays (step strict s c) k → at ≡ length (encode_utf8_all ys) → Told k at kind place → IsJsonFault bytes kind place
+fault_told bytes ys c rest z s k at kind place u seen next ran says here told = subst (λ x. IsJsonFault bytes x place) (sym told.same) (go k says told)
   where
-    real : (k : JsonKind) → k ≢ Memory → step strict s c ≡ Err k → Told k at kind place → IsFault bytes k place
+    real : (k : JsonKind) → k ≢ Memory → step strict s c ≡ Err k → Told k at kind place → IsJsonFault bytes k place
     real k n e t =
-        subst (λ x. IsFault bytes k x) (sym (t.other n ∙ here))
+        subst (λ x. IsJsonFault bytes k x) (sym (t.other n ∙ here))
         (fault_at bytes ys c z s k (record { utf8 = u; here = seen ∙ ap (λ x. encode_utf8_all ys ++ x) next }) (record { until = ran; refused = e }))
 
-    go : (k : JsonKind) → Says (step strict s c) k → Told k at kind place → IsFault bytes k place
+    go : (k : JsonKind) → OutcomeSays (step strict s c) k → Told k at kind place → IsJsonFault bytes k place
     go Syntax e t = real Syntax (λ x. cc) e t
     go End e t = real End (λ x. cc) e t
     go Depth e t = real Depth (λ x. cc) e t

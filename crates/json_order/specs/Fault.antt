@@ -7,13 +7,13 @@ use Rattle.json_order.specs.declared.fault.JsonKind.{JsonKind}
 use Rattle.json_order.specs.declared.fault.JsonKind.TheVariants.{Syntax, End, Depth, Duplicate, Utf8, Memory}
 
 -- the number of a kind (own)
-abbrev pub number_of : JsonKind → ℕ
-number_of Syntax = 10
-number_of End = 11
-number_of Depth = 12
-number_of Duplicate = 13
-number_of Utf8 = 14
-number_of Memory = 15
+abbrev pub kind_number : JsonKind → ℕ
+kind_number Syntax = 10
+kind_number End = 11
+kind_number Depth = 12
+kind_number Duplicate = 13
+kind_number Utf8 = 14
+kind_number Memory = 15
 
 -- at most sixteen lists and objects inside one another, and no key twice in one object
 abbrev pub strict : Rules
@@ -34,40 +34,40 @@ Spells rules bytes v =
     × IsText rules v characters
 
 -- some accepted text begins with these bytes
-abbrev pub Begins : Rules → List ℕ → Type 0
-Begins rules front = (rest : List ℕ) × (v : Json) × Spells rules (front ++ rest) v
+abbrev pub BeginsText : Rules → List ℕ → Type 0
+BeginsText rules front = (rest : List ℕ) × (v : Json) × Spells rules (front ++ rest) v
 
 -- the first n bytes begin an accepted text, and no longer front of the input does
 pub record IsLongestFront (bytes : List ℕ) (n : ℕ) : Type 0 where
   pub within : n ≤ length bytes
-  pub begins : Begins strict (take n bytes)
-  pub longest : (m : ℕ) → n < m → m ≤ length bytes → ¬ (Begins strict (take m bytes))
+  pub begins : BeginsText strict (take n bytes)
+  pub longest : (m : ℕ) → n < m → m ≤ length bytes → ¬ (BeginsText strict (take m bytes))
 
 -- the byte at n is `[` or `{` where a value may begin, and opens one level too many
 abbrev pub OpensTooDeep : List ℕ → ℕ → Type 0
 OpensTooDeep bytes n =
     ((slice_get bytes n ≡ Some 91) ⊎ (slice_get bytes n ≡ Some 123))
-    × Begins deeper (take (n + 1) bytes)
+    × BeginsText deeper (take (n + 1) bytes)
 
 -- the byte at n is the quote that closes a key, which its object has already
 abbrev pub RepeatsKey : List ℕ → ℕ → Type 0
-RepeatsKey bytes n = (slice_get bytes n ≡ Some 34) × Begins repeating (take (n + 1) bytes)
+RepeatsKey bytes n = (slice_get bytes n ≡ Some 34) × BeginsText repeating (take (n + 1) bytes)
 
 -- the fault of an input, by its kind, is at this place
-abbrev pub IsFault : List ℕ → JsonKind → ℕ → Type 0
+abbrev pub IsJsonFault : List ℕ → JsonKind → ℕ → Type 0
 -- the first byte that is no part of a well-formed character, wherever else the input goes wrong
-IsFault bytes Utf8 n = IsValidUpTo bytes n
+IsJsonFault bytes Utf8 n = IsValidUpTo bytes n
 -- the whole input begins an accepted text and is none
-IsFault bytes End n =
+IsJsonFault bytes End n =
     IsUtf8 bytes × IsLongestFront bytes n × (n ≡ length bytes)
     × ((v : Json) → ¬ (Spells strict bytes v))
-IsFault bytes Depth n =
+IsJsonFault bytes Depth n =
     IsUtf8 bytes × IsLongestFront bytes n × (n < length bytes) × OpensTooDeep bytes n
-IsFault bytes Duplicate n =
+IsJsonFault bytes Duplicate n =
     IsUtf8 bytes × IsLongestFront bytes n × (n < length bytes) × RepeatsKey bytes n
 -- any other byte
-IsFault bytes Syntax n =
+IsJsonFault bytes Syntax n =
     IsUtf8 bytes × IsLongestFront bytes n × (n < length bytes) × ¬ (OpensTooDeep bytes n)
     × ¬ (RepeatsKey bytes n)
 -- a growth was refused, which may come before any fault
-IsFault bytes Memory n = n ≡ 0
+IsJsonFault bytes Memory n = n ≡ 0

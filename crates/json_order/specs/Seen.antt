@@ -17,8 +17,8 @@ members_with [] members = members
 members_with (e ∷ es) members = member e.0 e.1 (members_with es members)
 
 -- a member with its key as bytes
-abbrev pub entry_of : String Global × Json → List ℕ × Json
-entry_of m = (string_bytes m.0, m.1)
+abbrev pub member_entry : String Global × Json → List ℕ × Json
+member_entry m = (string_bytes m.0, m.1)
 
 -- one level, with each value inside already seen
 abbrev pub seen_step : Tree-F Json → Json
@@ -27,7 +27,7 @@ seen_step (Tree-F.Bool b) = boolean b
 seen_step (Tree-F.Number s) = number (string_bytes s)
 seen_step (Tree-F.Text s) = string (string_bytes s)
 seen_step (Tree-F.List v) = array (items_with v.items no_items)
-seen_step (Tree-F.Object v) = object (members_with (map entry_of v.items) no_members)
+seen_step (Tree-F.Object v) = object (members_with (map member_entry v.items) no_members)
 
 abbrev pub json_of : Tree → Json
 json_of = fold-Tree Json seen_step

@@ -1,6 +1,6 @@
 ghost use Rattle.std.specs.Prelude.{◌≡◌};
 ghost use Rattle.json_order.specs.declared.fault.JsonKind.TheVariants.{Memory};
-ghost use Rattle.json_order.specs.Fault.{number_of};
+ghost use Rattle.json_order.specs.Fault.{kind_number};
 
 use std::alloc::{AllocError, AllocFailed};
 use std::error::Error;
@@ -26,7 +26,7 @@ pub enum JsonKind {
 impl JsonKind {
     /// The kind's number, 10 to 15.
     pub fn number(self) -> u32
-        ensures { result ≡ number_of self }
+        ensures { result ≡ kind_number self }
     {
         match self {
             JsonKind::Syntax => 10,
@@ -70,7 +70,7 @@ impl fmt::Display for JsonFault {
     ghost use Rattle.std.specs.Prelude.{Some, codes, decimal, ◌++◌};
 
     ghost output = { λ e. Some (codes "json "
-        ++ (decimal (number_of e.kind) ++ (codes " at " ++ decimal e.at))) };
+        ++ (decimal (kind_number e.kind) ++ (codes " at " ++ decimal e.at))) };
 
     fn fmt<W: fmt::Write>(&self, f: &mut fmt::Formatter<W>) -> fmt::Result {
         let number = self.kind.number();

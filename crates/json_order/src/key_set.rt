@@ -5,7 +5,7 @@ ghost use Rattle.json_order.specs.Grammar.{has_key};
 ghost use Rattle.json_order.specs.private.Entries.{keys_of};
 ghost use Rattle.json_order.specs.private.Marks as marks;
 ghost use Rattle.json_order.specs.private.KeySets as sets;
-ghost use Rattle.json_order.specs.private.KeySets.{HasKeys, finds, taken};
+ghost use Rattle.json_order.specs.private.KeySets.{HasKeys, finds, slots_taken};
 
 use crate::fault::JsonKind;
 use crate::tree::Tree;
@@ -68,7 +68,7 @@ fn window(slots: &[Slot], mark: u32) -> &[Slot]
 
 /// How many slots in front are taken.
 fn taken(window: &[Slot]) -> usize
-    ensures { result ≡ taken window.now }
+    ensures { result ≡ slots_taken window.now }
 {
     for (i, slot) in window.iter().enumerate() {
         if slot.number == 0 {
@@ -82,7 +82,7 @@ fn taken(window: &[Slot]) -> usize
 fn is_at(slot: Slot, members: &[(String, Tree)], mark: u32, key: &str) -> bool
     requires some { 0 < slot.number }
     requires within { slot.number ≤ length members.now }
-    ensures { result ≡ sets.is_at (keys_of members.now) mark key.now slot }
+    ensures { result ≡ sets.is_key_at (keys_of members.now) mark key.now slot }
 {
     if slot.mark != mark {
         return false;

@@ -69,7 +69,7 @@ fn second_unit(text: &mut String, escape: &mut Escape, high: u32, low: u32) -> R
     requires high { (0xD800 ≤ high) × (high ≤ 0xDBFF) }
     requires low { (0xDC00 ≤ low) × (low ≤ 0xDFFF) }
     ensures ok { OnOk result
-        (machine.spelled (string_bytes text.old) (Some (surrogate_pair_char high low))
+        (machine.quote_spelled (string_bytes text.old) (Some (surrogate_pair_char high low))
         ≡ Some (going (string_bytes text.new) escape.new)) }
     ensures err { IfErr result (λ k. k ≡ Memory) }
 {

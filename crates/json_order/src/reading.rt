@@ -1,10 +1,10 @@
 ghost use Rattle.std.specs.Prelude.{◌≡◌, ◌≢◌, [], Some, None, IfOk, OnOk, IfErr, IfSome, IfNone};
 ghost use Rattle.json_order.specs.declared.fault.JsonKind.TheVariants.{Memory};
-ghost use Rattle.json_order.specs.Fault.{strict, Spells, IsFault};
+ghost use Rattle.json_order.specs.Fault.{strict, Spells, IsJsonFault};
 ghost use Rattle.json_order.specs.Json.{Json};
 ghost use Rattle.json_order.specs.private.AtOnce.{Stands};
-ghost use Rattle.json_order.specs.private.Machine.{start, ended};
-ghost use Rattle.json_order.specs.private.Places.{place_of, frames_of, state_of};
+ghost use Rattle.json_order.specs.private.Machine.{start, ended_value};
+ghost use Rattle.json_order.specs.private.Places.{code_place, frames_of, code_state};
 ghost use Rattle.json_order.specs.Seen.{json_of};
 
 use crate::fault::{JsonFault, JsonKind};
@@ -39,7 +39,7 @@ pub fn read(alloc: Global, bytes: &[u8]) -> Result<Tree, JsonFault>
     ensures accepted { (value : Json) → Spells strict bytes.now value
         → IfErr result (λ fault. fault.kind ≡ Memory) }
     // Which fault it is, and where.
-    ensures fault { IfErr result (λ fault. IsFault bytes.now fault.kind fault.at) }
+    ensures fault { IfErr result (λ fault. IsJsonFault bytes.now fault.kind fault.at) }
 {
     match str::from_utf8(bytes) {
         Ok(text) => read_text(alloc, text),
@@ -64,8 +64,9 @@ fn fault_at(kind: JsonKind, at: usize) -> JsonFault
 
 /// The value of a text that ends here, none where it may not.
 fn value_at_end(place: Place, stack: &Vec<Frame>) -> Option<Tree>
-    ensures none { IfNone result (ended (place_of place) (frames_of stack.now.items) ≡ None) }
-    ensures some { IfSome result (λ tree. ended (place_of place) (frames_of stack.now.items)
+    ensures none { IfNone result
+        (ended_value (code_place place) (frames_of stack.now.items) ≡ None) }
+    ensures some { IfSome result (λ tree. ended_value (code_place place) (frames_of stack.now.items)
         ≡ Some (json_of tree)) }
 {
     if !stack.is_empty() {
@@ -96,9 +97,9 @@ fn read_through(
     place: &mut Place,
     stack: &mut Vec<Frame>,
 ) -> Result<(), JsonFault>
-    requires start { state_of place.old stack.old.items ≡ start }
-    ensures ok { OnOk result (Stands text.now (state_of place.new stack.new.items) []) }
-    ensures fault { IfErr result (λ fault. IsFault text.now fault.kind fault.at) }
+    requires start { code_state place.old stack.old.items ≡ start }
+    ensures ok { OnOk result (Stands text.now (code_state place.new stack.new.items) []) }
+    ensures fault { IfErr result (λ fault. IsJsonFault text.now fault.kind fault.at) }
 {
     let mut chars = text.chars();
     while let Some(c) = chars.next() {
@@ -119,7 +120,7 @@ fn read_slowly(alloc: Global, text: &str) -> Result<Tree, JsonFault>
     ensures found { IfOk result (λ tree. Spells strict text.now (json_of tree)) }
     ensures only { IfOk result (λ tree. (value : Json) → Spells strict text.now value → value
         ≡ json_of tree) }
-    ensures fault { IfErr result (λ fault. IsFault text.now fault.kind fault.at) }
+    ensures fault { IfErr result (λ fault. IsJsonFault text.now fault.kind fault.at) }
 {
     let Ok(mut stack) = Vec::with_capacity(alloc, DEPTH + 1) else {
         return Err(fault_at(JsonKind::Memory, 0));
@@ -142,7 +143,7 @@ fn read_text(alloc: Global, text: &str) -> Result<Tree, JsonFault>
     ensures found { IfOk result (λ tree. Spells strict text.now (json_of tree)) }
     ensures only { IfOk result (λ tree. (value : Json) → Spells strict text.now value → value
         ≡ json_of tree) }
-    ensures fault { IfErr result (λ fault. IsFault text.now fault.kind fault.at) }
+    ensures fault { IfErr result (λ fault. IsJsonFault text.now fault.kind fault.at) }
 {
     match whole_text(alloc, text) {
         Ok(Some(tree)) => Ok(tree),

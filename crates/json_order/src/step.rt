@@ -4,8 +4,8 @@ ghost use Rattle.json_order.specs.declared.place.Escape.TheVariants.{Outside};
 ghost use Rattle.json_order.specs.Fault.{strict};
 ghost use Rattle.json_order.specs.Grammar as grammar;
 ghost use Rattle.json_order.specs.Json.{array, no_items, object, no_members};
-ghost use Rattle.json_order.specs.private.Machine.{Frame as StackFrame, IsFine, IsFinePlace, state, judged, step as machine_step, move, at_first_item, at_first_key, at_next_key, in_key, behind_key, in_string, in_number, in_word, value_move, next_move, behind_move};
-ghost use Rattle.json_order.specs.private.Places.{place_of, frames_of, state_of, entries_of, letters_from, value_of, Says, IsInObject, IsMoving};
+ghost use Rattle.json_order.specs.private.Machine.{Frame as StackFrame, IsFine, IsFinePlace, state, under_rules, step as machine_step, move, at_first_item, at_first_key, at_next_key, in_key, behind_key, in_string, in_number, in_word, value_move, next_move, behind_move};
+ghost use Rattle.json_order.specs.private.Places.{code_place, frames_of, code_state, entries_of_tree, letters_from, value_of, OutcomeSays, IsInObject, IsMoving};
 ghost use Rattle.json_order.specs.Seen.{json_of, items_with, members_with};
 
 use crate::fault::JsonKind;
@@ -52,7 +52,7 @@ fn go_to(place: &mut Place, next: Place) -> Result<(), JsonKind>
 #[inline(always)]
 fn begin_key(alloc: Global, place: &mut Place, members: Members) -> Result<(), JsonKind>
     ensures ok { IsOk result }
-    ensures place { place_of place.new ≡ in_key (entries_of members.list.items) [] Outside }
+    ensures place { code_place place.new ≡ in_key (entries_of_tree members.list.items) [] Outside }
 {
     go_to(
         place,
@@ -63,9 +63,10 @@ fn begin_key(alloc: Global, place: &mut Place, members: Members) -> Result<(), J
 /// A value's first character.
 #[inline(always)]
 fn value_step(alloc: Global, place: &mut Place, stack: &Vec<Frame>, c: char) -> Result<(), JsonKind>
-    ensures ok { OnOk result (judged strict (value_move (frames_of stack.now.items) c)
-        ≡ Ok (state_of place.new stack.now.items)) }
-    ensures err { IfErr result (Says (judged strict (value_move (frames_of stack.now.items) c))) }
+    ensures ok { OnOk result (under_rules strict (value_move (frames_of stack.now.items) c)
+        ≡ Ok (code_state place.new stack.now.items)) }
+    ensures err { IfErr result
+        (OutcomeSays (under_rules strict (value_move (frames_of stack.now.items) c))) }
 {
     match c {
         'n' => go_to(place, Place::Word(Word::Null, 1)),
@@ -96,7 +97,7 @@ fn add_last(items: &mut Vec<Tree>, value: Tree) -> Result<(), JsonKind>
 
 /// The object of these members.
 pub(crate) fn object_of(list: Vec<(String, Tree)>) -> Tree
-    ensures { json_of result ≡ object (members_with (entries_of list.items) no_members) }
+    ensures { json_of result ≡ object (members_with (entries_of_tree list.items) no_members) }
 {
     Tree::Object(list)
 }
@@ -105,7 +106,7 @@ pub(crate) fn object_of(list: Vec<(String, Tree)>) -> Tree
 #[inline(always)]
 pub(crate) fn whole_object(members: Members, key: String, value: Tree) -> Result<Tree, JsonKind>
     ensures ok { IfOk result (λ t. json_of t ≡ object (members_with
-        (entries_of (members.list.items ++ (key, value) ∷ [])) no_members)) }
+        (entries_of_tree (members.list.items ++ (key, value) ∷ [])) no_members)) }
     ensures err { IfErr result (λ k. k ≡ Memory) }
 {
     let Members { mut list, sets: _ } = members;
@@ -117,11 +118,12 @@ pub(crate) fn whole_object(members: Members, key: String, value: Tree) -> Result
 /// object does.
 #[inline(always)]
 fn push_item(place: &mut Place, stack: &mut Vec<Frame>, value: Tree) -> Result<(), JsonKind>
-    ensures ok { OnOk result (judged strict
+    ensures ok { OnOk result (under_rules strict
         (next_move (json_of value) (frames_of stack.old.items) 44)
-        ≡ Ok (state_of place.new stack.new.items)) }
+        ≡ Ok (code_state place.new stack.new.items)) }
     ensures err { IfErr result
-        (Says (judged strict (next_move (json_of value) (frames_of stack.old.items) 44))) }
+        (OutcomeSays
+        (under_rules strict (next_move (json_of value) (frames_of stack.old.items) 44))) }
 {
     let open = stack.len();
     if open == 0 {
@@ -140,11 +142,12 @@ fn push_item(place: &mut Place, stack: &mut Vec<Frame>, value: Tree) -> Result<(
 #[inline(always)]
 fn push_member(place: &mut Place, stack: &mut Vec<Frame>, value: Tree) -> Result<(), JsonKind>
     requires { IsInObject (frames_of stack.old.items) }
-    ensures ok { OnOk result (judged strict
+    ensures ok { OnOk result (under_rules strict
         (next_move (json_of value) (frames_of stack.old.items) 44)
-        ≡ Ok (state_of place.new stack.new.items)) }
+        ≡ Ok (code_state place.new stack.new.items)) }
     ensures err { IfErr result
-        (Says (judged strict (next_move (json_of value) (frames_of stack.old.items) 44))) }
+        (OutcomeSays
+        (under_rules strict (next_move (json_of value) (frames_of stack.old.items) 44))) }
 {
     match stack.pop() {
         Some(Frame::Object(members, key)) => {
@@ -173,11 +176,12 @@ fn next_step(
     value: Tree,
     c: char,
 ) -> Result<(), JsonKind>
-    ensures ok { OnOk result (judged strict
+    ensures ok { OnOk result (under_rules strict
         (next_move (json_of value) (frames_of stack.old.items) c)
-        ≡ Ok (state_of place.new stack.new.items)) }
+        ≡ Ok (code_state place.new stack.new.items)) }
     ensures err { IfErr result
-        (Says (judged strict (next_move (json_of value) (frames_of stack.old.items) c))) }
+        (OutcomeSays
+        (under_rules strict (next_move (json_of value) (frames_of stack.old.items) c))) }
 {
     match c {
         ',' => push_item(place, stack, value),
@@ -202,11 +206,12 @@ fn behind_step(
     value: Tree,
     c: char,
 ) -> Result<(), JsonKind>
-    ensures ok { OnOk result (judged strict
+    ensures ok { OnOk result (under_rules strict
         (behind_move (json_of value) (frames_of stack.old.items) c)
-        ≡ Ok (state_of place.new stack.new.items)) }
+        ≡ Ok (code_state place.new stack.new.items)) }
     ensures err { IfErr result
-        (Says (judged strict (behind_move (json_of value) (frames_of stack.old.items) c))) }
+        (OutcomeSays
+        (under_rules strict (behind_move (json_of value) (frames_of stack.old.items) c))) }
 {
     if is_space(c) {
         return go_to(place, Place::Behind(value));
@@ -228,10 +233,10 @@ fn first_item_step(
     stack: &mut Vec<Frame>,
     c: char,
 ) -> Result<(), JsonKind>
-    ensures ok { OnOk result (judged strict (move at_first_item (frames_of stack.old.items) c)
-        ≡ Ok (state_of place.new stack.new.items)) }
+    ensures ok { OnOk result (under_rules strict (move at_first_item (frames_of stack.old.items) c)
+        ≡ Ok (code_state place.new stack.new.items)) }
     ensures err { IfErr result
-        (Says (judged strict (move at_first_item (frames_of stack.old.items) c))) }
+        (OutcomeSays (under_rules strict (move at_first_item (frames_of stack.old.items) c))) }
 {
     if is_space(c) {
         return go_to(place, Place::FirstItem);
@@ -245,10 +250,10 @@ fn first_item_step(
 
 /// Behind a `{`.
 fn first_key_step(alloc: Global, place: &mut Place, c: char) -> Result<(), JsonKind>
-    ensures ok { OnOk result ((fs : List StackFrame) → judged strict (move at_first_key fs c)
-        ≡ Ok (state (place_of place.new) fs)) }
+    ensures ok { OnOk result ((fs : List StackFrame) → under_rules strict (move at_first_key fs c)
+        ≡ Ok (state (code_place place.new) fs)) }
     ensures err { IfErr result (λ k. (fs : List StackFrame)
-        → Says (judged strict (move at_first_key fs c)) k) }
+        → OutcomeSays (under_rules strict (move at_first_key fs c)) k) }
 {
     match c {
         ' ' | '\t' | '\n' | '\r' => go_to(place, Place::FirstKey),
@@ -266,10 +271,11 @@ fn next_key_step(
     c: char,
 ) -> Result<(), JsonKind>
     ensures ok { OnOk result ((fs : List StackFrame)
-        → judged strict (move (at_next_key (entries_of members.list.items)) fs c)
-        ≡ Ok (state (place_of place.new) fs)) }
+        → under_rules strict (move (at_next_key (entries_of_tree members.list.items)) fs c)
+        ≡ Ok (state (code_place place.new) fs)) }
     ensures err { IfErr result (λ k. (fs : List StackFrame)
-        → Says (judged strict (move (at_next_key (entries_of members.list.items)) fs c)) k) }
+        → OutcomeSays
+        (under_rules strict (move (at_next_key (entries_of_tree members.list.items)) fs c)) k) }
 {
     match c {
         ' ' | '\t' | '\n' | '\r' => go_to(place, Place::NextKey(members)),
@@ -289,10 +295,10 @@ fn key_step(
 ) -> Result<(), JsonKind>
     requires fine { IsFine escape }
     ensures ok { OnOk result ((fs : List StackFrame)
-        → judged strict (move (in_key (entries_of members.list.items)
-        (string_bytes text) escape) fs c) ≡ Ok (state (place_of place.new) fs)) }
-    ensures err { IfErr result (λ k. (fs : List StackFrame) → Says (judged strict
-        (move (in_key (entries_of members.list.items) (string_bytes text) escape) fs c)) k) }
+        → under_rules strict (move (in_key (entries_of_tree members.list.items)
+        (string_bytes text) escape) fs c) ≡ Ok (state (code_place place.new) fs)) }
+    ensures err { IfErr result (λ k. (fs : List StackFrame) → OutcomeSays (under_rules strict
+        (move (in_key (entries_of_tree members.list.items) (string_bytes text) escape) fs c)) k) }
 {
     match quote_step(&mut text, &mut escape, c)? {
         Quote::Going => go_to(place, Place::Key(members, text, escape)),
@@ -314,11 +320,12 @@ fn colon_step(
     key: String,
     c: char,
 ) -> Result<(), JsonKind>
-    ensures ok { OnOk result (judged strict (move (behind_key (entries_of members.list.items)
+    ensures ok { OnOk result
+        (under_rules strict (move (behind_key (entries_of_tree members.list.items)
         (string_bytes key)) (frames_of stack.old.items) c)
-        ≡ Ok (state_of place.new stack.new.items)) }
-    ensures err { IfErr result (Says (judged strict (move (behind_key
-        (entries_of members.list.items) (string_bytes key)) (frames_of stack.old.items) c))) }
+        ≡ Ok (code_state place.new stack.new.items)) }
+    ensures err { IfErr result (OutcomeSays (under_rules strict (move (behind_key
+        (entries_of_tree members.list.items) (string_bytes key)) (frames_of stack.old.items) c))) }
 {
     match c {
         ' ' | '\t' | '\n' | '\r' => go_to(place, Place::Colon(members, key)),
@@ -340,10 +347,10 @@ fn text_step(
 ) -> Result<(), JsonKind>
     requires fine { IsFine escape }
     ensures ok { OnOk result ((fs : List StackFrame)
-        → judged strict (move (in_string (string_bytes text) escape) fs c)
-        ≡ Ok (state (place_of place.new) fs)) }
+        → under_rules strict (move (in_string (string_bytes text) escape) fs c)
+        ≡ Ok (state (code_place place.new) fs)) }
     ensures err { IfErr result (λ k. (fs : List StackFrame)
-        → Says (judged strict (move (in_string (string_bytes text) escape) fs c)) k) }
+        → OutcomeSays (under_rules strict (move (in_string (string_bytes text) escape) fs c)) k) }
 {
     match quote_step(&mut text, &mut escape, c)? {
         Quote::Going => go_to(place, Place::Text(text, escape)),
@@ -360,10 +367,11 @@ fn number_step(
     part: Part,
     c: char,
 ) -> Result<(), JsonKind>
-    ensures ok { OnOk result (judged strict (move (in_number (string_bytes text) part)
-        (frames_of stack.old.items) c) ≡ Ok (state_of place.new stack.new.items)) }
-    ensures err { IfErr result (Says
-        (judged strict (move (in_number (string_bytes text) part) (frames_of stack.old.items) c))) }
+    ensures ok { OnOk result (under_rules strict (move (in_number (string_bytes text) part)
+        (frames_of stack.old.items) c) ≡ Ok (code_state place.new stack.new.items)) }
+    ensures err { IfErr result (OutcomeSays
+        (under_rules strict
+        (move (in_number (string_bytes text) part) (frames_of stack.old.items) c))) }
 {
     match part_step(part, c) {
         Some(next) => {
@@ -387,10 +395,10 @@ fn word_step(
     read: usize,
     c: char,
 ) -> Result<(), JsonKind>
-    ensures ok { OnOk result (judged strict (move (in_word (letters_from word read)
+    ensures ok { OnOk result (under_rules strict (move (in_word (letters_from word read)
         (value_of word)) (frames_of stack.old.items) c)
-        ≡ Ok (state_of place.new stack.new.items)) }
-    ensures err { IfErr result (Says (judged strict
+        ≡ Ok (code_state place.new stack.new.items)) }
+    ensures err { IfErr result (OutcomeSays (under_rules strict
         (move (in_word (letters_from word read) (value_of word)) (frames_of stack.old.items) c))) }
 {
     match word.letter(read) {
@@ -413,10 +421,11 @@ fn turn_moving(
     c: char,
 ) -> Result<(), JsonKind>
     requires moving { IsMoving place.old }
-    requires fine { IsFinePlace (place_of place.old) }
-    ensures ok { OnOk result (machine_step strict (state_of place.old stack.old.items) c
-        ≡ Ok (state_of place.new stack.new.items)) }
-    ensures err { IfErr result (Says (machine_step strict (state_of place.old stack.old.items) c)) }
+    requires fine { IsFinePlace (code_place place.old) }
+    ensures ok { OnOk result (machine_step strict (code_state place.old stack.old.items) c
+        ≡ Ok (code_state place.new stack.new.items)) }
+    ensures err { IfErr result
+        (OutcomeSays (machine_step strict (code_state place.old stack.old.items) c)) }
 {
     match mem::replace(place, Place::Value) {
         Place::Behind(value) => behind_step(place, stack, value, c),
@@ -437,10 +446,11 @@ pub(crate) fn turn(
     stack: &mut Vec<Frame>,
     c: char,
 ) -> Result<(), JsonKind>
-    requires fine { IsFinePlace (place_of place.old) }
-    ensures ok { OnOk result (machine_step strict (state_of place.old stack.old.items) c
-        ≡ Ok (state_of place.new stack.new.items)) }
-    ensures err { IfErr result (Says (machine_step strict (state_of place.old stack.old.items) c)) }
+    requires fine { IsFinePlace (code_place place.old) }
+    ensures ok { OnOk result (machine_step strict (code_state place.old stack.old.items) c
+        ≡ Ok (code_state place.new stack.new.items)) }
+    ensures err { IfErr result
+        (OutcomeSays (machine_step strict (code_state place.old stack.old.items) c)) }
 {
     match place {
         Place::Value => {

@@ -7,8 +7,8 @@ ghost use Rattle.json_order.specs.Fault.{strict};
 ghost use Rattle.json_order.specs.Grammar.{IsSpaced};
 ghost use Rattle.json_order.specs.Json.{string, object as object_value, no_members};
 ghost use Rattle.json_order.specs.private.Machine.{Frame as StackFrame, state, step, at_value, at_first_item, at_first_key, behind as behind_value, in_number};
-ghost use Rattle.json_order.specs.private.Places.{entries_of, value_of};
-ghost use Rattle.json_order.specs.private.Whole.{Crosses, IsQuoted, ReadsKey, ReadsNumber, ReadsValue, ReadsWord, IsWhole};
+ghost use Rattle.json_order.specs.private.Places.{entries_of_tree, value_of};
+ghost use Rattle.json_order.specs.private.Whole.{Crosses, IsQuoted, ReadsKey, ReadsNumber, ReadsValue, ReadsWord, IsWholeText};
 ghost use Rattle.json_order.specs.Seen.{json_of};
 
 use crate::fault::JsonKind;
@@ -118,7 +118,7 @@ fn word<'a>(word: Word, rest: &'a str) -> Option<(Tree, &'a str)>
 /// A new key behind these members, its colon and the white space behind it.
 #[inline(always)]
 fn key<'a>(alloc: Global, members: &Members, rest: &'a str) -> Whole<'a, String>
-    ensures ok { IfOk result (λ o. IfSome o (λ t. ReadsKey (entries_of members.now.list.items)
+    ensures ok { IfOk result (λ o. IfSome o (λ t. ReadsKey (entries_of_tree members.now.list.items)
         (string_bytes t.0) rest.now t.1.now)) }
     ensures err { IfErr result (λ k. k ≡ Memory) }
 {
@@ -228,7 +228,7 @@ fn value<'a>(alloc: Global, rest: &'a str, depth: usize) -> Whole<'a, Tree>
 
 /// The value that a text spells, with white space around it.
 pub(crate) fn whole_text(alloc: Global, text: &str) -> Result<Option<Tree>, JsonKind>
-    ensures ok { IfOk result (λ o. IfSome o (λ tree. IsWhole text.now (json_of tree))) }
+    ensures ok { IfOk result (λ o. IfSome o (λ tree. IsWholeText text.now (json_of tree))) }
     ensures err { IfErr result (λ k. k ≡ Memory) }
 {
     let left = behind_space(text);

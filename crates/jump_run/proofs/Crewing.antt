@@ -14,13 +14,13 @@ use Rattle.domain_run.specs.Jump.{running_numbers, running, rate_for, IsCharged,
 use Rattle.tick_split.specs.declared.element.Plan.{Plan}
 use Rattle.tick_split.specs.declared.element.Slice.{Slice}
 use Rattle.tick_split.specs.Planning.{IsPlanned}
-use Rattle.tick_split.specs.Charging.{IsChargeable, charged}
+use Rattle.tick_split.specs.Charging.{IsChargeable, charged_slice}
 use Rattle.tick_split.proofs.CallerLemmas.{slow_plan, left_before}
-use Rattle.jump_run.specs.Plans.{plan_of, IsFit, ArePlans, slice_of, IsSmall}
+use Rattle.jump_run.specs.Plans.{plan_of, IsSoundPlan, ArePlans, slice_of, IsSmall}
 use Rattle.jump_run.proofs.Gathering.{running_within}
 
 -- one plan more
-pub plans_push : (d : Domain) (ticks next i : ℕ) (plans : List Plan) (r : Running) (p : Plan) → next ≤ ticks → next ≤ r.work → running d i ≡ Some r → length plans ≡ i → p ≡ plan_of d r → IsFit p
+pub plans_push : (d : Domain) (ticks next i : ℕ) (plans : List Plan) (r : Running) (p : Plan) → next ≤ ticks → next ≤ r.work → running d i ≡ Some r → length plans ≡ i → p ≡ plan_of d r → IsSoundPlan p
     → ArePlans d ticks plans → ArePlans d next (plans ++ p ∷ [])
 plans_push d ticks next i plans r p less work at long is fit are =
     let last : (j : ℕ) → j < length (plans ++ p ∷ []) → i ≤ j → i ≡ j = λ j within behind. (let more = length_push plans p in omega (arith, more, long, within, behind)) in
@@ -36,11 +36,11 @@ plans_push d ticks next i plans r p less work at long is fit are =
             | inl before ↦ let w = are.worked j q (omega (arith, before, long)) h in omega (arith, w, less)
             | inr behind ↦ subst (λ (x : Running). next ≤ x.work) (same q j (last j within behind) h) work
           ];
-      fit = All-push IsFit plans p are.fit fit;
+      fit = All-push IsSoundPlan plans p are.fit fit;
     }
 
 -- a task that runs for so many ticks by its plan
-one_charged : (d : Domain) (next : ℕ) (r : Running) (p q : Plan) → IsFit p → IsPlanned p q → p ≡ plan_of d r → 0 < next → next ≤ q.spent → next ≤ r.work → IsCharged d next r (charged (slice_of next q)).left
+one_charged : (d : Domain) (next : ℕ) (r : Running) (p q : Plan) → IsSoundPlan p → IsPlanned p q → p ≡ plan_of d r → 0 < next → next ≤ q.spent → next ≤ r.work → IsCharged d next r (charged_slice (slice_of next q)).left
 one_charged d next r p q fit is e some spent worked =
     let rate_is : q.rate ≡ rate_for d r = (subst (λ (x : Plan). IsPlanned x q) e is).rate in
     let left_is : p.left ≡ r.left = ap (λ (x : Plan). x.left) e in
@@ -59,7 +59,7 @@ record IsFitted (q : Plan) : Type 0 where
   pub low : pos 0 <ℤ q.left
   pub high : q.left ≤ℤ pos (2 ^ 52)
 
-fitted : (p q : Plan) → IsFit p → IsPlanned p q → IsFitted q
+fitted : (p q : Plan) → IsSoundPlan p → IsPlanned p q → IsFitted q
 fitted p q fit is =
     let kept : q.left ≡ p.left = ap (λ (x : Plan). x.left) is.others in
     record {
@@ -76,12 +76,12 @@ module _ (plans after : List Plan) (planned : AllZip IsPlanned plans after) wher
   pub all_from_one : All (λ (q : Plan). 1 ≤ q.spent) after
   all_from_one i d within = (AllZip-get_or IsPlanned plans after i d d planned (omega (arith, within, length_all_zip IsPlanned plans after planned))).from_one
 
-  fitted_at : All IsFit plans → (i : ℕ) → i < length after → IsFitted (get_or after i blank)
+  fitted_at : All IsSoundPlan plans → (i : ℕ) → i < length after → IsFitted (get_or after i blank)
   fitted_at fit i within =
       let there : i < length plans = omega (arith, within, length_all_zip IsPlanned plans after planned) in
-      fitted (get_or plans i blank) (get_or after i blank) (All-get_or IsFit plans i blank there fit) (AllZip-get_or IsPlanned plans after i blank blank planned there)
+      fitted (get_or plans i blank) (get_or after i blank) (All-get_or IsSoundPlan plans i blank there fit) (AllZip-get_or IsPlanned plans after i blank blank planned there)
 
-  pub all_chargeable : (next : ℕ) → All IsFit plans → next ≤ 2 ^ 42 → All IsChargeable (map (slice_of next) after)
+  pub all_chargeable : (next : ℕ) → All IsSoundPlan plans → next ≤ 2 ^ 42 → All IsChargeable (map (slice_of next) after)
   all_chargeable next fit short i d within =
       let there : i < length after = omega (arith, within, length-map after (slice_of next)) in
       let f = fitted_at fit i there in
@@ -92,36 +92,36 @@ module _ (plans after : List Plan) (planned : AllZip IsPlanned plans after) wher
         high = let h = f.high in omega (arith, ints, h);
       })
 
-  pub all_small : (next : ℕ) → All IsFit plans → next ≤ 2 ^ 42 → All IsSmall (map charged (map (slice_of next) after))
+  pub all_small : (next : ℕ) → All IsSoundPlan plans → next ≤ 2 ^ 42 → All IsSmall (map charged_slice (map (slice_of next) after))
   all_small next fit short i d within =
       let slices = map (slice_of next) after in
-      let long : length (map charged slices) ≡ length after = length-map slices charged ∙ length-map after (slice_of next) in
+      let long : length (map charged_slice slices) ≡ length after = length-map slices charged_slice ∙ length-map after (slice_of next) in
       let there : i < length after = omega (arith, within, long) in
       let here : i < length slices = omega (arith, there, length-map after (slice_of next)) in
       let f = fitted_at fit i there in
       let product : (get_or after i blank).rate * next ≤ 2 ^ 27 * 2 ^ 42 = mul-le-mul f.slow short in
-      rw (get_or-map charged slices i (slice_of next blank) d here, get_or-map (slice_of next) after i blank (slice_of next blank) there) (record {
+      rw (get_or-map charged_slice slices i (slice_of next blank) d here, get_or-map (slice_of next) after i blank (slice_of next blank) there) (record {
         low = let l = f.low in omega (arith, ints, l, product);
         high = let h = f.high in omega (arith, ints, h);
       })
 
   -- what the ticks leave of the budgets
   pub charged_by : (d : Domain) (ticks next : ℕ) → ArePlans d ticks plans → length plans ≡ length (running_numbers d.curr) → 0 < next → next ≤ ticks → All (λ (q : Plan). next ≤ q.spent) after
-      → AreCharged d next (map (λ (s : Slice). s.left) (map charged (map (slice_of next) after)))
+      → AreCharged d next (map (λ (s : Slice). s.left) (map charged_slice (map (slice_of next) after)))
   charged_by d ticks next are many some less spent =
       let slices = map (slice_of next) after in
       let same : length plans ≡ length after = length_all_zip IsPlanned plans after planned in
-      let long : length (map charged slices) ≡ length after = length-map slices charged ∙ length-map after (slice_of next) in
+      let long : length (map charged_slice slices) ≡ length after = length-map slices charged_slice ∙ length-map after (slice_of next) in
       record {
-        many = length-map (map charged slices) (λ (s : Slice). s.left) ∙ long ∙ sym same ∙ many;
+        many = length-map (map charged_slice slices) (λ (s : Slice). s.left) ∙ long ∙ sym same ∙ many;
         each = λ i r h.
             let inside : i < length plans = omega (arith, running_within d i r h, many) in
             let there : i < length after = omega (arith, inside, same) in
             let here : i < length slices = omega (arith, there, length-map after (slice_of next)) in
-            let last : i < length (map charged slices) = omega (arith, there, long) in
+            let last : i < length (map charged_slice slices) = omega (arith, there, long) in
             let p = get_or plans i blank in
             let q = get_or after i blank in
             let w = are.worked i r inside h in
-            let one = one_charged d next r p q (All-get_or IsFit plans i blank inside are.fit) (AllZip-get_or IsPlanned plans after i blank blank planned inside) (are.each i r blank inside h) some (All-get_or (λ (x : Plan). next ≤ x.spent) after i blank there spent) (omega (arith, w, less)) in
-            rw (get_or-map (λ (s : Slice). s.left) (map charged slices) i (charged (slice_of next blank)) (pos 0) last, get_or-map charged slices i (slice_of next blank) (charged (slice_of next blank)) here, get_or-map (slice_of next) after i blank (slice_of next blank) there) one;
+            let one = one_charged d next r p q (All-get_or IsSoundPlan plans i blank inside are.fit) (AllZip-get_or IsPlanned plans after i blank blank planned inside) (are.each i r blank inside h) some (All-get_or (λ (x : Plan). next ≤ x.spent) after i blank there spent) (omega (arith, w, less)) in
+            rw (get_or-map (λ (s : Slice). s.left) (map charged_slice slices) i (charged_slice (slice_of next blank)) (pos 0) last, get_or-map charged_slice slices i (slice_of next blank) (charged_slice (slice_of next blank)) here, get_or-map (slice_of next) after i blank (slice_of next blank) there) one;
       }

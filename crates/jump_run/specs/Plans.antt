@@ -25,7 +25,7 @@ plan_of d r =
     }
 
 -- a plan that a domain within its cap gives, so that no product is out of range
-pub record IsFit (p : Plan) : Type 0 where
+pub record IsSoundPlan (p : Plan) : Type 0 where
   pub ordered : IsOrdered p.params
   pub can : IsPlannable p
   pub within : p.sum ≤ cap p.cpus p.limit
@@ -36,7 +36,7 @@ pub record ArePlans (d : Domain) (ticks : ℕ) (plans : List Plan) : Type 0 wher
   pub each : (i : ℕ) (r : Running) (p : Plan) → i < length plans → running d i ≡ Some r
       → slice_index_or plans i p ≡ plan_of d r
   pub worked : (i : ℕ) (r : Running) → i < length plans → running d i ≡ Some r → ticks ≤ r.work
-  pub fit : All IsFit plans
+  pub fit : All IsSoundPlan plans
 
 -- what is to be charged for so many ticks, by a plan that has been worked out
 abbrev pub slice_of : ℕ → Plan → Slice

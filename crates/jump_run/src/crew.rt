@@ -4,8 +4,8 @@ ghost use Rattle.std.specs.Prelude.{◌≡◌, ◌<◌, ◌≤◌, ◌^◌, IfOk
 ghost use Rattle.std.specs.List.{AllZip};
 ghost use Rattle.domain_run.specs.Jump as jump;
 ghost use Rattle.tick_split.specs.Planning.{IsPlannable, IsPlanned};
-ghost use Rattle.tick_split.specs.Charging.{IsChargeable, charged};
-ghost use Rattle.jump_run.specs.Plans.{ArePlans, IsFit, IsSmall, slice_of};
+ghost use Rattle.tick_split.specs.Charging.{IsChargeable, charged_slice};
+ghost use Rattle.jump_run.specs.Plans.{ArePlans, IsSoundPlan, IsSmall, slice_of};
 
 use crate::plan::{Room, Span, plan_of};
 use domain_run::{NoMemory, State};
@@ -112,7 +112,7 @@ fn plan<R: Threads + Wait, G: Turn>(crew: &Crew<'_, R, G>, plans: &mut [Plan])
 /// Charges all slices, in one piece where a worker was not started or a growth was refused.
 fn charge<R: Threads + Wait, G: Turn>(crew: &Crew<'_, R, G>, slices: &mut [Slice])
     requires slices { All IsChargeable slices.old }
-    ensures { slices.new ≡ map charged slices.old }
+    ensures { slices.new ≡ map charged_slice slices.old }
 {
     if charge_all(crew.rt, crew.alloc, slices, crew.workers, crew.turn).is_err() {
         let alone = charge_all(crew.rt, crew.alloc, slices, 1, crew.turn).is_ok();
@@ -166,7 +166,7 @@ fn put_lefts(slices: &[Slice], room: &mut Room)
 
 /// Works out all plans of a list.
 fn plan_list<R: Threads + Wait, G: Turn>(crew: &Crew<'_, R, G>, plans: &mut Vec<Plan>)
-    requires plans { All IsFit plans.old.items }
+    requires plans { All IsSoundPlan plans.old.items }
     ensures each { AllZip IsPlanned plans.old.items plans.new.items }
     ensures room { vec_capacity plans.new ≡ vec_capacity plans.old }
 {
@@ -176,7 +176,7 @@ fn plan_list<R: Threads + Wait, G: Turn>(crew: &Crew<'_, R, G>, plans: &mut Vec<
 /// Charges all slices of a list.
 fn charge_list<R: Threads + Wait, G: Turn>(crew: &Crew<'_, R, G>, slices: &mut Vec<Slice>)
     requires slices { All IsChargeable slices.old.items }
-    ensures each { slices.new.items ≡ map charged slices.old.items }
+    ensures each { slices.new.items ≡ map charged_slice slices.old.items }
     ensures room { vec_capacity slices.new ≡ vec_capacity slices.old }
 {
     charge(crew, slices.as_mut_slice());

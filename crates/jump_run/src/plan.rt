@@ -50,7 +50,7 @@ pub(crate) fn plan_of(state: &State, runner: &Running) -> Plan
     requires lifted { pos 0 <ℤ runner.now.left }
     requires high { runner.now.left ≤ℤ pos (2 ^ 52) }
     ensures value { result ≡ plans.plan_of state.now runner.now }
-    ensures fit { plans.IsFit result }
+    ensures fit { plans.IsSoundPlan result }
 {
     Plan {
         params: ordered(&runner.params),

@@ -15,7 +15,7 @@ use Rattle.pass_seats.specs.declared.view.View.{View}
 use Rattle.pass_seats.specs.Lists.{own}
 use Rattle.pass_seats.specs.Listed.{spine_in, pass_in, passes_in, Knows, IsListed, fresh, opened}
 use Rattle.pass_seats.specs.private.Pass.{pass_view}
-use Rattle.pass_seats.specs.Kinds.{joined, spent, first_pass, other_passes, listed, grown, with_entries, Appends, Agrees}
+use Rattle.pass_seats.specs.Kinds.{joined, spent_seat, first_pass, other_passes, listed, grown, with_entries, Appends, Agrees}
 use Rattle.pass_seats.proofs.Views.{sum_set, sum_two, sum_at, all_at, all_from_at, all_set}
 
 off : false ≡ true → ⊥
@@ -47,25 +47,25 @@ module _ {E : Type 0} where
     abbrev pub Rule : State S (View E) → Type 0
     Rule s = IsListed s.views
 
-    pub joins : (id other : ℕ) (v w : View E) → Joins Rule id v other w (joined v w) spent
+    pub joins : (id other : ℕ) (v w : View E) → Joins Rule id v other w (joined v w) spent_seat
     joins id other v w s kept at apart there =
         let both = joined v w in
         let views = set s.views id both in
         let knows_v = all_at (Knows kept.log) s.views id v at kept.known in
         let knows_w = all_at (Knows kept.log) s.views other w (sym (set_else s.views id other both apart) ∙ there) kept.known in
         let knows_both : Knows kept.log both = record { whole = knows_v.whole; mine = All-append (Fits kept.log) v.passes w.passes knows_v.mine knows_w.mine } in
-        let knows_spent : Knows kept.log spent = record { whole = λ f. absurd (off f); mine = All-nil (Fits kept.log) } in
+        let knows_spent : Knows kept.log spent_seat = record { whole = λ f. absurd (off f); mine = All-nil (Fits kept.log) } in
         record {
           log = kept.log;
-          known = All-set (Knows kept.log) views other spent knows_spent (All-set (Knows kept.log) s.views id both knows_both kept.known);
+          known = All-set (Knows kept.log) views other spent_seat knows_spent (All-set (Knows kept.log) s.views id both knows_both kept.known);
           one_spine =
               let a = sum_set spine_in s.views id v both at in
-              let b = sum_set spine_in views other w spent there in
+              let b = sum_set spine_in views other w spent_seat there in
               let k = kept.one_spine in
               omega (arith, a, b, k);
           one_pass = λ c.
               let a = sum_set (passes_in c) s.views id v both at in
-              let b = sum_set (passes_in c) views other w spent there in
+              let b = sum_set (passes_in c) views other w spent_seat there in
               let j = sum_by-append (pass_in c) v.passes w.passes in
               let k = kept.one_pass c in
               omega (arith, a, b, j, k);

@@ -11,8 +11,8 @@ module _ {E : Type 0} where
   abbrev pub joined : View E → View E → View E
   joined v w = record v { passes = v.passes ++ w.passes }
 
-  abbrev pub spent : View E
-  spent = record { is_spine = false; log = []; passes = [] }
+  abbrev pub spent_seat : View E
+  spent_seat = record { is_spine = false; log = []; passes = [] }
 
   -- split: the first pass goes to a seat of its own
   abbrev pub first_pass : View E → View E

@@ -14,18 +14,18 @@ pub struct Pass<E> {
 impl<E> Model for Pass<E> {
     ghost use Rattle.std.specs.Prelude.{◌≡◌, [], ◌∷◌, length};
     ghost use Rattle.pass_seats.specs.Lists.{PassView};
-    ghost use Rattle.pass_seats.specs.private.Pass.{entries_of, pass_view};
+    ghost use Rattle.pass_seats.specs.private.Pass.{pass_entries, pass_view};
 
     ghost Value = { PassView E };
 
     ghost view = { λ p. record {
       spine = p.badge.table_id;
       client = p.client;
-      entries = entries_of p.badge.views;
+      entries = pass_entries p.badge.views;
     } };
 
-    ghost invariant = { λ p. (p.badge.views ≡ pass_view p.client (entries_of p.badge.views) ∷ [])
-        × (p.made ≡ length (entries_of p.badge.views)) };
+    ghost invariant = { λ p. (p.badge.views ≡ pass_view p.client (pass_entries p.badge.views) ∷ [])
+        × (p.made ≡ length (pass_entries p.badge.views)) };
 }
 
 impl<E> Pass<E> {

@@ -75,9 +75,9 @@ impl<E> Split<View<E>> for Deal {
 pub(crate) struct Gather;
 
 impl<E> Join<View<E>> for Gather {
-    ghost use Rattle.pass_seats.specs.Kinds.{joined, spent};
+    ghost use Rattle.pass_seats.specs.Kinds.{joined, spent_seat};
 
     ghost both = { joined };
 
-    ghost spent = { spent };
+    ghost spent = { spent_seat };
 }

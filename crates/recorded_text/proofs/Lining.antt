@@ -8,8 +8,8 @@ use Rattle.std.proofs.lemmas.List.Folds.{list_any-append}
 use Rattle.std.proofs.lemmas.Grind.{flat_map-append}
 use Rattle.memchr.specs.Find.{Nowhere, NoneBefore, Passes, is_byte, IsFirstByte}
 use Rattle.recorded_text.specs.Line.{SwitchView}
-use Rattle.recorded_text.specs.Text.{lines_of, is_bad_line, told, first_bad}
-use Rattle.recorded_text.specs.private.SoFar.{Lacks, IsSoFar}
+use Rattle.recorded_text.specs.Text.{split_lines, is_bad_line, switches_in_line, first_bad}
+use Rattle.recorded_text.specs.private.SoFar.{Lacks, IsReadSoFar}
 
 lacks_front : (text : List ℕ) (i : ℕ) → ((k : ℕ) → k < i → k < length text → get_or text k 0 ≡ 10 → ⊥) → Lacks 10 (take i text)
 lacks_front [] zero h = tt
@@ -37,30 +37,30 @@ split_line text i found = (
 pub no_line : (text : List ℕ) → Nowhere (Passes (is_byte 10) text) 0 (length text) → Lacks 10 text
 no_line text none = lacks_all text (λ k l e. none k (omega arith) l (eq-eqb _ _ e))
 
-lines_cut : (front rest : List ℕ) → Lacks 10 front → lines_of (front ++ 10 ∷ rest) ≡ front ∷ lines_of rest
-unfolding lines_of
+lines_cut : (front rest : List ℕ) → Lacks 10 front → split_lines (front ++ 10 ∷ rest) ≡ front ∷ split_lines rest
+unfolding split_lines
 lines_cut [] rest h = refl
 lines_cut (x ∷ xs) rest h = rw (ne_eqb x 10 h.0, lines_cut xs rest h.1) refl
 
-pub last_line : (text : List ℕ) → Lacks 10 text → lines_of text ≡ text ∷ []
-unfolding lines_of
+pub last_line : (text : List ℕ) → Lacks 10 text → split_lines text ≡ text ∷ []
+unfolding split_lines
 last_line [] h = refl
 last_line (x ∷ xs) h = rw (ne_eqb x 10 h.0, last_line xs h.1) refl
 
 -- what is ahead, with its first line apart
-ahead_is : (rest front left after : List ℕ) → Lacks 10 rest → Lacks 10 front → lines_of ((rest ++ (front ++ 10 ∷ left)) ++ after) ≡ (rest ++ front) ∷ lines_of (left ++ after)
+ahead_is : (rest front left after : List ℕ) → Lacks 10 rest → Lacks 10 front → split_lines ((rest ++ (front ++ 10 ∷ left)) ++ after) ≡ (rest ++ front) ∷ split_lines (left ++ after)
 ahead_is rest front left after a b =
     let same : (rest ++ (front ++ 10 ∷ left)) ++ after ≡ (rest ++ front) ++ 10 ∷ (left ++ after) = simp append_assoc in
-    ap lines_of same ∙ lines_cut (rest ++ front) (left ++ after) (Lacks-append 10 rest front a b)
+    ap split_lines same ∙ lines_cut (rest ++ front) (left ++ after) (Lacks-append 10 rest front a b)
 
-pub next_line : (whole rest front left after : List ℕ) (count : ℕ) (found more : List SwitchView) → Lacks 10 rest → Lacks 10 front → IsSoFar whole ((rest ++ (front ++ 10 ∷ left)) ++ after) count found → is_bad_line (rest ++ front) ≡ false → more ≡ found ++ told (rest ++ front) → IsSoFar whole (left ++ after) (count + 1) more
+pub next_line : (whole rest front left after : List ℕ) (count : ℕ) (found more : List SwitchView) → Lacks 10 rest → Lacks 10 front → IsReadSoFar whole ((rest ++ (front ++ 10 ∷ left)) ++ after) count found → is_bad_line (rest ++ front) ≡ false → more ≡ found ++ switches_in_line (rest ++ front) → IsReadSoFar whole (left ++ after) (count + 1) more
 next_line whole rest front left after count found more a b h good tells =
     record {
       done = h.done ++ (rest ++ front) ∷ [];
-      parts = h.parts ∙ ap (λ ls. h.done ++ ls) (ahead_is rest front left after a b) ∙ sym (append_assoc h.done ((rest ++ front) ∷ []) (lines_of (left ++ after)));
+      parts = h.parts ∙ ap (λ ls. h.done ++ ls) (ahead_is rest front left after a b) ∙ sym (append_assoc h.done ((rest ++ front) ∷ []) (split_lines (left ++ after)));
       counted = omega (arith, h.counted, length-append h.done ((rest ++ front) ∷ []));
       good = list_any-append is_bad_line h.done ((rest ++ front) ∷ []) ∙ rw (h.good, good) refl;
-      shown = tells ∙ rw h.shown (ap (λ s. flat_map told h.done ++ s) (sym (append-nil (told (rest ++ front)))) ∙ sym (flat_map-append told h.done ((rest ++ front) ∷ [])));
+      shown = tells ∙ rw h.shown (ap (λ s. flat_map switches_in_line h.done ++ s) (sym (append-nil (switches_in_line (rest ++ front)))) ∙ sym (flat_map-append switches_in_line h.done ((rest ++ front) ∷ [])));
     }
 
 pub first_at : (done more : List (List ℕ)) (line : List ℕ) → list_any is_bad_line done ≡ false → is_bad_line line ≡ true → position_or_len is_bad_line (done ++ line ∷ more) ≡ length done
@@ -81,10 +81,10 @@ none_at (d ∷ ds) good =
 pub none_bad : (done : List (List ℕ)) → list_any is_bad_line done ≡ false → position is_bad_line done ≡ None
 none_bad done good = rw (none_at done good, le-ltb (length done) (length done) (omega arith)) refl
 
-pub bad_line : (whole rest front left after : List ℕ) (count : ℕ) (found : List SwitchView) → Lacks 10 rest → Lacks 10 front → IsSoFar whole ((rest ++ (front ++ 10 ∷ left)) ++ after) count found → is_bad_line (rest ++ front) ≡ true → first_bad whole ≡ Some (count + 1)
+pub bad_line : (whole rest front left after : List ℕ) (count : ℕ) (found : List SwitchView) → Lacks 10 rest → Lacks 10 front → IsReadSoFar whole ((rest ++ (front ++ 10 ∷ left)) ++ after) count found → is_bad_line (rest ++ front) ≡ true → first_bad whole ≡ Some (count + 1)
 bad_line whole rest front left after count found a b h bad =
-    let more = lines_of (left ++ after) in
-    let parts : lines_of whole ≡ h.done ++ (rest ++ front) ∷ more = h.parts ∙ ap (λ ls. h.done ++ ls) (ahead_is rest front left after a b) in
+    let more = split_lines (left ++ after) in
+    let parts : split_lines whole ≡ h.done ++ (rest ++ front) ∷ more = h.parts ∙ ap (λ ls. h.done ++ ls) (ahead_is rest front left after a b) in
     let within : length h.done < length (h.done ++ (rest ++ front) ∷ more) = omega (arith, length-append h.done ((rest ++ front) ∷ more)) in
     let place : position is_bad_line (h.done ++ (rest ++ front) ∷ more) ≡ Some (length h.done) = rw (first_at h.done more (rest ++ front) h.good bad, lt-ltb _ _ within) refl in
     ap (λ ls. option_map (λ i. i + 1) (position is_bad_line ls)) parts ∙ ap (λ o. option_map (λ i. i + 1) o) place ∙ ap (λ (n : ℕ). Some (n + 1)) (sym h.counted)

@@ -9,7 +9,7 @@ use Rattle.std.proofs.lemmas.Bool.{cases_lt, or_parts}
 use Rattle.std.proofs.lemmas.Slice.Eq.{bytes_eq-Decides}
 use Rattle.std.proofs.lemmas.Option.{slice_get-map, slice_get-get_or}
 use Rattle.std.proofs.lemmas.List.Quantifiers.{position-Some}
-use Rattle.recorded_text.specs.Names.{Differ, with_name}
+use Rattle.recorded_text.specs.Names.{Differ, names_with}
 use Rattle.indexmap.specs.IndexSet.{insert_key}
 
 abbrev pub texts : List (Vec ℕ Global) → List (List ℕ)
@@ -60,10 +60,10 @@ among name [] = refl
 among name (k ∷ ks) = rw (among name ks) refl
 
 -- a name that is there already, and a new one
-pub known_called : (name : List ℕ) (keys : List (Vec ℕ Global)) → list_any (λ k. bytes_eq name k.items) keys ≡ true → texts keys ≡ with_name (texts keys) name
+pub known_called : (name : List ℕ) (keys : List (Vec ℕ Global)) → list_any (λ k. bytes_eq name k.items) keys ≡ true → texts keys ≡ names_with (texts keys) name
 known_called name keys h = rw (among name keys, h) refl
 
-pub new_called : (old new : List (Vec ℕ Global)) (name : List ℕ) (k : Vec ℕ Global) → list_any (λ v. bytes_eq name v.items) old ≡ false → k.items ≡ name → new ≡ insert_key (λ a b. bytes_eq a.items b.items) old k → texts new ≡ with_name (texts old) name
+pub new_called : (old new : List (Vec ℕ Global)) (name : List ℕ) (k : Vec ℕ Global) → list_any (λ v. bytes_eq name v.items) old ≡ false → k.items ≡ name → new ≡ insert_key (λ a b. bytes_eq a.items b.items) old k → texts new ≡ names_with (texts old) name
 new_called old new name k none is inserted =
     let none_of : list_any (λ (v : Vec ℕ Global). bytes_eq k.items v.items) old ≡ false = subst (λ (t : List ℕ). list_any (λ (v : Vec ℕ Global). bytes_eq t v.items) old ≡ false) (sym is) none in
     let keys : new ≡ old ++ k ∷ [] = inserted ∙ rw none_of refl in

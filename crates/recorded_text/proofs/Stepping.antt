@@ -8,7 +8,7 @@ use Rattle.std.proofs.lemmas.Grind.{fold-append}
 use Rattle.std.proofs.lemmas.List.Elements.{recursion_from_All, All-weaker, All-push}
 use Rattle.recorded_text.specs.Names.{Grows, with_next, names_on}
 use Rattle.recorded_text.specs.Line.{SwitchView}
-use Rattle.recorded_text.specs.Text.{told, switch_of}
+use Rattle.recorded_text.specs.Text.{switches_in_line, switch_of}
 use Rattle.recorded_text.specs.Line.{Seen, line_at}
 use Rattle.recorded_text.specs.Steps.{step_view, IsNamed, AreNamed}
 use Rattle.recorded_text.specs.declared.step.Step.{Step}
@@ -32,9 +32,9 @@ views_kept old new [] g h = refl
 views_kept old new (s ∷ ss) g h = rw (view_kept old new s g h.0, views_kept old new ss g h.1) refl
 
 -- one more switch
-pub view_more : (old new : List (List ℕ)) (before after : List Step) (s : Step) (line : List ℕ) (v : SwitchView) → Grows old new → AreNamed old before → after ≡ before ++ s ∷ [] → step_view new s ≡ v → Seen v ≡ line_at line → map (step_view new) after ≡ map (step_view old) before ++ told line
+pub view_more : (old new : List (List ℕ)) (before after : List Step) (s : Step) (line : List ℕ) (v : SwitchView) → Grows old new → AreNamed old before → after ≡ before ++ s ∷ [] → step_view new s ≡ v → Seen v ≡ line_at line → map (step_view new) after ≡ map (step_view old) before ++ switches_in_line line
 view_more old new before after s line v g h e shown is =
-    let tells : told line ≡ v ∷ [] = ap switch_of (sym is) in
+    let tells : switches_in_line line ≡ v ∷ [] = ap switch_of (sym is) in
     ap (λ steps. map (step_view new) steps) e ∙ map-append (step_view new) before (s ∷ [])
     ∙ rw (views_kept old new before g (recursion_from_All (IsNamed old) before h), shown, tells) refl
 
@@ -53,9 +53,9 @@ pub grows_on : (a b c : List (List ℕ)) → Grows a b → Grows b c → Grows a
 grows_on a b c g h = record { more = g.more ++ h.more; behind = h.behind ∙ ap (λ names. names ++ h.more) g.behind ∙ append_assoc a g.more h.more }
 
 -- the name that the line of a switch brings
-pub line_brings : (old new : List (List ℕ)) (line : List ℕ) (v : SwitchView) → new ≡ with_next old v.next → Seen v ≡ line_at line → new ≡ names_on old (told line)
+pub line_brings : (old new : List (List ℕ)) (line : List ℕ) (v : SwitchView) → new ≡ with_next old v.next → Seen v ≡ line_at line → new ≡ names_on old (switches_in_line line)
 line_brings old new line v h is =
-    let tells : told line ≡ v ∷ [] = ap switch_of (sym is) in
+    let tells : switches_in_line line ≡ v ∷ [] = ap switch_of (sym is) in
     h ∙ ap (λ switches. names_on old switches) (sym tells)
 
 -- those of more switches

@@ -29,5 +29,5 @@ last_word text =
     option_map_or (λ p. p) (last_cut (codes " ") (end_trimmed text)) ([], end_trimmed text)
 
 -- what follows a mark that stands at the front
-unfoldable pub behind : List ℕ → List ℕ → Option (List ℕ)
-behind mark text = if starts_with nat_eq text mark then Some (drop (length mark) text) else None
+unfoldable pub cut_front : List ℕ → List ℕ → Option (List ℕ)
+cut_front mark text = if starts_with nat_eq text mark then Some (drop (length mark) text) else None

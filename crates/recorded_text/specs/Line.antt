@@ -1,7 +1,7 @@
 -- A line of a recording: a switch, as ftrace, `trace-cmd report` or `perf script` print the
 -- kernel's event sched_switch, or anything else.
 --
---     a-12 [003] d..2. 16.443377: sched_switch: prev_comm=a .. ==> next_comm=b next_pid=13 next_prio=-1
+--     a-12 [003] d..2. 16.443377: sched_switch: prev_comm=a .. ==> next_comm=b .. next_prio=-1
 --     a-12 [003] 16.443377: sched_switch:      a:12 [-1] S ==> b:13 [-1]
 --     a 12 [003] 16.443377:     sched:sched_switch: prev_comm=a .. next_prio=-1
 --
@@ -12,7 +12,7 @@
 use Rattle.std.specs.Prelude.{ℕ, ◌+◌, ◌-◌, ◌*◌, ◌/◌, Bool, false, ◌==◌, ◌&&◌, nat_lt, nat_le, if◌then◌else◌, List, [], ◌∷◌, length, take, drop, slice_index, Option, Some, None, codes}
 use Rattle.std.specs.Option.{option_map, option_map_or, option_or}
 use Rattle.std.specs.Char.{is_ascii_digit}
-use Rattle.recorded_text.specs.Cuts.{first_cut, last_cut, end_trimmed, last_word, behind}
+use Rattle.recorded_text.specs.Cuts.{first_cut, last_cut, end_trimmed, last_word, cut_front}
 
 -- the one step after the other, where each gives something
 infixl 10 ◌>>=◌
@@ -28,21 +28,21 @@ digits_on n [] = Some n
 digits_on n (c ∷ cs) = if is_ascii_digit c then digits_on (n * 10 + (c - 48)) cs else None
 
 -- the number that 1 to 18 digits spell, zeros in front too
-unfoldable pub number_at : List ℕ → Option ℕ
-number_at text = if nat_lt 0 (length text) && nat_le (length text) 18 then digits_on 0 text
+unfoldable pub number_of_digits : List ℕ → Option ℕ
+number_of_digits text = if nat_lt 0 (length text) && nat_le (length text) 18 then digits_on 0 text
     else None
 
 -- the microseconds behind the point: six digits, or nine of which the last three are cut off
 unfoldable pub micros_at : List ℕ → Option ℕ
 micros_at text =
-    if length text == 6 then number_at text
-    else (if length text == 9 then option_map (λ n. n / 1000) (number_at text) else None)
+    if length text == 6 then number_of_digits text
+    else (if length text == 9 then option_map (λ n. n / 1000) (number_of_digits text) else None)
 
 -- a time in microseconds; its seconds are below 2^40
 unfoldable pub time_at : List ℕ → Option ℕ
 time_at text = do
   p ← first_cut (codes ".") text
-  s ← number_at p.0
+  s ← number_of_digits p.0
   f ← micros_at p.1
   if nat_lt s 1099511627776 then Some (s * 1000000 + f) else None
 
@@ -57,7 +57,7 @@ bracketed_at text =
 unfoldable pub cpu_at : List ℕ → Option ℕ
 cpu_at text = do
   inner ← bracketed_at text
-  n ← number_at inner
+  n ← number_of_digits inner
   if nat_lt n 65536 then Some n else None
 
 -- the CPU: the last word before the time, or the one before where that is the column of flags
@@ -68,8 +68,8 @@ cpu_before front =
 -- whether a priority is below 0: that of a SCHED_DEADLINE task is -1
 unfoldable pub below_at : List ℕ → Option Bool
 below_at text =
-    option_map_or (λ digits. option_map (λ n. nat_lt 0 n) (number_at digits))
-    (behind (codes "-") text) (option_map (λ n. false) (number_at text))
+    option_map_or (λ digits. option_map (λ n. nat_lt 0 n) (number_of_digits digits))
+    (cut_front (codes "-") text) (option_map (λ n. false) (number_of_digits text))
 
 -- ---- who comes
 
@@ -81,8 +81,8 @@ coming_name below name = if below then Some name else None
 unfoldable pub named_at : List ℕ → List ℕ → Option (Option (List ℕ))
 named_at front prio = do
   below ← below_at prio
-  pid ← behind (codes "next_pid=") (last_word front).1
-  n ← number_at pid
+  pid ← cut_front (codes "next_pid=") (last_word front).1
+  n ← number_of_digits pid
   p ← last_cut (codes " ==> next_comm=") (last_word front).0
   Some (coming_name below p.1)
 
@@ -91,7 +91,7 @@ unfoldable pub short_at : List ℕ → List ℕ → Option (Option (List ℕ))
 short_at front prio = do
   below ← below_at prio
   q ← last_cut (codes ":") front
-  n ← number_at q.1
+  n ← number_of_digits q.1
   p ← last_cut (codes " ==> ") q.0
   Some (coming_name below p.1)
 
@@ -99,7 +99,7 @@ short_at front prio = do
 unfoldable pub next_at : List ℕ → Option (Option (List ℕ))
 next_at tail =
     let w = last_word tail in
-    option_map_or (λ prio. named_at w.0 prio) (behind (codes "next_prio=") w.1)
+    option_map_or (λ prio. named_at w.0 prio) (cut_front (codes "next_prio=") w.1)
     (bracketed_at w.1 >>= λ prio. short_at w.0 prio)
 
 -- ---- a line
@@ -124,8 +124,8 @@ without_colon text =
 
 -- what stands before the event, up to the colon of its time, and the event's fields. No name of a
 -- task is as long as either mark, so none is taken for one
-unfoldable pub event_at : List ℕ → Option (List ℕ × List ℕ)
-event_at line =
+unfoldable pub event_and_rest : List ℕ → Option (List ℕ × List ℕ)
+event_and_rest line =
     option_map_or (λ p. option_map (λ head. (head, p.1)) (without_colon p.0))
     (first_cut (codes "sched:sched_switch: ") line) (first_cut (codes ": sched_switch: ") line)
 
@@ -143,4 +143,4 @@ headed_at head tail =
     option_map_or (λ time. timed_at time w.0 tail) (time_at w.1) Other
 
 unfoldable pub line_at : List ℕ → LineView
-line_at line = option_map_or (λ p. headed_at p.0 p.1) (event_at line) Other
+line_at line = option_map_or (λ p. headed_at p.0 p.1) (event_and_rest line) Other

@@ -14,13 +14,13 @@ pub record Grows (old new : List (List ℕ)) : Type 0 where
   pub behind : new ≡ old ++ more
 
 -- a name stands behind the others where it is new
-abbrev pub with_name : List (List ℕ) → List ℕ → List (List ℕ)
-with_name names name = if list_any (bytes_eq name) names then names else names ++ name ∷ []
+abbrev pub names_with : List (List ℕ) → List ℕ → List (List ℕ)
+names_with names name = if list_any (bytes_eq name) names then names else names ++ name ∷ []
 
 -- the name that a switch brings, if it brings one
 abbrev pub with_next : List (List ℕ) → Option (List ℕ) → List (List ℕ)
 with_next names None = names
-with_next names (Some name) = with_name names name
+with_next names (Some name) = names_with names name
 
 -- the names that switches bring, behind those that were there, as they first come
 abbrev pub names_on : List (List ℕ) → List SwitchView → List (List ℕ)

@@ -2,7 +2,7 @@
 
 ghost use Rattle.std.specs.Prelude.{◌≡◌, ◌<◌, length};
 ghost use Rattle.std.specs.Option.{option_map};
-ghost use Rattle.recorded_text.specs.Cuts.{first_cut, last_cut, end_trimmed, last_word, behind};
+ghost use Rattle.recorded_text.specs.Cuts.{first_cut, last_cut, end_trimmed, last_word, cut_front};
 
 use memchr::memmem;
 
@@ -50,9 +50,9 @@ pub(crate) fn word_at_end(text: &[u8]) -> (&[u8], &[u8])
 }
 
 /// What follows a mark that stands at the front.
-#[tactic(auto, unfolding(crate::specs::Cuts::behind))]
+#[tactic(auto, unfolding(crate::specs::Cuts::cut_front))]
 pub(crate) fn rest_behind<'a>(text: &'a [u8], mark: &[u8]) -> Option<&'a [u8]>
-    ensures { option_map (λ r. r.now) result ≡ behind mark.now text.now }
+    ensures { option_map (λ r. r.now) result ≡ cut_front mark.now text.now }
 {
     if text.starts_with(mark) {
         Some(&text[mark.len()..])

@@ -2,7 +2,7 @@
 
 ghost use Rattle.std.specs.Prelude.{◌≡◌, ◌<◌, ◌^◌, IfSome};
 ghost use Rattle.std.specs.Option.{option_map};
-ghost use Rattle.recorded_text.specs.Line.{micros_at, time_at, bracketed_at, cpu_at, cpu_before, below_at, coming_name, named_at, short_at, next_at, without_colon, event_at, timed_at, headed_at, line_at};
+ghost use Rattle.recorded_text.specs.Line.{micros_at, time_at, bracketed_at, cpu_at, cpu_before, below_at, coming_name, named_at, short_at, next_at, without_colon, event_and_rest, timed_at, headed_at, line_at};
 ghost use Rattle.recorded_text.specs.Views.{line_view, HasSmallTime};
 
 use crate::cut::{cut_first, cut_last, rest_behind, trimmed, word_at_end};
@@ -177,9 +177,9 @@ fn up_to_colon(text: &[u8]) -> Option<&[u8]>
 }
 
 /// What stands before the event, and its fields.
-#[tactic(auto, unfolding(crate::specs::Line::event_at))]
+#[tactic(auto, unfolding(crate::specs::Line::event_and_rest))]
 fn event_of(line: &[u8]) -> Option<(&[u8], &[u8])>
-    ensures { option_map (λ p. (p.0.now, p.1.now)) result ≡ event_at line.now }
+    ensures { option_map (λ p. (p.0.now, p.1.now)) result ≡ event_and_rest line.now }
 {
     match cut_first(line, b"sched:sched_switch: ") {
         Some((head, tail)) => match up_to_colon(head) {

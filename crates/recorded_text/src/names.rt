@@ -2,7 +2,7 @@
 
 ghost use Rattle.std.specs.Prelude.{◌≡◌, [], length, slice_get, IfOk, OnOk, OnErr};
 ghost use Rattle.std.specs.Option.{option_map};
-ghost use Rattle.recorded_text.specs.Names.{Grows, with_name};
+ghost use Rattle.recorded_text.specs.Names.{Grows, names_with};
 
 use indexmap::IndexSet;
 use std::alloc::{AllocError, Global};
@@ -58,7 +58,7 @@ impl Names {
     /// Where a growth was refused; then nothing has changed.
     pub fn number_of(&mut self, alloc: Global, name: &[u8]) -> Result<usize, AllocError>
         ensures found { IfOk result (λ i. slice_get self.new i ≡ Some name.now) }
-        ensures called { OnOk result (self.new ≡ with_name self.old name.now) }
+        ensures called { OnOk result (self.new ≡ names_with self.old name.now) }
         ensures grows { Grows self.old self.new }
         ensures err { OnErr result (self.new ≡ self.old) }
     {

@@ -4,9 +4,9 @@ ghost use Rattle.std.specs.Prelude.{◌≡◌, ◌+◌, ◌<◌, ◌≤◌, ◌^
 ghost use Rattle.counted_io.specs.Sides.{inner_of, faults_of};
 ghost use Rattle.recorded_text.specs.Names.{Grows, with_next, names_on};
 ghost use Rattle.recorded_text.specs.Views.{switch_view};
-ghost use Rattle.recorded_text.specs.Text.{is_bad_line, told, IsRead, IsFault, is_read, faults_after};
+ghost use Rattle.recorded_text.specs.Text.{is_bad_line, switches_in_line, IsRead, IsRecordedFault, is_read, recorded_faults_after};
 ghost use Rattle.recorded_text.specs.Steps.{step_view, IsNamed, AreNamed};
-ghost use Rattle.recorded_text.specs.private.SoFar.{Lacks, IsSoFar, Fails, BringsOn};
+ghost use Rattle.recorded_text.specs.private.SoFar.{Lacks, IsReadSoFar, LineFails, BringsOn};
 
 use crate::fault::{LineFault, RecordedFault};
 use crate::line::{Line, Switch, line_of};
@@ -48,11 +48,11 @@ fn take_line(
 ) -> Result<(), LineFault>
     requires { AreNamed names.old steps.old.items }
     ensures shown { OnOk result (map (step_view names.new) steps.new.items
-        ≡ map (step_view names.old) steps.old.items ++ told line.now) }
-    ensures called { OnOk result (names.new ≡ names_on names.old (told line.now)) }
+        ≡ map (step_view names.old) steps.old.items ++ switches_in_line line.now) }
+    ensures called { OnOk result (names.new ≡ names_on names.old (switches_in_line line.now)) }
     ensures good { OnOk result (is_bad_line line.now ≡ false) }
     ensures named { OnOk result (AreNamed names.new steps.new.items) }
-    ensures bad { IfErr result (λ e. Fails e line.now) }
+    ensures bad { IfErr result (λ e. LineFails e line.now) }
     ensures grows { Grows names.old names.new }
 {
     match line_of(line) {
@@ -76,13 +76,14 @@ fn end_line(
 ) -> Result<(), LineFault>
     requires { AreNamed names.old steps.old.items }
     ensures shown { OnOk result (map (step_view names.new) steps.new.items
-        ≡ map (step_view names.old) steps.old.items ++ told (rest.old.items ++ front.now)) }
+        ≡ map (step_view names.old) steps.old.items
+        ++ switches_in_line (rest.old.items ++ front.now)) }
     ensures called { OnOk result (names.new
-        ≡ names_on names.old (told (rest.old.items ++ front.now))) }
+        ≡ names_on names.old (switches_in_line (rest.old.items ++ front.now))) }
     ensures good { OnOk result (is_bad_line (rest.old.items ++ front.now) ≡ false) }
     ensures empty { OnOk result (rest.new.items ≡ []) }
     ensures named { OnOk result (AreNamed names.new steps.new.items) }
-    ensures bad { IfErr result (λ e. Fails e (rest.old.items ++ front.now)) }
+    ensures bad { IfErr result (λ e. LineFails e (rest.old.items ++ front.now)) }
     ensures grows { Grows names.old names.new }
 {
     if rest.is_empty() {
@@ -114,14 +115,14 @@ fn take_piece(
     requires named { AreNamed names.old steps.old.items }
     requires rest { Lacks 10 rest.old.items }
     ensures so_far { OnOk result ((whole after : List ℕ) →
-        IsSoFar whole ((rest.old.items ++ piece.now) ++ after) lines.old
+        IsReadSoFar whole ((rest.old.items ++ piece.now) ++ after) lines.old
         (map (step_view names.old) steps.old.items)
-        → IsSoFar whole (rest.new.items ++ after) lines.new
+        → IsReadSoFar whole (rest.new.items ++ after) lines.new
         (map (step_view names.new) steps.new.items)) }
     ensures bad { IfErr result (λ e. (whole after : List ℕ) →
-        IsSoFar whole ((rest.old.items ++ piece.now) ++ after) lines.old
+        IsReadSoFar whole ((rest.old.items ++ piece.now) ++ after) lines.old
         (map (step_view names.old) steps.old.items)
-        → IsFault whole e) }
+        → IsRecordedFault whole e) }
     ensures called { OnOk result ((first : List (List ℕ)) →
         BringsOn first names.old (map (step_view names.old) steps.old.items)
         → BringsOn first names.new (map (step_view names.new) steps.new.items)) }
@@ -169,9 +170,9 @@ pub fn read_switches<R: Read>(
         names.new ≡ names_on names.old (map (step_view names.new) steps.items)) }
     ensures small { IfOk result (λ steps. All (λ s. s.time < 2 ^ 61) steps.items) }
     ensures fault { IfErr result (λ e. IfSome (R.remaining (inner_of reader.old)) (λ text.
-        IsFault text e)) }
+        IsRecordedFault text e)) }
     ensures grows { Grows names.old names.new }
-    ensures faults { faults_of reader.new ≡ faults_after (faults_of reader.old) result }
+    ensures faults { faults_of reader.new ≡ recorded_faults_after (faults_of reader.old) result }
 {
     let mut steps = Vec::new(alloc);
     let mut rest = Vec::new(alloc);

@@ -5,7 +5,7 @@ use Rattle.std.specs.List.{flat_map}
 use Rattle.std.proofs.lemmas.Grind.{flat_map-append}
 use Rattle.std.proofs.lemmas.List.{append-nil}
 use Rattle.domain_run.specs.declared.call.Reply.{Reply}
-use Rattle.domain_run.specs.Domain.{Domain, opened}
+use Rattle.domain_run.specs.Domain.{Domain, empty_domain}
 use Rattle.domain_run.specs.Calls.{reply_to, after_call}
 use Rattle.domain_run.specs.Run.{replies_to}
 use Rattle.calls_text.specs.declared.section.Entry.{Entry}
@@ -36,7 +36,7 @@ recorded_is d (e ∷ entries) legal =
     ∙ ap (λ (ls : List ℕ). (answered_line e (reply_to d e.call) ++ codes "\n") ++ ls) (recorded_is (after_call d e.call) entries others)
 
 -- a section's first line, a line break, and the lines of its calls
-pub headed : (s : SectionView) (lines : List ℕ) → lines ≡ text_of (answered_lines (opened s.cpus s.limit) s.entries) → domain_line s ++ (codes "\n" ++ lines) ≡ text_of (section_replies s)
+pub headed : (s : SectionView) (lines : List ℕ) → lines ≡ text_of (answered_lines (empty_domain s.cpus s.limit) s.entries) → domain_line s ++ (codes "\n" ++ lines) ≡ text_of (section_replies s)
 headed s lines others =
     sym (append_assoc (domain_line s) (codes "\n") lines)
     ∙ ap (λ (x : List ℕ). (domain_line s ++ codes "\n") ++ x) others
@@ -60,7 +60,7 @@ history_more s sections out more was put =
     ∙ sym (ap text_of (flat_map-append section_replies sections (s ∷ []) ∙ ap (λ (ls : List (List ℕ)). flat_map section_replies sections ++ ls) (append-nil (section_replies s))))
 
 -- the lines of a section's calls, on the domain and of the entries that are the section's
-pub lines_of : (s : SectionView) (d : Domain) (entries : List Entry) → d ≡ opened s.cpus s.limit → entries ≡ s.entries → text_of (answered_lines d entries) ≡ text_of (answered_lines (opened s.cpus s.limit) s.entries)
+pub lines_of : (s : SectionView) (d : Domain) (entries : List Entry) → d ≡ empty_domain s.cpus s.limit → entries ≡ s.entries → text_of (answered_lines d entries) ≡ text_of (answered_lines (empty_domain s.cpus s.limit) s.entries)
 lines_of s d entries domain all =
     ap (λ (x : Domain). text_of (answered_lines x entries)) domain
-    ∙ ap (λ (es : List Entry). text_of (answered_lines (opened s.cpus s.limit) es)) all
+    ∙ ap (λ (es : List Entry). text_of (answered_lines (empty_domain s.cpus s.limit) es)) all

@@ -2,8 +2,8 @@
 use Rattle.std.specs.Prelude.{◌≡◌, ℕ, List, [], ◌∷◌, None, Some, false, codes, refl}
 use Rattle.std.specs.Fmt.{digits}
 use Rattle.attr_check.specs.ParamsView.{ParamsView}
-use Rattle.task_script.specs.declared.script.Event.{Event}
-use Rattle.task_script.specs.declared.script.Event.TheVariants.{Run, Wait}
+use Rattle.task_script.specs.declared.phase.Event.{Event}
+use Rattle.task_script.specs.declared.phase.Event.TheVariants.{Run, Wait}
 use Rattle.task_script.specs.script.ScriptView.{ScriptView, script_of}
 use Rattle.domain_run.specs.declared.call.Call.{Call}
 use Rattle.domain_run.specs.declared.call.Call.TheVariants.{Admit, Regrade, Wake, Leave, Advance, Limit, Depart, Arrive}

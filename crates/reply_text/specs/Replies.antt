@@ -3,7 +3,7 @@ use Rattle.std.specs.Prelude.{ℕ, List, [], ◌∷◌, ◌++◌, codes, decimal
 use Rattle.std.specs.List.{flat_map}
 use Rattle.domain_run.specs.declared.call.Reply.{Reply}
 use Rattle.domain_run.specs.declared.call.Reply.TheVariants.{Admitted, Changed, Woken, Left, Done, Set, Departed, Full, Twice, Busy, NotListed, NotWaiting}
-use Rattle.domain_run.specs.Domain.{Domain, opened}
+use Rattle.domain_run.specs.Domain.{Domain, empty_domain}
 use Rattle.domain_run.specs.Calls.{reply_to, after_call}
 use Rattle.calls_text.specs.declared.section.Entry.{Entry}
 use Rattle.calls_text.specs.SectionView.{SectionView}
@@ -36,7 +36,7 @@ answered_lines d (e ∷ entries) =
 
 -- a section: the line of its domain, and its calls from the domain's opening on
 abbrev pub section_replies : SectionView → List (List ℕ)
-section_replies s = domain_line s ∷ answered_lines (opened s.cpus s.limit) s.entries
+section_replies s = domain_line s ∷ answered_lines (empty_domain s.cpus s.limit) s.entries
 
 -- every line ends with LF, the last one too; there is no header, as it is not read again
 abbrev pub replies_of : List SectionView → List ℕ

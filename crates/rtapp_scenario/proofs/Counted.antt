@@ -6,15 +6,15 @@ use Rattle.std.proofs.lemmas.List.Sums.{sum_by-append, sum_by-cons}
 use Rattle.std.specs.Option.{option_map}
 use Rattle.std.specs.List.{filter_map, cons_option, AllByRecursion}
 use Rattle.json_order.specs.Json.{Json}
-use Rattle.task_script.specs.declared.script.Event.{Event}
-use Rattle.task_script.specs.declared.script.Event.TheVariants as events
+use Rattle.task_script.specs.declared.phase.Event.{Event}
+use Rattle.task_script.specs.declared.phase.Event.TheVariants as events
 use Rattle.task_script.specs.script.ScriptView.{IsEvent}
 use Rattle.rtapp_scenario.specs.declared.key.EventKind.{EventKind}
 use Rattle.rtapp_scenario.specs.declared.key.EventKind.TheVariants.{Run, Sleep, Timer}
 use Rattle.rtapp_scenario.specs.Values.{Member, natural_within, natural_of, at}
-use Rattle.rtapp_scenario.specs.Faults.{Fault, in_order}
+use Rattle.rtapp_scenario.specs.Faults.{Fault, first_fault_in}
 use Rattle.rtapp_scenario.specs.Keys.{kind_of, is_event}
-use Rattle.rtapp_scenario.specs.Threads.{event_of, event_at, has_event, number_at}
+use Rattle.rtapp_scenario.specs.Threads.{event_of, event_of_member, has_event, number_at}
 use Rattle.rtapp_scenario.specs.Tests.{event_fault}
 use Rattle.rtapp_scenario.proofs.Passing.{first_split, unless_passes}
 
@@ -71,10 +71,10 @@ cons_fits : (o : Option Event) (es : List Event) → IfSome o IsEvent → AllByR
 cons_fits None es h all = all
 cons_fits (Some e) es h all = (h, all)
 
-pub events_fit : (ms : List Member) → AllByRecursion IsEvent (filter_map event_at ms)
-unfolding event_at
+pub events_fit : (ms : List Member) → AllByRecursion IsEvent (filter_map event_of_member ms)
+unfolding event_of_member
 events_fit [] = tt
-events_fit (m ∷ ms) = cons_fits (event_of (kind_of m.key) m.value) (filter_map event_at ms) (event_fits (kind_of m.key) m.value) (events_fit ms)
+events_fit (m ∷ ms) = cons_fits (event_of (kind_of m.key) m.value) (filter_map event_of_member ms) (event_fits (kind_of m.key) m.value) (events_fit ms)
 
 -- ---- how many there are
 
@@ -86,10 +86,10 @@ kept : (kind : Option EventKind) (v : Json) (es : List Event) (n : ℕ) → leng
 kept None v es n h = omega (arith, h)
 kept (Some kind) v es n h = cons_long (event_of (Some kind) v) es n h
 
-events_counted : (ms : List Member) → length (filter_map event_at ms) ≤ count_by is_event ms
-unfolding event_at
+events_counted : (ms : List Member) → length (filter_map event_of_member ms) ≤ count_by is_event ms
+unfolding event_of_member
 events_counted [] = omega arith
-events_counted (m ∷ ms) = rw (sum_by-cons (λ x. cond (is_event x) 1 0) m ms) (kept (kind_of m.key) m.value (filter_map event_at ms) (count_by is_event ms) (events_counted ms))
+events_counted (m ∷ ms) = rw (sum_by-cons (λ x. cond (is_event x) 1 0) m ms) (kept (kind_of m.key) m.value (filter_map event_of_member ms) (count_by is_event ms) (events_counted ms))
 
 -- a test that refuses the 65th event
 abbrev pub StopsAt65 : (List Member → Member → Option Fault) → Type 0
@@ -99,7 +99,7 @@ count_more : (before : List Member) (m : Member) (b : Bool) → is_event m ≡ b
 count_more before m true e small h = let few = small refl in rw (sum_by-append (λ x. cond (is_event x) 1 0) before (m ∷ []), e) (omega (arith, few))
 count_more before m false e small h = rw (sum_by-append (λ x. cond (is_event x) 1 0) before (m ∷ []), e) (omega (arith, h))
 
-count_within : (test : List Member → Member → Option Fault) → StopsAt65 test → (before ms : List Member) → in_order test before ms ≡ None → count_by is_event before ≤ 64 → count_by is_event (before ++ ms) ≤ 64
+count_within : (test : List Member → Member → Option Fault) → StopsAt65 test → (before ms : List Member) → first_fault_in test before ms ≡ None → count_by is_event before ≤ 64 → count_by is_event (before ++ ms) ≤ 64
 count_within test stops before [] h few = rw append-nil few
 count_within test stops before (m ∷ ms) h few =
     let s = first_split _ _ h in
@@ -107,7 +107,7 @@ count_within test stops before (m ∷ ms) h few =
     let rest : count_by is_event ((before ++ m ∷ []) ++ ms) ≤ 64 = count_within test stops (before ++ m ∷ []) ms (first_split _ _ s.1).0 more in
     rw append_assoc at rest
 
-pub events_few : (test : List Member → Member → Option Fault) → StopsAt65 test → (ms : List Member) → in_order test [] ms ≡ None → length (filter_map event_at ms) ≤ 64
+pub events_few : (test : List Member → Member → Option Fault) → StopsAt65 test → (ms : List Member) → first_fault_in test [] ms ≡ None → length (filter_map event_of_member ms) ≤ 64
 events_few test stops ms h = let few = count_within test stops [] ms h (omega arith) in omega (arith, few, events_counted ms)
 
 pub event_stops : (ref : Option (List ℕ)) (before : List Member) (m : Member) → event_fault ref before m ≡ None → count_by is_event before < 64
@@ -124,10 +124,10 @@ one_behind : (o : Option Event) (es : List Event) → 0 < length es → 0 < leng
 one_behind None es h = h
 one_behind (Some e) es h = omega arith
 
-left_in : (m : Member) (ms : List Member) (b : Bool) → is_some (event_at m) ≡ b → (has_event ms ≡ true → 0 < length (filter_map event_at ms)) → has_event (m ∷ ms) ≡ true → 0 < length (filter_map event_at (m ∷ ms))
-left_in m ms true e rest h = one_here (event_at m) (filter_map event_at ms) e
-left_in m ms false e rest h = one_behind (event_at m) (filter_map event_at ms) (rest (rw e at h))
+left_in : (m : Member) (ms : List Member) (b : Bool) → is_some (event_of_member m) ≡ b → (has_event ms ≡ true → 0 < length (filter_map event_of_member ms)) → has_event (m ∷ ms) ≡ true → 0 < length (filter_map event_of_member (m ∷ ms))
+left_in m ms true e rest h = one_here (event_of_member m) (filter_map event_of_member ms) e
+left_in m ms false e rest h = one_behind (event_of_member m) (filter_map event_of_member ms) (rest (rw e at h))
 
-pub events_left : (ms : List Member) → has_event ms ≡ true → 0 < length (filter_map event_at ms)
+pub events_left : (ms : List Member) → has_event ms ≡ true → 0 < length (filter_map event_of_member ms)
 events_left [] h = absurd cc
-events_left (m ∷ ms) h = left_in m ms (is_some (event_at m)) refl (events_left ms) h
+events_left (m ∷ ms) h = left_in m ms (is_some (event_of_member m)) refl (events_left ms) h

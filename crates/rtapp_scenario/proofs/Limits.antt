@@ -11,9 +11,9 @@ use Rattle.task_script.specs.script.ScriptView.{IsEvent, IsPhase, IsScript, scri
 use Rattle.json_order.specs.Json.{Json, null}
 use Rattle.std.proofs.lemmas.List.{length-map}
 use Rattle.rtapp_scenario.specs.Values.{Member, object_of, members, members_at, at, has}
-use Rattle.rtapp_scenario.specs.Faults.{Fault, value, too_many, idle, unsupported, unless, first, in_order}
+use Rattle.rtapp_scenario.specs.Faults.{Fault, value, too_many, idle, unsupported, unless, first, first_fault_in}
 use Rattle.rtapp_scenario.specs.Keys.{kind_of, is_event, missing_fault, thread_keys}
-use Rattle.rtapp_scenario.specs.Threads.{event_at, has_event, rounds, count, thread_ref}
+use Rattle.rtapp_scenario.specs.Threads.{event_of_member, has_event, rounds, count, thread_ref}
 use Rattle.rtapp_scenario.specs.Tests.{phase_member_fault, phase_fault, phase_fault_in, phases_fault, phases_fault_in, thread_member_fault, event_fault, is_phases, is_idle, members_fault}
 use Rattle.rtapp_scenario.specs.Scenario.{phase_of, member_phase, phases}
 use Rattle.rtapp_scenario.proofs.Passing.{first_split, unless_passes, Passes, found_passes}
@@ -52,18 +52,18 @@ thread_member_stops ref before m h e = event_stops ref before m (event_passes re
 
 -- ---- a phase
 
-in_phase : (ref : Option (List ℕ)) (phase : Member) (o : Option (List Member)) → phase_fault_in ref phase o ≡ None → in_order (phase_member_fault ref) [] (unwrap_or o []) ≡ None
+in_phase : (ref : Option (List ℕ)) (phase : Member) (o : Option (List Member)) → phase_fault_in ref phase o ≡ None → first_fault_in (phase_member_fault ref) [] (unwrap_or o []) ≡ None
 in_phase ref phase None h = absurd cc
 in_phase ref phase (Some ms) h = h
 
-phase_of_fits : (test : List Member → Member → Option Fault) → StopsAt65 test → (n : ℕ) (ms : List Member) → (1 ≤ n) × (n ≤ 1000000000) → in_order test [] ms ≡ None → has_event ms ≡ true → IsPhase (phase_of n ms)
+phase_of_fits : (test : List Member → Member → Option Fault) → StopsAt65 test → (n : ℕ) (ms : List Member) → (1 ≤ n) × (n ≤ 1000000000) → first_fault_in test [] ms ≡ None → has_event ms ≡ true → IsPhase (phase_of n ms)
 unfolding phase_of
 phase_of_fits test stops n ms fits order left = record {
   some = omega (arith, fits.0);
   most = fits.1;
   some_events = events_left ms left;
   most_events = events_few test stops ms order;
-  events = All-from_recursion IsEvent (filter_map event_at ms) (events_fit ms);
+  events = All-from_recursion IsEvent (filter_map event_of_member ms) (events_fit ms);
 }
 
 phase_fits : (ref : Option (List ℕ)) (phase : Member) → phase_fault ref phase ≡ None → has_event (members phase.value) ≡ true → IsPhase (member_phase phase)
@@ -112,7 +112,7 @@ found_fits : (ref : Option (List ℕ)) (o : Option Member) → is_some (value_of
 found_fits ref None some h = absurd cc
 found_fits ref (Some m) some h = member_phases ref h.before m h.is h.passes
 
-found_at : (ref : Option (List ℕ)) (ms : List Member) → in_order (thread_member_fault ref) [] ms ≡ None → has (codes "phases") ms ≡ true → Fit (members_at (codes "phases") ms) ref
+found_at : (ref : Option (List ℕ)) (ms : List Member) → first_fault_in (thread_member_fault ref) [] ms ≡ None → has (codes "phases") ms ≡ true → Fit (members_at (codes "phases") ms) ref
 unfolding at
 found_at ref ms order some = found_fits ref (find is_phases ms) some (found_passes (thread_member_fault ref) is_phases [] ms order)
 
@@ -121,7 +121,7 @@ record Fits (ms : List Member) : Type 0 where
   pub most : length (phases ms) ≤ 64
   pub each : AllByRecursion IsPhase (phases ms)
 
-thread_fits : (ref : Option (List ℕ)) (ms : List Member) (b : Bool) → has (codes "phases") ms ≡ b → in_order (thread_member_fault ref) [] ms ≡ None → is_idle ms ≡ false → Fits ms
+thread_fits : (ref : Option (List ℕ)) (ms : List Member) (b : Bool) → has (codes "phases") ms ≡ b → first_fault_in (thread_member_fault ref) [] ms ≡ None → is_idle ms ≡ false → Fits ms
 thread_fits ref ms true e order left =
     let f = found_at ref ms order e in
     let l : idles (members_at (codes "phases") ms) ≡ false = rw e at left in
@@ -141,7 +141,7 @@ pub script_fits : (ms : List Member) → members_fault ms ≡ None → IsScript 
 unfolding members_fault
 script_fits ms h =
     let ref = thread_ref ms in
-    let a = first_split (in_order (thread_member_fault ref) [] ms) (missing_fault thread_keys ms ∷ unless (not (is_idle ms)) idle ∷ []) h in
+    let a = first_split (first_fault_in (thread_member_fault ref) [] ms) (missing_fault thread_keys ms ∷ unless (not (is_idle ms)) idle ∷ []) h in
     let b = first_split (missing_fault thread_keys ms) (unless (not (is_idle ms)) idle ∷ []) a.1 in
     let c = first_split (unless (not (is_idle ms)) idle) [] b.1 in
     let left = not_true (is_idle ms) (unless_passes (not (is_idle ms)) idle c.0) in

@@ -8,7 +8,7 @@ use Rattle.std.proofs.lemmas.Simd.{map-map}
 use Rattle.std.specs.Prelude.{codes}
 use Rattle.std.specs.List.{range_with_len}
 use Rattle.rtapp_scenario.specs.Values.{Member, members}
-use Rattle.rtapp_scenario.specs.Faults.{unsupported, too_many, unless, in_order}
+use Rattle.rtapp_scenario.specs.Faults.{unsupported, too_many, unless, first_fault_in}
 use Rattle.rtapp_scenario.specs.Threads.{instances, thread_ref}
 use Rattle.rtapp_scenario.specs.Tests.{thread_fault, own_fault, beside_fault, is_shared, refs_in, tasks_in}
 use Rattle.rtapp_scenario.specs.Scenario.{task_at, thread_tasks, tasks_from}
@@ -25,18 +25,18 @@ beside_few refs tasks ms h =
     let many = unless (leb (tasks + instances ms) 256) too_many in
     leb-true (tasks + instances ms) 256 (unless_passes (leb (tasks + instances ms) 256) too_many (first_split many [] (first_split shared (many ∷ []) h).1).0)
 
-few_behind : (before threads : List Member) → in_order thread_fault before threads ≡ None → tasks_in before ≤ 256 → tasks_in (before ++ threads) ≤ 256
+few_behind : (before threads : List Member) → first_fault_in thread_fault before threads ≡ None → tasks_in before ≤ 256 → tasks_in (before ++ threads) ≤ 256
 few_behind before [] h few = rw append-nil few
 few_behind before (t ∷ ts) h few =
-    let s = first_split (thread_fault before t) (in_order thread_fault (before ++ t ∷ []) ts ∷ []) h in
+    let s = first_split (thread_fault before t) (first_fault_in thread_fault (before ++ t ∷ []) ts ∷ []) h in
     let a = first_split (own_fault t) (beside_fault (refs_in before) (tasks_in before) (members t.value) ∷ []) s.0 in
     let b = beside_few (refs_in before) (tasks_in before) (members t.value) (first_split (beside_fault (refs_in before) (tasks_in before) (members t.value)) [] a.1).0 in
     let more : tasks_in (before ++ t ∷ []) ≤ 256 = rw (sum_by-append (λ thread. instances (members thread.value)) before (t ∷ [])) (omega (arith, b)) in
-    let rest : tasks_in ((before ++ t ∷ []) ++ ts) ≤ 256 = few_behind (before ++ t ∷ []) ts (first_split (in_order thread_fault (before ++ t ∷ []) ts) [] s.1).0 more in
+    let rest : tasks_in ((before ++ t ∷ []) ++ ts) ≤ 256 = few_behind (before ++ t ∷ []) ts (first_split (first_fault_in thread_fault (before ++ t ∷ []) ts) [] s.1).0 more in
     rw append_assoc at rest
 
 -- at most 256 tasks where no thread is at fault
-pub few_tasks : (threads : List Member) → in_order thread_fault [] threads ≡ None → tasks_in threads ≤ 256
+pub few_tasks : (threads : List Member) → first_fault_in thread_fault [] threads ≡ None → tasks_in threads ≤ 256
 few_tasks threads h = few_behind [] threads h (omega arith)
 
 pub length_tasks : (n : ℕ) (threads : List Member) → length (tasks_from n threads) ≡ tasks_in threads
@@ -77,5 +77,5 @@ numbers_rise n (t ∷ ts) =
 pub numbered_tasks : (threads : List Member) (tasks : List TaskSpecView) → tasks ≡ tasks_from 1 threads → map (λ (task : TaskSpecView). task.number) tasks ≡ range_with_len 1 (length tasks)
 numbered_tasks threads tasks e = rw (e, length_tasks 1 threads) (numbers_rise 1 threads)
 
-pub few_of : (threads : List Member) (tasks : List TaskSpecView) → tasks ≡ tasks_from 1 threads → in_order thread_fault [] threads ≡ None → length tasks ≤ 256
+pub few_of : (threads : List Member) (tasks : List TaskSpecView) → tasks ≡ tasks_from 1 threads → first_fault_in thread_fault [] threads ≡ None → length tasks ≤ 256
 few_of threads tasks e h = rw (e, length_tasks 1 threads) (few_tasks threads h)

@@ -1,7 +1,7 @@
 -- What it means that tests pass.
 use Rattle.std.proofs.Common.{◌≡◌, Bool, true, false, List, [], ◌∷◌, ◌++◌, find, refl, Option, Some, None, IfSome, unwrap_or}
 use Rattle.rtapp_scenario.specs.Values.{Member, object_of, members}
-use Rattle.rtapp_scenario.specs.Faults.{Fault, name, unless, first, in_order}
+use Rattle.rtapp_scenario.specs.Faults.{Fault, name, unless, first, first_fault_in}
 use Rattle.rtapp_scenario.specs.Tests.{is_name, own_fault, members_fault, members_fault_in}
 
 -- the first test passes, and the others do
@@ -33,7 +33,7 @@ pub record Passes (test : List Member → Member → Option Fault) (p : Member �
   pub passes : test before m ≡ None
   pub is : p m ≡ true
 
-pub found_passes : (test : List Member → Member → Option Fault) (p : Member → Bool) (before ms : List Member) → in_order test before ms ≡ None → IfSome (find p ms) (Passes test p)
+pub found_passes : (test : List Member → Member → Option Fault) (p : Member → Bool) (before ms : List Member) → first_fault_in test before ms ≡ None → IfSome (find p ms) (Passes test p)
 found_passes test p before [] h = tt
 found_passes test p before (m ∷ ms) h =
     let s = first_split _ _ h in

@@ -5,14 +5,14 @@ use Rattle.std.specs.declared.vec.Vec.{Vec}
 use Rattle.std.specs.declared.alloc.Global.{Global}
 use Rattle.std.proofs.Common.{◌≡◌, List, [], ◌∷◌, map, refl, sym, ap, ◌∙◌, Some}
 use Rattle.json_order.specs.Json.{Json, no_items, no_members}
-use Rattle.json_order.specs.Seen.{json_of, seen_step, entry_of, members_with, items_with}
+use Rattle.json_order.specs.Seen.{json_of, seen_step, member_entry, members_with, items_with}
 use Rattle.json_order.specs.declared.tree.Tree.{Tree}
 use Rattle.json_order.specs.declared.tree.Tree.TheVariants.{Object, List as ListTree, rolls-Object, rolls-List}
 use Rattle.json_order.specs.declared.tree.Tree.TheOpen.{Tree-F}
 use Rattle.json_order.specs.declared.tree.Tree.TheFolds.{fold-roll-Tree}
 use Rattle.rtapp_scenario.specs.Values.{Member, members_in, items_in, object_of, list_of, members_of}
 
-members_back : (ms : List (String Global × Tree)) → members_in (members_with (map entry_of (map (λ m. (m.0, json_of m.1)) ms)) no_members) ≡ members_of ms
+members_back : (ms : List (String Global × Tree)) → members_in (members_with (map member_entry (map (λ m. (m.0, json_of m.1)) ms)) no_members) ≡ members_of ms
 members_back [] = refl
 members_back (m ∷ ms) = ap (λ others. record { key = string_bytes m.0; value = json_of m.1 } ∷ others) (members_back ms)
 

@@ -9,7 +9,7 @@ use Rattle.std.specs.Str.{bytes_eq}
 use Rattle.json_order.specs.Seen.{json_of}
 use Rattle.json_order.specs.declared.tree.Tree.{Tree}
 use Rattle.rtapp_scenario.specs.Values.{Member, member_of, members_of, at}
-use Rattle.rtapp_scenario.specs.Faults.{Fault, first, in_order}
+use Rattle.rtapp_scenario.specs.Faults.{Fault, first, first_fault_in}
 
 -- a function of what is left, at the next item
 pub here : {X Y : Type 0} (F : List X → Y) (xs : List X) (i : ℕ) (x : X) → i < length xs → x ≡ get_or xs i x → F (drop i xs) ≡ F (x ∷ drop (i + 1) xs)
@@ -68,16 +68,16 @@ first_end f xs i h so_far = sym (at_drop_all (λ ys. first (map f ys)) xs i h) �
 
 pub order_found : (test : List Member → Member → Option Fault) (ms : List (String Global × Tree)) (i : ℕ) (m : String Global × Tree) (fault : Fault) → i < length ms → m ≡ get_or ms i m
     → test (members_of (take i ms)) (member_of m) ≡ Some fault
-    → in_order test (members_of (take i ms)) (members_of (drop i ms)) ≡ in_order test [] (members_of ms) → Some fault ≡ in_order test [] (members_of ms)
+    → first_fault_in test (members_of (take i ms)) (members_of (drop i ms)) ≡ first_fault_in test [] (members_of ms) → Some fault ≡ first_fault_in test [] (members_of ms)
 order_found test ms i m fault h e found so_far =
-    let step : in_order test (members_of (take i ms)) (members_of (drop i ms)) ≡ in_order test (members_of (take i ms)) (members_of (m ∷ drop (i + 1) ms)) =
-    here (λ xs. in_order test (members_of (take i ms)) (members_of xs)) ms i m h e in
-    let now : in_order test (members_of (take i ms)) (members_of (m ∷ drop (i + 1) ms)) ≡ Some fault = rw found refl in
+    let step : first_fault_in test (members_of (take i ms)) (members_of (drop i ms)) ≡ first_fault_in test (members_of (take i ms)) (members_of (m ∷ drop (i + 1) ms)) =
+    here (λ xs. first_fault_in test (members_of (take i ms)) (members_of xs)) ms i m h e in
+    let now : first_fault_in test (members_of (take i ms)) (members_of (m ∷ drop (i + 1) ms)) ≡ Some fault = rw found refl in
     sym now ∙ sym step ∙ so_far
 
 pub order_end : (test : List Member → Member → Option Fault) (ms : List (String Global × Tree)) (i : ℕ) → length ms ≤ i
-    → in_order test (members_of (take i ms)) (members_of (drop i ms)) ≡ in_order test [] (members_of ms) → None ≡ in_order test [] (members_of ms)
-order_end test ms i h so_far = sym (at_drop_all (λ xs. in_order test (members_of (take i ms)) (members_of xs)) ms i h) ∙ so_far
+    → first_fault_in test (members_of (take i ms)) (members_of (drop i ms)) ≡ first_fault_in test [] (members_of ms) → None ≡ first_fault_in test [] (members_of ms)
+order_end test ms i h so_far = sym (at_drop_all (λ xs. first_fault_in test (members_of (take i ms)) (members_of xs)) ms i h) ∙ so_far
 
 -- one member more stands before
 pub before_more : (ms : List (String Global × Tree)) (i : ℕ) (m : String Global × Tree) → i < length ms → m ≡ get_or ms i m → members_of (take (i + 1) ms) ≡ members_of (take i ms) ++ member_of m ∷ []
@@ -89,11 +89,11 @@ first_none (Some x) = refl
 
 pub order_passed : (test : List Member → Member → Option Fault) (ms : List (String Global × Tree)) (i : ℕ) (m : String Global × Tree) → i < length ms → m ≡ get_or ms i m
     → test (members_of (take i ms)) (member_of m) ≡ None
-    → in_order test (members_of (take i ms)) (members_of (drop i ms)) ≡ in_order test [] (members_of ms)
-    → in_order test (members_of (take (i + 1) ms)) (members_of (drop (i + 1) ms)) ≡ in_order test [] (members_of ms)
+    → first_fault_in test (members_of (take i ms)) (members_of (drop i ms)) ≡ first_fault_in test [] (members_of ms)
+    → first_fault_in test (members_of (take (i + 1) ms)) (members_of (drop (i + 1) ms)) ≡ first_fault_in test [] (members_of ms)
 order_passed test ms i m h e none so_far =
-    let step : in_order test (members_of (take i ms)) (members_of (drop i ms)) ≡ in_order test (members_of (take i ms)) (members_of (m ∷ drop (i + 1) ms)) =
-    here (λ xs. in_order test (members_of (take i ms)) (members_of xs)) ms i m h e in
-    let on : in_order test (members_of (take i ms)) (members_of (m ∷ drop (i + 1) ms)) ≡ in_order test (members_of (take i ms) ++ member_of m ∷ []) (members_of (drop (i + 1) ms)) =
-    rw none (first_none (in_order test (members_of (take i ms) ++ member_of m ∷ []) (members_of (drop (i + 1) ms)))) in
+    let step : first_fault_in test (members_of (take i ms)) (members_of (drop i ms)) ≡ first_fault_in test (members_of (take i ms)) (members_of (m ∷ drop (i + 1) ms)) =
+    here (λ xs. first_fault_in test (members_of (take i ms)) (members_of xs)) ms i m h e in
+    let on : first_fault_in test (members_of (take i ms)) (members_of (m ∷ drop (i + 1) ms)) ≡ first_fault_in test (members_of (take i ms) ++ member_of m ∷ []) (members_of (drop (i + 1) ms)) =
+    rw none (first_none (first_fault_in test (members_of (take i ms) ++ member_of m ∷ []) (members_of (drop (i + 1) ms)))) in
     rw (before_more ms i m h e) (sym on ∙ sym step ∙ so_far)

@@ -1,11 +1,11 @@
 -- Worked rows, computed from the definitions.
 use Rattle.std.specs.Prelude.{ℕ, ◌≡◌, List, [], ◌∷◌, Some, None, Ok, Err, codes, refl}
 use Rattle.json_order.specs.Json.{Json, number, string, object, Members, no_members, member}
-use Rattle.task_script.specs.declared.script.Event.TheVariants.{Run, Sleep}
+use Rattle.task_script.specs.declared.phase.Event.TheVariants.{Run, Sleep}
 use Rattle.rtapp_scenario.specs.Values.{natural_in, natural_within, at}
 use Rattle.rtapp_scenario.specs.Faults.{no_tasks, unsupported, policy, idle}
 use Rattle.rtapp_scenario.specs.Keys.{are_cpus, takes, key_fault, missing_fault, kind_of}
-use Rattle.rtapp_scenario.specs.Threads.{number_at, event_at, timer_at, timer_of, thread_ref}
+use Rattle.rtapp_scenario.specs.Threads.{number_at, event_of_member, timer_at, timer_of, thread_ref}
 use Rattle.rtapp_scenario.specs.Tests.{event_value_fault, event_fault, phase_member_fault, phase_fault, phases_fault, thread_member_fault, is_shared, members_fault, own_fault, beside_fault, fault_of}
 use Rattle.rtapp_scenario.specs.Scenario.{phase_of, script, task_at, thread_tasks, parsed}
 
@@ -70,7 +70,7 @@ member_order : parsed (root (obj (codes "p") p no_members) (codes "0")) ≡ Ok (
   } ∷ [];
 })
 unfolding natural_in natural_within at are_cpus takes key_fault missing_fault kind_of number_at
-    event_at timer_at timer_of thread_ref event_value_fault event_fault phase_member_fault
+    event_of_member timer_at timer_of thread_ref event_value_fault event_fault phase_member_fault
     phase_fault phases_fault thread_member_fault is_shared members_fault own_fault beside_fault
     phase_of script task_at thread_tasks
 member_order = refl
@@ -82,7 +82,7 @@ a_run : fault_of
     (obj (codes "global") (num (codes "duration") (codes "1") no_members)
     (obj (codes "resources") no_members no_members)))) ≡ Some (unsupported (codes "resources"))
 unfolding natural_in natural_within at are_cpus takes key_fault missing_fault kind_of number_at
-    event_at timer_at timer_of thread_ref event_value_fault event_fault phase_member_fault
+    event_of_member timer_at timer_of thread_ref event_value_fault event_fault phase_member_fault
     phase_fault phases_fault thread_member_fault is_shared members_fault own_fault beside_fault
 a_run = refl
 
@@ -90,7 +90,7 @@ no_policy : fault_of
     (root (obj (codes "a") (num (codes "run") (codes "1") no_members) no_members) (codes "1"))
     ≡ Some policy
 unfolding natural_in natural_within at are_cpus takes key_fault missing_fault kind_of number_at
-    event_at timer_at timer_of thread_ref event_value_fault event_fault phase_member_fault
+    event_of_member timer_at timer_of thread_ref event_value_fault event_fault phase_member_fault
     phase_fault phases_fault thread_member_fault is_shared members_fault own_fault beside_fault
 no_policy = refl
 
@@ -101,14 +101,14 @@ a_task more =
 
 nothing_left : fault_of (a_task (num (codes "sleep") (codes "0") no_members)) ≡ Some idle
 unfolding natural_in natural_within at are_cpus takes key_fault missing_fault kind_of number_at
-    event_at timer_at timer_of thread_ref event_value_fault event_fault phase_member_fault
+    event_of_member timer_at timer_of thread_ref event_value_fault event_fault phase_member_fault
     phase_fault phases_fault thread_member_fault is_shared members_fault own_fault beside_fault
 nothing_left = refl
 
 other_key : fault_of (a_task (num (codes "runtime") (codes "5") no_members))
     ≡ Some (unsupported (codes "runtime"))
 unfolding natural_in natural_within at are_cpus takes key_fault missing_fault kind_of number_at
-    event_at timer_at timer_of thread_ref event_value_fault event_fault phase_member_fault
+    event_of_member timer_at timer_of thread_ref event_value_fault event_fault phase_member_fault
     phase_fault phases_fault thread_member_fault is_shared members_fault own_fault beside_fault
 other_key = refl
 
@@ -121,18 +121,18 @@ timer ref =
 shared_ref : fault_of (a_task (num (codes "instance") (codes "2") (timer (codes "tick"))))
     ≡ Some (unsupported (codes "ref"))
 unfolding natural_in natural_within at are_cpus takes key_fault missing_fault kind_of number_at
-    event_at timer_at timer_of thread_ref event_value_fault event_fault phase_member_fault
+    event_of_member timer_at timer_of thread_ref event_value_fault event_fault phase_member_fault
     phase_fault phases_fault thread_member_fault is_shared members_fault own_fault beside_fault
 shared_ref = refl
 
 unique_ref : fault_of (a_task (num (codes "instance") (codes "2") (timer (codes "unique")))) ≡ None
 unfolding natural_in natural_within at are_cpus takes key_fault missing_fault kind_of number_at
-    event_at timer_at timer_of thread_ref event_value_fault event_fault phase_member_fault
+    event_of_member timer_at timer_of thread_ref event_value_fault event_fault phase_member_fault
     phase_fault phases_fault thread_member_fault is_shared members_fault own_fault beside_fault
 unique_ref = refl
 
 one_instance : fault_of (a_task (num (codes "instance") (codes "1") (timer (codes "tick")))) ≡ None
 unfolding natural_in natural_within at are_cpus takes key_fault missing_fault kind_of number_at
-    event_at timer_at timer_of thread_ref event_value_fault event_fault phase_member_fault
+    event_of_member timer_at timer_of thread_ref event_value_fault event_fault phase_member_fault
     phase_fault phases_fault thread_member_fault is_shared members_fault own_fault beside_fault
 one_instance = refl

@@ -23,6 +23,8 @@ first (None ∷ others) = first others
 first (Some x ∷ others) = Some x
 
 -- the first fault of members in text order, where the test of each may look at those before it
-abbrev pub in_order : {X : Type 0} → (List X → X → Option Fault) → List X → List X → Option Fault
-in_order test before [] = None
-in_order test before (x ∷ xs) = first (test before x ∷ in_order test (before ++ x ∷ []) xs ∷ [])
+abbrev pub first_fault_in : {X : Type 0} → (List X → X → Option Fault) → List X → List X
+    → Option Fault
+first_fault_in test before [] = None
+first_fault_in test before (x ∷ xs) =
+    first (test before x ∷ first_fault_in test (before ++ x ∷ []) xs ∷ [])

@@ -7,33 +7,33 @@ use Rattle.std.specs.Str.{bytes_eq}
 use Rattle.json_order.specs.Json.{Json}
 use Rattle.rtapp_scenario.specs.declared.key.EventKind.{EventKind}
 use Rattle.rtapp_scenario.specs.declared.key.EventKind.TheVariants.{Run, Sleep, Timer}
-use Rattle.rtapp_scenario.specs.Values.{Member, number_of, list_of, text_of, natural_within, has}
+use Rattle.rtapp_scenario.specs.Values.{Member, numeral_of, list_of, text_value, natural_within, has}
 use Rattle.rtapp_scenario.specs.Faults.{Fault, unsupported, value, policy, unless, first}
 
 -- ---- what may stand at a key
 
-pub data Takes : Type 0 where
+pub data KeyTakes : Type 0 where
   -- a whole number, from the least to the most
-  whole : ℕ → ℕ → Takes
+  whole : ℕ → ℕ → KeyTakes
   -- -1, or a whole number from 1 to 10^9
-  loops : Takes
+  loops : KeyTakes
   -- this text
-  this_text : List ℕ → Takes
+  this_text : List ℕ → KeyTakes
   -- a text
-  any_text : Takes
+  any_text : KeyTakes
   -- one or more different whole numbers 0 to 511
-  cpu_list : Takes
+  cpu_list : KeyTakes
   -- whatever stands there
-  anything : Takes
+  anything : KeyTakes
 
 -- the number at a key that takes one; -1 is none
-abbrev pub number_in : Takes → Json → Option ℕ
-number_in (whole least most) v = natural_within least most v
-number_in loops v = natural_within 1 1000000000 v
-number_in (this_text text) v = None
-number_in any_text v = None
-number_in cpu_list v = None
-number_in anything v = None
+abbrev pub natural_taken : KeyTakes → Json → Option ℕ
+natural_taken (whole least most) v = natural_within least most v
+natural_taken loops v = natural_within 1 1000000000 v
+natural_taken (this_text text) v = None
+natural_taken any_text v = None
+natural_taken cpu_list v = None
+natural_taken anything v = None
 
 -- a text that is this one
 abbrev pub is_text : List ℕ → Option (List ℕ) → Bool
@@ -54,11 +54,11 @@ cpus_after before (v ∷ vs) =
 unfoldable pub are_cpus : List Json → Bool
 are_cpus items = nat_lt 0 (length items) && cpus_after [] items
 
-unfoldable pub takes : Takes → Json → Bool
+unfoldable pub takes : KeyTakes → Json → Bool
 takes (whole least most) v = is_some (natural_within least most v)
-takes loops v = is_text (codes "-1") (number_of v) || is_some (natural_within 1 1000000000 v)
-takes (this_text text) v = is_text text (text_of v)
-takes any_text v = is_some (text_of v)
+takes loops v = is_text (codes "-1") (numeral_of v) || is_some (natural_within 1 1000000000 v)
+takes (this_text text) v = is_text text (text_value v)
+takes any_text v = is_some (text_value v)
 takes cpu_list v = option_map_or are_cpus (list_of v) false
 takes anything v = true
 
@@ -67,19 +67,19 @@ takes anything v = true
 -- a key, what it takes, the fault of another value, and the fault where the key is missing
 pub record Row : Type 0 where
   pub key : List ℕ
-  pub takes : Takes
+  pub takes : KeyTakes
   pub refused : Fault
   pub missing : Option Fault
 
-abbrev optional : List ℕ → Takes → Row
+abbrev optional : List ℕ → KeyTakes → Row
 optional key takes = record { key = key; takes = takes; refused = value key; missing = None }
 
-abbrev needed : List ℕ → Takes → Row
-needed key takes =
+abbrev required_key : List ℕ → KeyTakes → Row
+required_key key takes =
     record { key = key; takes = takes; refused = value key; missing = Some (value key) }
 
 -- microseconds of a runtime, deadline or period
-abbrev time : Takes
+abbrev time : KeyTakes
 time = whole 0 9000000000000000
 
 -- a thread's, beside `phases` and the keys of events
@@ -95,7 +95,7 @@ thread_keys =
       missing = Some policy;
     }
     ∷ optional (codes "priority") anything
-    ∷ needed (codes "dl-runtime") time
+    ∷ required_key (codes "dl-runtime") time
     ∷ optional (codes "dl-period") time
     ∷ optional (codes "dl-deadline") time
     ∷ optional (codes "cpus") cpu_list
@@ -108,8 +108,8 @@ phase_keys = optional (codes "loop") (whole 1 1000000000) ∷ []
 -- a timer's
 abbrev pub timer_keys : List Row
 timer_keys =
-    needed (codes "ref") any_text
-    ∷ needed (codes "period") (whole 1 1000000000)
+    required_key (codes "ref") any_text
+    ∷ required_key (codes "period") (whole 1 1000000000)
     ∷ record {
       key = codes "mode";
       takes = this_text (codes "relative");

@@ -6,14 +6,14 @@ use Rattle.attr_check.specs.declared.attr.SchedAttr.{SchedAttr}
 use Rattle.task_script.specs.script.ScriptView.{PhaseView, ScriptView, script_of}
 use Rattle.rtapp_scenario.specs.Values.{Member, members, has, members_at}
 use Rattle.rtapp_scenario.specs.Faults.{Fault}
-use Rattle.rtapp_scenario.specs.Threads.{instances, delay, runtime, period, deadline, rounds, count, cpus, event_at}
+use Rattle.rtapp_scenario.specs.Threads.{instances, delay, runtime, period, deadline, rounds, count, cpus, event_of_member}
 use Rattle.rtapp_scenario.specs.Tests.{threads_of, duration_of, fault_of}
 use Rattle.rtapp_scenario.specs.ScenarioView.{TaskSpecView, ScenarioView}
 
 -- ---- scripts
 
 unfoldable pub phase_of : ℕ → List Member → PhaseView
-phase_of n ms = record { count = n; events = filter_map event_at ms }
+phase_of n ms = record { count = n; events = filter_map event_of_member ms }
 
 abbrev pub member_phase : Member → PhaseView
 member_phase phase = phase_of (count (members phase.value)) (members phase.value)

@@ -5,8 +5,8 @@ use Rattle.std.specs.Str.{bytes_eq}
 use Rattle.json_order.specs.Json.{Json}
 use Rattle.rtapp_scenario.specs.declared.key.EventKind.{EventKind}
 use Rattle.rtapp_scenario.specs.declared.key.EventKind.TheVariants.{Run, Sleep, Timer}
-use Rattle.rtapp_scenario.specs.Values.{Member, object_of, text_of, natural_within, at, members, members_at, is_at}
-use Rattle.rtapp_scenario.specs.Faults.{Fault, no_tasks, duration, unsupported, value, name, too_many, idle, unless, first, in_order}
+use Rattle.rtapp_scenario.specs.Values.{Member, object_of, text_value, natural_within, at, members, members_at, is_at}
+use Rattle.rtapp_scenario.specs.Faults.{Fault, no_tasks, duration, unsupported, value, name, too_many, idle, unless, first, first_fault_in}
 use Rattle.rtapp_scenario.specs.Keys.{is_text, thread_keys, phase_keys, timer_keys, key_fault, missing_fault, kind_of, is_event}
 use Rattle.rtapp_scenario.specs.Threads.{thread_ref, has_event, phases_in, instances}
 
@@ -16,7 +16,7 @@ use Rattle.rtapp_scenario.specs.Threads.{thread_ref, has_event, phases_in, insta
 abbrev pub other_ref : Option (List ℕ) → Member → Option Fault
 other_ref None m = None
 other_ref (Some ref) m =
-    unless (not (bytes_eq m.key (codes "ref")) || is_text ref (text_of m.value))
+    unless (not (bytes_eq m.key (codes "ref")) || is_text ref (text_value m.value))
     (unsupported (codes "ref"))
 
 abbrev pub timer_member_fault : Option (List ℕ) → List Member → Member → Option Fault
@@ -26,7 +26,7 @@ timer_member_fault ref before m = first (key_fault timer_keys m ∷ other_ref re
 abbrev pub timer_fault : Option (List ℕ) → Option (List Member) → Member → Option Fault
 timer_fault ref None m = Some (value m.key)
 timer_fault ref (Some ms) m =
-    first (in_order (timer_member_fault ref) [] ms ∷ missing_fault timer_keys ms ∷ [])
+    first (first_fault_in (timer_member_fault ref) [] ms ∷ missing_fault timer_keys ms ∷ [])
 
 -- `run` and `sleep` take 0 to 10^9 us, a timer takes an object
 unfoldable pub event_value_fault : Option (List ℕ) → Option EventKind → Member → Option Fault
@@ -51,7 +51,7 @@ phase_member_fault ref before m =
 
 abbrev pub phase_fault_in : Option (List ℕ) → Member → Option (List Member) → Option Fault
 phase_fault_in ref phase None = Some (value phase.key)
-phase_fault_in ref phase (Some ms) = in_order (phase_member_fault ref) [] ms
+phase_fault_in ref phase (Some ms) = first_fault_in (phase_member_fault ref) [] ms
 
 unfoldable pub phase_fault : Option (List ℕ) → Member → Option Fault
 phase_fault ref phase = phase_fault_in ref phase (object_of phase.value)
@@ -116,7 +116,7 @@ tasks_in threads = sum_by (λ thread. instances (members thread.value)) threads
 unfoldable pub members_fault : List Member → Option Fault
 members_fault ms =
     first (
-    in_order (thread_member_fault (thread_ref ms)) [] ms
+    first_fault_in (thread_member_fault (thread_ref ms)) [] ms
     ∷ missing_fault thread_keys ms
     ∷ unless (not (is_idle ms)) idle
     ∷ []
@@ -166,6 +166,6 @@ fault_of root =
     unless (nat_lt 0 (length (threads_of root))) no_tasks
     ∷ unless (is_some (duration_of root)) duration
     ∷ first (map root_member_fault (members root))
-    ∷ in_order thread_fault [] (threads_of root)
+    ∷ first_fault_in thread_fault [] (threads_of root)
     ∷ []
     )

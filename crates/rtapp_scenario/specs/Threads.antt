@@ -3,11 +3,11 @@ use Rattle.std.specs.Prelude.{ℕ, Bool, true, false, if◌then◌else◌, List,
 use Rattle.std.specs.Option.{option_map}
 use Rattle.std.specs.List.{list_any}
 use Rattle.json_order.specs.Json.{Json}
-use Rattle.task_script.specs.declared.script.Event.{Event}
-use Rattle.task_script.specs.declared.script.Event.TheVariants as events
+use Rattle.task_script.specs.declared.phase.Event.{Event}
+use Rattle.task_script.specs.declared.phase.Event.TheVariants as events
 use Rattle.rtapp_scenario.specs.declared.key.EventKind.{EventKind}
 use Rattle.rtapp_scenario.specs.declared.key.EventKind.TheVariants.{Run, Sleep, Timer}
-use Rattle.rtapp_scenario.specs.Values.{Member, text_of, natural_within, list_of, at, has, members, members_at, is_at}
+use Rattle.rtapp_scenario.specs.Values.{Member, text_value, natural_within, list_of, at, has, members, members_at, is_at}
 use Rattle.rtapp_scenario.specs.Faults.{first}
 use Rattle.rtapp_scenario.specs.Keys.{kind_of, numbers_in}
 
@@ -60,11 +60,11 @@ event_of (Some Timer) v =
     (option_and_then (natural_within 1 1000000000) (at (codes "period") (members v)))
 
 -- the event of a member; an event of 0 us is dropped
-unfoldable pub event_at : Member → Option Event
-event_at m = event_of (kind_of m.key) m.value
+unfoldable pub event_of_member : Member → Option Event
+event_of_member m = event_of (kind_of m.key) m.value
 
 abbrev pub has_event : List Member → Bool
-has_event ms = list_any (λ m. is_some (event_at m)) ms
+has_event ms = list_any (λ m. is_some (event_of_member m)) ms
 
 -- ---- phases
 
@@ -97,7 +97,7 @@ timer_of m =
     else timer_at m
 
 abbrev pub ref_of : Json → Option (List ℕ)
-ref_of timer = option_and_then text_of (at (codes "ref") (members timer))
+ref_of timer = option_and_then text_value (at (codes "ref") (members timer))
 
 -- the `ref` of a thread's first timer in text order
 unfoldable pub thread_ref : List Member → Option (List ℕ)

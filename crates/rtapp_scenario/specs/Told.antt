@@ -26,28 +26,28 @@ flaw_of (Ok x) = None
 flaw_of (Err flaw) = Some (flaw_seen flaw)
 
 -- the first fault is this one; want of memory may come before any
-abbrev pub IsTold : Option Fault → ScenarioFault → Type 0
-IsTold found NoTasks = found ≡ Some no_tasks
-IsTold found Duration = found ≡ Some duration
-IsTold found (Unsupported key) = found ≡ Some (unsupported (string_bytes key))
-IsTold found (Value key) = found ≡ Some (value (string_bytes key))
-IsTold found Name = found ≡ Some name
-IsTold found Policy = found ≡ Some policy
-IsTold found TooMany = found ≡ Some too_many
-IsTold found Idle = found ≡ Some idle
-IsTold found Memory = Unit {0}
+abbrev pub IsFaultTold : Option Fault → ScenarioFault → Type 0
+IsFaultTold found NoTasks = found ≡ Some no_tasks
+IsFaultTold found Duration = found ≡ Some duration
+IsFaultTold found (Unsupported key) = found ≡ Some (unsupported (string_bytes key))
+IsFaultTold found (Value key) = found ≡ Some (value (string_bytes key))
+IsFaultTold found Name = found ≡ Some name
+IsFaultTold found Policy = found ≡ Some policy
+IsFaultTold found TooMany = found ≡ Some too_many
+IsFaultTold found Idle = found ≡ Some idle
+IsFaultTold found Memory = Unit {0}
 
 -- what stands in a scenario's place is this fault; want of memory may come before any
-abbrev pub IsFault : Result ScenarioView Fault → ScenarioFault → Type 0
-IsFault found NoTasks = found ≡ Err no_tasks
-IsFault found Duration = found ≡ Err duration
-IsFault found (Unsupported key) = found ≡ Err (unsupported (string_bytes key))
-IsFault found (Value key) = found ≡ Err (value (string_bytes key))
-IsFault found Name = found ≡ Err name
-IsFault found Policy = found ≡ Err policy
-IsFault found TooMany = found ≡ Err too_many
-IsFault found Idle = found ≡ Err idle
-IsFault found Memory = Unit {0}
+abbrev pub IsScenarioFault : Result ScenarioView Fault → ScenarioFault → Type 0
+IsScenarioFault found NoTasks = found ≡ Err no_tasks
+IsScenarioFault found Duration = found ≡ Err duration
+IsScenarioFault found (Unsupported key) = found ≡ Err (unsupported (string_bytes key))
+IsScenarioFault found (Value key) = found ≡ Err (value (string_bytes key))
+IsScenarioFault found Name = found ≡ Err name
+IsScenarioFault found Policy = found ≡ Err policy
+IsScenarioFault found TooMany = found ≡ Err too_many
+IsScenarioFault found Idle = found ≡ Err idle
+IsScenarioFault found Memory = Unit {0}
 
 -- the number of a fault (own)
 abbrev pub fault_number : ScenarioFault → ℕ
@@ -74,8 +74,8 @@ key_text Idle = []
 key_text Memory = []
 
 -- how a fault prints (own)
-abbrev pub fault_text : ScenarioFault → List ℕ
-fault_text fault = codes "scenario " ++ (decimal (fault_number fault) ++ key_text fault)
+abbrev pub scenario_fault_text : ScenarioFault → List ℕ
+scenario_fault_text fault = codes "scenario " ++ (decimal (fault_number fault) ++ key_text fault)
 
 -- a reference that lies in the tree
 abbrev pub ref_seen : Option (Bor (List ℕ)) → Option (List ℕ)

@@ -41,22 +41,22 @@ list_of (string text) = None
 list_of (array items) = Some (items_in items)
 list_of (object ms) = None
 
-abbrev pub text_of : Json → Option (List ℕ)
-text_of null = None
-text_of (boolean b) = None
-text_of (number text) = None
-text_of (string text) = Some text
-text_of (array items) = None
-text_of (object ms) = None
+abbrev pub text_value : Json → Option (List ℕ)
+text_value null = None
+text_value (boolean b) = None
+text_value (number text) = None
+text_value (string text) = Some text
+text_value (array items) = None
+text_value (object ms) = None
 
 -- a number, as its own text
-abbrev pub number_of : Json → Option (List ℕ)
-number_of null = None
-number_of (boolean b) = None
-number_of (number text) = Some text
-number_of (string text) = None
-number_of (array items) = None
-number_of (object ms) = None
+abbrev pub numeral_of : Json → Option (List ℕ)
+numeral_of null = None
+numeral_of (boolean b) = None
+numeral_of (number text) = Some text
+numeral_of (string text) = None
+numeral_of (array items) = None
+numeral_of (object ms) = None
 
 -- digits whose number is within 64 signed bits
 abbrev pub is_natural : List ℕ → Bool
@@ -71,7 +71,7 @@ natural_in text =
     else (if is_natural text then Some (digits_value 10 text) else None)
 
 abbrev pub natural_of : Json → Option ℕ
-natural_of value = option_and_then natural_in (number_of value)
+natural_of value = option_and_then natural_in (numeral_of value)
 
 -- a whole number from the least to the most
 unfoldable pub natural_within : ℕ → ℕ → Json → Option ℕ

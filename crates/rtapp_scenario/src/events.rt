@@ -1,6 +1,6 @@
 ghost use Rattle.std.specs.Prelude.{◌≡◌, [], count_by, Some};
 ghost use Rattle.rtapp_scenario.specs.Values.{member_of, members_of, object_of};
-ghost use Rattle.rtapp_scenario.specs.Faults.{in_order};
+ghost use Rattle.rtapp_scenario.specs.Faults.{first_fault_in};
 ghost use Rattle.rtapp_scenario.specs.Keys.{kind_of, is_event};
 ghost use Rattle.rtapp_scenario.specs.Tests.{other_ref, timer_member_fault, timer_fault, event_value_fault, event_fault};
 ghost use Rattle.rtapp_scenario.specs.Told.{flaw_of, ref_seen};
@@ -46,7 +46,8 @@ fn check_timer_members<'a>(
     members: &'a [(String, Tree)],
 ) -> Result<(), Flaw<'a>>
     ensures { flaw_of result
-        ≡ in_order (timer_member_fault (ref_seen first_ref.entry)) [] (members_of members.now) }
+        ≡ first_fault_in (timer_member_fault (ref_seen first_ref.entry)) []
+        (members_of members.now) }
 {
     for member in members {
         check_timer_member(first_ref, member)?;

@@ -1,5 +1,5 @@
 ghost use Rattle.std.specs.Prelude.{◌≡◌, Some};
-ghost use Rattle.rtapp_scenario.specs.Told.{IsTold, flaw_seen, fault_number};
+ghost use Rattle.rtapp_scenario.specs.Told.{IsFaultTold, flaw_seen, fault_number};
 
 use crate::flaw::Flaw;
 use std::alloc::{AllocError, AllocFailed, Global};
@@ -51,9 +51,9 @@ impl ScenarioFault {
 
 impl fmt::Display for ScenarioFault {
     ghost use Rattle.std.specs.Prelude.{Some};
-    ghost use Rattle.rtapp_scenario.specs.Told.{fault_text};
+    ghost use Rattle.rtapp_scenario.specs.Told.{scenario_fault_text};
 
-    ghost output = { λ fault. Some (fault_text fault) };
+    ghost output = { λ fault. Some (scenario_fault_text fault) };
 
     fn fmt<W: fmt::Write>(&self, f: &mut fmt::Formatter<W>) -> fmt::Result {
         let number = self.number();
@@ -91,7 +91,7 @@ impl<T: Drop> From<AllocFailed<T>> for ScenarioFault {
 
 /// The fault with a key of its own, or want of memory for that.
 pub(crate) fn fault_of(alloc: Global, flaw: Flaw<'_>) -> ScenarioFault
-    ensures { IsTold (Some (flaw_seen flaw.entry)) result }
+    ensures { IsFaultTold (Some (flaw_seen flaw.entry)) result }
 {
     match flaw {
         Flaw::Unsupported(key) => match String::from_str(alloc, key) {

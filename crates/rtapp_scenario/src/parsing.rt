@@ -6,7 +6,7 @@ ghost use Rattle.rtapp_scenario.specs.Faults.{first};
 ghost use Rattle.rtapp_scenario.specs.Tests.{duration_of, root_member_fault};
 ghost use Rattle.rtapp_scenario.specs.Scenario.{parsed};
 ghost use Rattle.rtapp_scenario.specs.ScenarioView.{IsTaskSpec};
-ghost use Rattle.rtapp_scenario.specs.Told.{flaw_of, IsFault};
+ghost use Rattle.rtapp_scenario.specs.Told.{flaw_of, IsScenarioFault};
 
 use crate::fault::{ScenarioFault, fault_of};
 use crate::flaw::Flaw;
@@ -73,7 +73,7 @@ pub fn parse(alloc: Global, tree: &Tree) -> Result<Scenario, ScenarioFault>
     // Ok exactly with the scenario that the value stands for,
     ensures found { IfOk result (λ scenario. parsed (json_of tree.now) ≡ Ok scenario) }
     // and Err with its first fault, unless memory runs out.
-    ensures fault { IfErr result (IsFault (parsed (json_of tree.now))) }
+    ensures fault { IfErr result (IsScenarioFault (parsed (json_of tree.now))) }
     // Tasks are numbered 1, 2, .. in text order, at most 256, and each is within its limits.
     ensures numbered { IfOk result (λ scenario.
         map (λ t. t.number) scenario.tasks ≡ range_with_len 1 (length scenario.tasks)) }

@@ -1,6 +1,6 @@
 ghost use Rattle.std.specs.Prelude.{◌≡◌, [], map};
 ghost use Rattle.rtapp_scenario.specs.Values.{member_of, members_of};
-ghost use Rattle.rtapp_scenario.specs.Faults.{in_order, first};
+ghost use Rattle.rtapp_scenario.specs.Faults.{first_fault_in, first};
 ghost use Rattle.rtapp_scenario.specs.Tests.{phase_member_fault, phase_fault, phases_fault};
 ghost use Rattle.rtapp_scenario.specs.Told.{flaw_of, ref_seen};
 
@@ -30,7 +30,8 @@ fn check_phase_members<'a>(
     members: &'a [(String, Tree)],
 ) -> Result<(), Flaw<'a>>
     ensures { flaw_of result
-        ≡ in_order (phase_member_fault (ref_seen first_ref.entry)) [] (members_of members.now) }
+        ≡ first_fault_in (phase_member_fault (ref_seen first_ref.entry)) []
+        (members_of members.now) }
 {
     for (i, member) in members.iter().enumerate() {
         check_phase_member(first_ref, &members[..i], member)?;

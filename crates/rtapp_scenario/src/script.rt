@@ -3,7 +3,7 @@ ghost use Rattle.std.specs.List.{filter_map};
 ghost use Rattle.task_script.specs.script.ScriptView.{IsScript, script_of as script_from};
 ghost use Rattle.task_script.specs.script.Segments.{rounds_of, IsLoops};
 ghost use Rattle.rtapp_scenario.specs.Values.{members_of};
-ghost use Rattle.rtapp_scenario.specs.Threads.{event_at};
+ghost use Rattle.rtapp_scenario.specs.Threads.{event_of_member};
 ghost use Rattle.rtapp_scenario.specs.Tests.{members_fault};
 ghost use Rattle.rtapp_scenario.specs.Scenario.{phase_of, member_phase, phases, script};
 
@@ -16,7 +16,7 @@ use json_order::Tree;
 use std::alloc::{AllocError, Global};
 
 fn events_of(alloc: Global, members: &[(String, Tree)]) -> Result<Vec<Event>, AllocError>
-    ensures { IfOk result (λ v. v.items ≡ filter_map event_at (members_of members.now)) }
+    ensures { IfOk result (λ v. v.items ≡ filter_map event_of_member (members_of members.now)) }
 {
     let mut events = Vec::with_capacity(alloc, events_in(members))?;
     for member in members {

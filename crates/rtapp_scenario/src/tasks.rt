@@ -3,13 +3,13 @@ ghost use Rattle.json_order.specs.Seen.{json_of};
 ghost use Rattle.std.specs.Option.{option_map};
 ghost use Rattle.task_script.specs.NameView.{IsName, IsNameByte};
 ghost use Rattle.rtapp_scenario.specs.Values.{natural_within, member_of, members_of, members};
-ghost use Rattle.rtapp_scenario.specs.Faults.{in_order};
+ghost use Rattle.rtapp_scenario.specs.Faults.{first_fault_in};
 ghost use Rattle.rtapp_scenario.specs.Keys.{numbers_in};
 ghost use Rattle.rtapp_scenario.specs.Threads.{cpus, instances};
 ghost use Rattle.rtapp_scenario.specs.Tests.{is_name, own_fault, thread_fault};
 ghost use Rattle.rtapp_scenario.specs.Scenario.{task_name, attr, task_at, thread_tasks, tasks_from};
 ghost use Rattle.rtapp_scenario.specs.ScenarioView.{IsTaskSpec, AreCpus};
-ghost use Rattle.rtapp_scenario.specs.Told.{IsTold};
+ghost use Rattle.rtapp_scenario.specs.Told.{IsFaultTold};
 
 use crate::fault::{ScenarioFault, fault_of};
 use crate::numbers::{deadline, delay, instances, period, runtime};
@@ -157,10 +157,11 @@ pub(crate) fn tasks_of(
     alloc: Global,
     threads: &[(String, Tree)],
 ) -> Result<Vec<TaskSpec>, ScenarioFault>
-    ensures passed { OnOk result (in_order thread_fault [] (members_of threads.now) ≡ None) }
+    ensures passed { OnOk result (first_fault_in thread_fault [] (members_of threads.now) ≡ None) }
     ensures found { IfOk result (λ v. v.items ≡ tasks_from 1 (members_of threads.now)) }
     ensures limits { IfOk result (λ v. All IsTaskSpec v.items) }
-    ensures fault { IfErr result (IsTold (in_order thread_fault [] (members_of threads.now))) }
+    ensures fault { IfErr result
+        (IsFaultTold (first_fault_in thread_fault [] (members_of threads.now))) }
 {
     let mut tasks = Vec::new(alloc);
     let mut refs = Vec::new(alloc);

@@ -2,9 +2,9 @@ ghost use Rattle.std.specs.Prelude.{◌≡◌, ◌+◌, ◌≤◌, ◌&&◌, nat
 ghost use Rattle.std.specs.List.{list_any, list_all};
 ghost use Rattle.json_order.specs.Seen.{json_of};
 ghost use Rattle.rtapp_scenario.specs.Values.{member_of, members_of, members};
-ghost use Rattle.rtapp_scenario.specs.Faults.{in_order, first};
+ghost use Rattle.rtapp_scenario.specs.Faults.{first_fault_in, first};
 ghost use Rattle.rtapp_scenario.specs.Keys.{is_event, is_text};
-ghost use Rattle.rtapp_scenario.specs.Threads.{timer_at, first_timer_in, timer_of, thread_ref, ref_of, has_event, event_at, instances};
+ghost use Rattle.rtapp_scenario.specs.Threads.{timer_at, first_timer_in, timer_of, thread_ref, ref_of, has_event, event_of_member, instances};
 ghost use Rattle.rtapp_scenario.specs.Tests.{is_phases, thread_member_fault, is_idle, is_name, is_shared, beside_fault, members_fault, own_fault};
 ghost use Rattle.rtapp_scenario.specs.Told.{flaw_of, ref_seen, tree_seen};
 
@@ -90,9 +90,9 @@ pub(crate) fn thread_ref(members: &[(String, Tree)]) -> Option<&str>
 }
 
 /// The event of a member, none for one of 0 us.
-#[tactic(auto, unfolding(crate::specs::Threads::event_at))]
+#[tactic(auto, unfolding(crate::specs::Threads::event_of_member))]
 pub(crate) fn event_at(member: &(String, Tree)) -> Option<Event>
-    ensures { result ≡ event_at (member_of member.now) }
+    ensures { result ≡ event_of_member (member_of member.now) }
 {
     let value = &member.1;
     match kind(&member.0)? {
@@ -167,7 +167,8 @@ fn check_member<'a>(
 
 fn check_members<'a>(first_ref: Option<&str>, members: &'a [(String, Tree)]) -> Result<(), Flaw<'a>>
     ensures { flaw_of result
-        ≡ in_order (thread_member_fault (ref_seen first_ref.entry)) [] (members_of members.now) }
+        ≡ first_fault_in (thread_member_fault (ref_seen first_ref.entry)) []
+        (members_of members.now) }
 {
     for (i, member) in members.iter().enumerate() {
         check_member(first_ref, &members[..i], member)?;

@@ -4,7 +4,7 @@ ghost use Rattle.std.specs.Str.{bytes_eq};
 ghost use Rattle.std.specs.List.{list_all};
 ghost use Rattle.std.specs.Char.{is_ascii_digit};
 ghost use Rattle.json_order.specs.Seen.{json_of};
-ghost use Rattle.rtapp_scenario.specs.Values.{members_of, object_of, list_of, text_of, number_of, natural_in, natural_within, members, at};
+ghost use Rattle.rtapp_scenario.specs.Values.{members_of, object_of, list_of, text_value, numeral_of, natural_in, natural_within, members, at};
 
 use json_order::Tree;
 
@@ -40,7 +40,7 @@ pub(crate) fn list(tree: &Tree) -> Option<&[Tree]>
 
 /// A text, none of another value.
 pub(crate) fn text(tree: &Tree) -> Option<&str>
-    ensures { option_map (λ text. text.now) result ≡ text_of (json_of tree.now) }
+    ensures { option_map (λ text. text.now) result ≡ text_value (json_of tree.now) }
 {
     match tree {
         Tree::Text(text) => Some(text.as_str()),
@@ -50,7 +50,7 @@ pub(crate) fn text(tree: &Tree) -> Option<&str>
 
 /// The text of a number, none of another value.
 pub(crate) fn number(tree: &Tree) -> Option<&str>
-    ensures { option_map (λ text. text.now) result ≡ number_of (json_of tree.now) }
+    ensures { option_map (λ text. text.now) result ≡ numeral_of (json_of tree.now) }
 {
     match tree {
         Tree::Number(text) => Some(text.as_str()),

@@ -14,13 +14,13 @@ use Rattle.task_script.specs.declared.script.Segment.TheVariants.{Run as RunFor,
 use Rattle.domain_run.specs.declared.happened.What.{What}
 use Rattle.domain_run.specs.declared.happened.Happened.{Happened}
 use Rattle.domain_run.specs.declared.happened.What.TheVariants.{JobEnds, NextReleased, Spent, Cut, Replenished, Released, WokenSpent}
-use Rattle.task_script.specs.script.Segments.{asked}
+use Rattle.task_script.specs.script.Segments.{next_segment}
 use Rattle.edf_pick.specs.Places.{stands}
 use Rattle.domain_run.specs.Conditions.{is_throttled, has_come}
 use Rattle.domain_run.specs.Parts.{replenish_due, settled, is_listed, starts, running_on, went_on, goes_on, ran}
 use Rattle.domain_run.specs.Domain.{Domain}
-use Rattle.domain_run.specs.Tick.{begun, rate_of}
-use Rattle.domain_run.specs.Happened.{told, due, job_due, told_by_work, told_by_budget, told_by_run, told_if_ran, told_by_replenishment, told_by_wake, told_by_unblocking, at_home, told_by_beginning, told_by_end}
+use Rattle.domain_run.specs.Tick.{with_tick_begun, rate_of}
+use Rattle.domain_run.specs.Happened.{happened_to, due, job_due, told_by_work, told_by_budget, told_by_run, told_if_ran, told_by_replenishment, told_by_wake, told_by_unblocking, with_its_cpu, told_by_beginning, told_by_end}
 use Rattle.domain_run.proofs.CallerLemmas.{AreNumbered}
 use Rattle.run_figures.specs.Jobs.{of_task}
 use Rattle.run_figures.specs.Throttling.{throttles, throttled_of}
@@ -200,8 +200,8 @@ replenish_few n time t = by_condition t.condition
     by_condition Throttled =
         let x = with_it Throttled in
         let u : Task = record x { server = replenished t.params t.server; condition = Ready } in
-        elim (has_come time t.server.deadline) as (λ b. sum_by (throttled_by n) (cond b (told time x (Replenished (due (cond b u x))) ∷ []) []) + sum_by (replenished_by n) (cond b (told time x (Replenished (due (cond b u x))) ∷ []) []) + blocked_by n (cond b u x) ≤ numbered_by n t) [
-          | true ↦ elim (eqb t.number n) as (λ e. sum_by (λ (h : Happened). cond (e && throttles h.what) 1 0) (told time x (Replenished (due u)) ∷ []) + sum_by (λ (h : Happened). cond (e && replenishes h.what) 1 0) (told time x (Replenished (due u)) ∷ []) + cond (e && false) 1 0 ≤ cond e 1 0) [ true ↦ omega arith | false ↦ omega arith ]
+        elim (has_come time t.server.deadline) as (λ b. sum_by (throttled_by n) (cond b (happened_to time x (Replenished (due (cond b u x))) ∷ []) []) + sum_by (replenished_by n) (cond b (happened_to time x (Replenished (due (cond b u x))) ∷ []) []) + blocked_by n (cond b u x) ≤ numbered_by n t) [
+          | true ↦ elim (eqb t.number n) as (λ e. sum_by (λ (h : Happened). cond (e && throttles h.what) 1 0) (happened_to time x (Replenished (due u)) ∷ []) + sum_by (λ (h : Happened). cond (e && replenishes h.what) 1 0) (happened_to time x (Replenished (due u)) ∷ []) + cond (e && false) 1 0 ≤ cond e 1 0) [ true ↦ omega arith | false ↦ omega arith ]
           | false ↦ omega (arith, and_least (eqb t.number n) false)
         ]
     by_condition Ready = omega (arith, and_least (eqb t.number n) false)
@@ -212,9 +212,9 @@ replenish_few n time t = by_condition t.condition
 -- a wake tells of at most one throttle
 wake_few : (n time : ℕ) (t u : Task) (s : Segment) → sum_by (throttled_by n) (told_by_wake time t u s) + sum_by (replenished_by n) (told_by_wake time t u s) ≤ numbered_by n t
 wake_few n time t u (RunFor k) =
-    elim (is_throttled u.condition) as (λ b. sum_by (throttled_by n) (told time t (Released (job_due time t)) ∷ cond b (told time t (WokenSpent (due u)) ∷ []) []) + sum_by (replenished_by n) (told time t (Released (job_due time t)) ∷ cond b (told time t (WokenSpent (due u)) ∷ []) []) ≤ numbered_by n t) [
-      | true ↦ elim (eqb t.number n) as (λ e. sum_by (λ (h : Happened). cond (e && throttles h.what) 1 0) (told time t (Released (job_due time t)) ∷ told time t (WokenSpent (due u)) ∷ []) + sum_by (λ (h : Happened). cond (e && replenishes h.what) 1 0) (told time t (Released (job_due time t)) ∷ told time t (WokenSpent (due u)) ∷ []) ≤ cond e 1 0) [ true ↦ omega arith | false ↦ omega arith ]
-      | false ↦ elim (eqb t.number n) as (λ e. sum_by (λ (h : Happened). cond (e && throttles h.what) 1 0) (told time t (Released (job_due time t)) ∷ []) + sum_by (λ (h : Happened). cond (e && replenishes h.what) 1 0) (told time t (Released (job_due time t)) ∷ []) ≤ cond e 1 0) [ true ↦ omega arith | false ↦ omega arith ]
+    elim (is_throttled u.condition) as (λ b. sum_by (throttled_by n) (happened_to time t (Released (job_due time t)) ∷ cond b (happened_to time t (WokenSpent (due u)) ∷ []) []) + sum_by (replenished_by n) (happened_to time t (Released (job_due time t)) ∷ cond b (happened_to time t (WokenSpent (due u)) ∷ []) []) ≤ numbered_by n t) [
+      | true ↦ elim (eqb t.number n) as (λ e. sum_by (λ (h : Happened). cond (e && throttles h.what) 1 0) (happened_to time t (Released (job_due time t)) ∷ happened_to time t (WokenSpent (due u)) ∷ []) + sum_by (λ (h : Happened). cond (e && replenishes h.what) 1 0) (happened_to time t (Released (job_due time t)) ∷ happened_to time t (WokenSpent (due u)) ∷ []) ≤ cond e 1 0) [ true ↦ omega arith | false ↦ omega arith ]
+      | false ↦ elim (eqb t.number n) as (λ e. sum_by (λ (h : Happened). cond (e && throttles h.what) 1 0) (happened_to time t (Released (job_due time t)) ∷ []) + sum_by (λ (h : Happened). cond (e && replenishes h.what) 1 0) (happened_to time t (Released (job_due time t)) ∷ []) ≤ cond e 1 0) [ true ↦ omega arith | false ↦ omega arith ]
     ]
 wake_few n time t u (Until w) = omega arith
 wake_few n time t u WaitFor = omega arith
@@ -233,7 +233,7 @@ unblock_few n time t = by_condition t.condition
     by_condition : (c : Condition) → sum_by (throttled_by n) (told_by_unblocking time (with_it c)) + sum_by (replenished_by n) (told_by_unblocking time (with_it c)) ≤ blocked_by n (with_it c)
     by_condition (Blocked k) =
         let x = with_it (Blocked k) in
-        let a = asked t.cursor time in
+        let a = next_segment t.cursor time in
         elim (leb k time) as (λ b. sum_by (throttled_by n) (cond b (told_by_wake time x (cond b (starts time x a) x) a.segment) []) + sum_by (replenished_by n) (cond b (told_by_wake time x (cond b (starts time x a) x) a.segment) []) ≤ blocked_by n x) [
           | true ↦ omega (arith, wake_few n time x (starts time x a) a.segment, whole (eqb t.number n))
           | false ↦ omega arith
@@ -268,7 +268,7 @@ beginning_few n d numbered =
     let third = filter is_listed second in
     let A = flat_map (told_by_replenishment d.time) d.tasks in
     let B = flat_map (told_by_unblocking d.time) third in
-    let home = at_home (begun d).curr in
+    let home = with_its_cpu (with_tick_begun d).curr in
     let one = few_and n (told_by_replenishment d.time) (replenish_due d.time) (numbered_by n) (blocked_by n) d.tasks (replenish_few n d.time) in
     let two = few_all n (told_by_unblocking d.time) (blocked_by n) third (unblock_few n d.time) in
     let t = sum_order (throttled_by n) (map home (A ++ B)) ∙ sum_home (throttled_by n) home (A ++ B) (λ h. refl) ∙ sum_by-append (throttled_by n) A B in
@@ -286,13 +286,13 @@ number_went_on time EndNow t = refl
 pub number_ran : (time rate : ℕ) (t : Task) → (ran time rate t).number ≡ t.number
 number_ran time rate t =
     let x : Task = record t { server = charged rate 1 t.server; work = t.work - 1 } in
-    let a = asked x.cursor (time + 1) in
+    let a = next_segment x.cursor (time + 1) in
     elim (eqb x.work 0) as (λ b. (cond b (goes_on (time + 1) x a) (running_on x)).number ≡ t.number) [ true ↦ number_went_on (time + 1) a.segment (record x { cursor = a.cursor }) | false ↦ refl ]
 
 budget_few : (n time : ℕ) (u : Task) → sum_by (throttled_by n) (told_by_budget time u) + sum_by (replenished_by n) (told_by_budget time u) ≤ numbered_by n u
 budget_few n time u =
-    elim (is_throttled u.condition) as (λ b. sum_by (throttled_by n) (cond b (told time u (Spent (due u)) ∷ []) []) + sum_by (replenished_by n) (cond b (told time u (Spent (due u)) ∷ []) []) ≤ numbered_by n u) [
-      | true ↦ elim (eqb u.number n) as (λ e. sum_by (λ (h : Happened). cond (e && throttles h.what) 1 0) (told time u (Spent (due u)) ∷ []) + sum_by (λ (h : Happened). cond (e && replenishes h.what) 1 0) (told time u (Spent (due u)) ∷ []) ≤ cond e 1 0) [ true ↦ omega arith | false ↦ omega arith ]
+    elim (is_throttled u.condition) as (λ b. sum_by (throttled_by n) (cond b (happened_to time u (Spent (due u)) ∷ []) []) + sum_by (replenished_by n) (cond b (happened_to time u (Spent (due u)) ∷ []) []) ≤ numbered_by n u) [
+      | true ↦ elim (eqb u.number n) as (λ e. sum_by (λ (h : Happened). cond (e && throttles h.what) 1 0) (happened_to time u (Spent (due u)) ∷ []) + sum_by (λ (h : Happened). cond (e && replenishes h.what) 1 0) (happened_to time u (Spent (due u)) ∷ []) ≤ cond e 1 0) [ true ↦ omega arith | false ↦ omega arith ]
       | false ↦ omega arith
     ]
 

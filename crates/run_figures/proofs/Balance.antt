@@ -9,8 +9,8 @@ use Rattle.std.proofs.lemmas.List.Elements.{All-head, All-tail, All-map}
 use Rattle.std.proofs.lemmas.List.Kept.{AllPairs-filter}
 use Rattle.cbs_rules.specs.Serving.{replenished, woken, charged, is_spent}
 use Rattle.cbs_rules.specs.declared.server.Server.{Server}
-use Rattle.edf_pick.specs.Places.{Places, is_task, stands, is_chosen_number, kept, seat_of, put, seated, seated_if, seated_upto, placed}
-use Rattle.edf_pick.specs.Choice.{is_chosen, rank, ranked}
+use Rattle.edf_pick.specs.Places.{Places, is_task, stands, is_chosen_number, kept_if_chosen, seat_of, put, seated, seated_if, seated_upto, placed}
+use Rattle.edf_pick.specs.Choice.{is_chosen, rank, candidate_at_rank}
 use Rattle.edf_pick.specs.declared.candidate.Candidate.{Candidate}
 use Rattle.domain_run.specs.declared.task.Task.{Task}
 use Rattle.domain_run.specs.declared.task.Condition.{Condition}
@@ -19,12 +19,12 @@ use Rattle.task_script.specs.declared.script.Segment.{Segment}
 use Rattle.task_script.specs.declared.script.Segment.TheVariants.{Run as RunFor, Until, Wait as WaitFor, End as EndNow}
 use Rattle.domain_run.specs.declared.happened.Happened.{Happened}
 use Rattle.domain_run.specs.declared.happened.What.TheVariants.{JobEnds, NextReleased, Spent, Replenished, Released, WokenSpent}
-use Rattle.task_script.specs.script.Segments.{passes_late_timer, asked}
+use Rattle.task_script.specs.script.Segments.{passes_late_timer, next_segment}
 use Rattle.domain_run.specs.Conditions.{is_ready, is_throttled, is_leaving, is_over, has_come}
 use Rattle.domain_run.specs.Parts.{replenish_due, settled, is_listed, unblocked, enqueued, started, starts, with_cpu, with_last_cpu, ran}
 use Rattle.domain_run.specs.Domain.{Domain}
-use Rattle.domain_run.specs.Tick.{candidate_of, candidates, begun, prepared, rate_of, ran_if, finished, ticked, ticks}
-use Rattle.domain_run.specs.Happened.{told, due, job_due, told_by_segment, told_by_work, told_by_budget, told_by_run, told_if_ran, told_by_replenishment, told_by_wake, told_by_unblocking, is_first, with_happened, in_order, at_home, told_by_beginning, told_by_end, told_by_tick, told_by_ticks}
+use Rattle.domain_run.specs.Tick.{candidate_of, candidates, with_tick_begun, prepared, rate_of, ran_if, finished, ticked, ticks}
+use Rattle.domain_run.specs.Happened.{happened_to, due, job_due, told_by_segment, told_by_work, told_by_budget, told_by_run, told_if_ran, told_by_replenishment, told_by_wake, told_by_unblocking, is_first, with_happened, in_order, with_its_cpu, told_by_beginning, told_by_end, told_by_tick, told_by_ticks}
 use Rattle.domain_run.proofs.CallerLemmas.{AreNumbered, ticks_numbered}
 use Rattle.run_figures.specs.Jobs.{of_task}
 use Rattle.run_figures.specs.Throttling.{throttles}
@@ -69,7 +69,7 @@ sum_home f g (h ∷ hs) same = sum_by-cons f (g h) (map g hs) ∙ (λ i. same h 
 
 -- what is told of a task, from it to what it is then
 abbrev Balances : ℕ → Task → List Happened → Task → Type 0
-Balances n t told u = opened_by n t + sum_by (throttled_by n) told ≡ sum_by (replenished_by n) told + opened_by n u
+Balances n t happened_to u = opened_by n t + sum_by (throttled_by n) happened_to ≡ sum_by (replenished_by n) happened_to + opened_by n u
 
 -- of a list
 balance_all : (n : ℕ) (f : Task → List Happened) (g : Task → Task) (tasks : List Task) → All (λ t. Balances n t (f t) (g t)) tasks
@@ -104,8 +104,8 @@ replenish_balances n time t = by_condition t.condition
     by_condition Throttled =
         let x = with_it Throttled in
         let u : Task = record x { server = replenished t.params t.server; condition = Ready } in
-        elim (has_come time t.server.deadline) as (λ b. Balances n x (cond b (told time x (Replenished (due (cond b u x))) ∷ []) []) (cond b u x)) [
-          | true ↦ elim (eqb t.number n) as (λ e. cond (e && true) 1 0 + sum_by (λ (h : Happened). cond (e && throttles h.what) 1 0) (told time x (Replenished (due u)) ∷ []) ≡ sum_by (λ (h : Happened). cond (e && replenishes h.what) 1 0) (told time x (Replenished (due u)) ∷ []) + cond (e && false) 1 0) [ true ↦ refl | false ↦ refl ]
+        elim (has_come time t.server.deadline) as (λ b. Balances n x (cond b (happened_to time x (Replenished (due (cond b u x))) ∷ []) []) (cond b u x)) [
+          | true ↦ elim (eqb t.number n) as (λ e. cond (e && true) 1 0 + sum_by (λ (h : Happened). cond (e && throttles h.what) 1 0) (happened_to time x (Replenished (due u)) ∷ []) ≡ sum_by (λ (h : Happened). cond (e && replenishes h.what) 1 0) (happened_to time x (Replenished (due u)) ∷ []) + cond (e && false) 1 0) [ true ↦ refl | false ↦ refl ]
           | false ↦ omega arith
         ]
     by_condition Ready = omega arith
@@ -135,9 +135,9 @@ listed_open n (t ∷ tasks) =
 -- a wake tells of a throttle where it leaves one open
 wake_balances : (n time k : ℕ) (t u : Task) → u.number ≡ t.number → sum_by (throttled_by n) (told_by_wake time t u (RunFor k)) ≡ sum_by (replenished_by n) (told_by_wake time t u (RunFor k)) + opened_by n u
 wake_balances n time k t u same = subst (λ m. sum_by (throttled_by n) (told_by_wake time t u (RunFor k)) ≡ sum_by (replenished_by n) (told_by_wake time t u (RunFor k)) + cond (eqb m n && is_throttled u.condition) 1 0) (sym same)
-    (elim (is_throttled u.condition) as (λ b. sum_by (throttled_by n) (told time t (Released (job_due time t)) ∷ cond b (told time t (WokenSpent (due u)) ∷ []) []) ≡ sum_by (replenished_by n) (told time t (Released (job_due time t)) ∷ cond b (told time t (WokenSpent (due u)) ∷ []) []) + cond (eqb t.number n && b) 1 0) [
-      | true ↦ elim (eqb t.number n) as (λ e. sum_by (λ (h : Happened). cond (e && throttles h.what) 1 0) (told time t (Released (job_due time t)) ∷ told time t (WokenSpent (due u)) ∷ []) ≡ sum_by (λ (h : Happened). cond (e && replenishes h.what) 1 0) (told time t (Released (job_due time t)) ∷ told time t (WokenSpent (due u)) ∷ []) + cond (e && true) 1 0) [ true ↦ refl | false ↦ refl ]
-      | false ↦ elim (eqb t.number n) as (λ e. sum_by (λ (h : Happened). cond (e && throttles h.what) 1 0) (told time t (Released (job_due time t)) ∷ []) ≡ sum_by (λ (h : Happened). cond (e && replenishes h.what) 1 0) (told time t (Released (job_due time t)) ∷ []) + cond (e && false) 1 0) [ true ↦ refl | false ↦ refl ]
+    (elim (is_throttled u.condition) as (λ b. sum_by (throttled_by n) (happened_to time t (Released (job_due time t)) ∷ cond b (happened_to time t (WokenSpent (due u)) ∷ []) []) ≡ sum_by (replenished_by n) (happened_to time t (Released (job_due time t)) ∷ cond b (happened_to time t (WokenSpent (due u)) ∷ []) []) + cond (eqb t.number n && b) 1 0) [
+      | true ↦ elim (eqb t.number n) as (λ e. sum_by (λ (h : Happened). cond (e && throttles h.what) 1 0) (happened_to time t (Released (job_due time t)) ∷ happened_to time t (WokenSpent (due u)) ∷ []) ≡ sum_by (λ (h : Happened). cond (e && replenishes h.what) 1 0) (happened_to time t (Released (job_due time t)) ∷ happened_to time t (WokenSpent (due u)) ∷ []) + cond (e && true) 1 0) [ true ↦ refl | false ↦ refl ]
+      | false ↦ elim (eqb t.number n) as (λ e. sum_by (λ (h : Happened). cond (e && throttles h.what) 1 0) (happened_to time t (Released (job_due time t)) ∷ []) ≡ sum_by (λ (h : Happened). cond (e && replenishes h.what) 1 0) (happened_to time t (Released (job_due time t)) ∷ []) + cond (e && false) 1 0) [ true ↦ refl | false ↦ refl ]
     ])
 
 pub number_enqueued : (time : ℕ) (s : Server) (x : Task) → (enqueued time s x).number ≡ x.number
@@ -166,7 +166,7 @@ unblock_balances n time t = by_condition t.condition
     by_condition : (c : Condition) → Balances n (with_it c) (told_by_unblocking time (with_it c)) (unblocked time (with_it c))
     by_condition (Blocked k) =
         let x = with_it (Blocked k) in
-        let a = asked t.cursor time in
+        let a = next_segment t.cursor time in
         elim (leb k time) as (λ b. Balances n x (cond b (told_by_wake time x (cond b (starts time x a) x) a.segment) []) (cond b (starts time x a) x)) [
           | true ↦ asks a.segment (record x { cursor = a.cursor }) x refl refl refl
           | false ↦ omega arith
@@ -189,21 +189,21 @@ homed_open n places t = by_place (position (is_task t.number) places)
 
 -- with sums for counts
 abbrev pub AreEven : List Task → List Happened → List Task → Type 0
-AreEven before told after = (n : ℕ) → sum_by (opened_by n) before + sum_by (throttled_by n) told ≡ sum_by (replenished_by n) told + sum_by (opened_by n) after
+AreEven before happened_to after = (n : ℕ) → sum_by (opened_by n) before + sum_by (throttled_by n) happened_to ≡ sum_by (replenished_by n) happened_to + sum_by (opened_by n) after
 
-pub beginning_even : (d : Domain) → AreEven d.tasks (told_by_beginning d) (begun d).tasks
+pub beginning_even : (d : Domain) → AreEven d.tasks (told_by_beginning d) (with_tick_begun d).tasks
 beginning_even d n =
     let first = map (replenish_due d.time) d.tasks in
     let second = map (settled d.time) first in
     let third = filter is_listed second in
     let A = flat_map (told_by_replenishment d.time) d.tasks in
     let B = flat_map (told_by_unblocking d.time) third in
-    let home = at_home (begun d).curr in
+    let home = with_its_cpu (with_tick_begun d).curr in
     let one = balance_all n (told_by_replenishment d.time) (replenish_due d.time) d.tasks (λ k e h. replenish_balances n d.time (get_or d.tasks k e)) in
     let two = same_open n (settled d.time) first (settled_open n d.time) in
     let three = listed_open n second in
     let four = balance_all n (told_by_unblocking d.time) (unblocked d.time) third (λ k e h. unblock_balances n d.time (get_or third k e)) in
-    let five = same_open n (with_last_cpu (begun d).curr) (prepared d.time d.tasks) (homed_open n (begun d).curr) in
+    let five = same_open n (with_last_cpu (with_tick_begun d).curr) (prepared d.time d.tasks) (homed_open n (with_tick_begun d).curr) in
     let t = sum_order (throttled_by n) (map home (A ++ B)) ∙ sum_home (throttled_by n) home (A ++ B) (λ h. refl) ∙ sum_by-append (throttled_by n) A B in
     let r = sum_order (replenished_by n) (map home (A ++ B)) ∙ sum_home (replenished_by n) home (A ++ B) (λ h. refl) ∙ sum_by-append (replenished_by n) A B in
     omega (arith, one, two, three, four, five, t, r)
@@ -217,23 +217,23 @@ none_of f x nothing = sum_by-cons f x [] ∙ ap (λ k. k + 0) nothing
 none_of_two : (f : Happened → ℕ) (x y : Happened) → f x ≡ 0 → f y ≡ 0 → sum_by f (x ∷ y ∷ []) ≡ 0
 none_of_two f x y one two = sum_by-cons f x (y ∷ []) ∙ (λ i. one i + none_of f y two i)
 
-segment_none : (f : Happened → ℕ) (time : ℕ) (t : Task) (late : Bool) (s : Segment) → f (told time t JobEnds) ≡ 0 → f (told time t (NextReleased (job_due time t))) ≡ 0 → sum_by f (told_by_segment time t late s) ≡ 0
-segment_none f time t true (RunFor k) one two = none_of_two f (told time t JobEnds) (told time t (NextReleased (job_due time t))) one two
+segment_none : (f : Happened → ℕ) (time : ℕ) (t : Task) (late : Bool) (s : Segment) → f (happened_to time t JobEnds) ≡ 0 → f (happened_to time t (NextReleased (job_due time t))) ≡ 0 → sum_by f (told_by_segment time t late s) ≡ 0
+segment_none f time t true (RunFor k) one two = none_of_two f (happened_to time t JobEnds) (happened_to time t (NextReleased (job_due time t))) one two
 segment_none f time t false (RunFor k) one two = refl
-segment_none f time t late (Until u) one two = none_of f (told time t JobEnds) one
-segment_none f time t late WaitFor one two = none_of f (told time t JobEnds) one
-segment_none f time t late EndNow one two = none_of f (told time t JobEnds) one
+segment_none f time t late (Until u) one two = none_of f (happened_to time t JobEnds) one
+segment_none f time t late WaitFor one two = none_of f (happened_to time t JobEnds) one
+segment_none f time t late EndNow one two = none_of f (happened_to time t JobEnds) one
 
-pub work_none : (f : Happened → ℕ) (time : ℕ) (t : Task) → f (told time t JobEnds) ≡ 0 → f (told time t (NextReleased (job_due time t))) ≡ 0 → sum_by f (told_by_work time t) ≡ 0
+pub work_none : (f : Happened → ℕ) (time : ℕ) (t : Task) → f (happened_to time t JobEnds) ≡ 0 → f (happened_to time t (NextReleased (job_due time t))) ≡ 0 → sum_by f (told_by_work time t) ≡ 0
 work_none f time t one two =
     let late = passes_late_timer t.cursor time in
-    let s = (asked t.cursor time).segment in
+    let s = (next_segment t.cursor time).segment in
     elim (eqb t.work 0) as (λ b. sum_by f (cond b (told_by_segment time t late s) []) ≡ 0) [ true ↦ segment_none f time t late s one two | false ↦ refl ]
 
 budget_balances : (n time : ℕ) (u : Task) → sum_by (throttled_by n) (told_by_budget time u) ≡ sum_by (replenished_by n) (told_by_budget time u) + opened_by n u
 budget_balances n time u =
-    elim (is_throttled u.condition) as (λ b. sum_by (throttled_by n) (cond b (told time u (Spent (due u)) ∷ []) []) ≡ sum_by (replenished_by n) (cond b (told time u (Spent (due u)) ∷ []) []) + cond (eqb u.number n && b) 1 0) [
-      | true ↦ elim (eqb u.number n) as (λ e. sum_by (λ (h : Happened). cond (e && throttles h.what) 1 0) (told time u (Spent (due u)) ∷ []) ≡ sum_by (λ (h : Happened). cond (e && replenishes h.what) 1 0) (told time u (Spent (due u)) ∷ []) + cond (e && true) 1 0) [ true ↦ refl | false ↦ refl ]
+    elim (is_throttled u.condition) as (λ b. sum_by (throttled_by n) (cond b (happened_to time u (Spent (due u)) ∷ []) []) ≡ sum_by (replenished_by n) (cond b (happened_to time u (Spent (due u)) ∷ []) []) + cond (eqb u.number n && b) 1 0) [
+      | true ↦ elim (eqb u.number n) as (λ e. sum_by (λ (h : Happened). cond (e && throttles h.what) 1 0) (happened_to time u (Spent (due u)) ∷ []) ≡ sum_by (λ (h : Happened). cond (e && replenishes h.what) 1 0) (happened_to time u (Spent (due u)) ∷ []) + cond (e && true) 1 0) [ true ↦ refl | false ↦ refl ]
       | false ↦ sym (ap (λ k. 0 + k) (closed n u.number))
     ]
 
@@ -293,13 +293,13 @@ not_chosen cpus n all (c ∷ cs) none =
     let parts = or_false (eqb c.number n) (list_any (is_of n) cs) none in
     both_false (eqb c.number n && is_chosen cpus all c) (list_any (λ c. eqb c.number n && is_chosen cpus all c) cs) (and_none (eqb c.number n) (is_chosen cpus all c) parts.0) (not_chosen cpus n all cs parts.1)
 
-none_stays : (cpus n : ℕ) (ready : List Candidate) (before : Places) → list_any (is_of n) ready ≡ false → stands n (map (kept cpus ready) before) ≡ false
+none_stays : (cpus n : ℕ) (ready : List Candidate) (before : Places) → list_any (is_of n) ready ≡ false → stands n (map (kept_if_chosen cpus ready) before) ≡ false
 none_stays cpus n ready [] none = refl
 none_stays cpus n ready (None ∷ before) none = none_stays cpus n ready before none
 none_stays cpus n ready (Some m ∷ before) none =
     let rest = none_stays cpus n ready before none in
-    elim (is_chosen_number cpus ready m) as (λ b. is_chosen_number cpus ready m ≡ b → (is_task n (cond b (Some m) None) || stands n (map (kept cpus ready) before)) ≡ false) [
-      | true ↦ λ is. both_false (eqb m n) (stands n (map (kept cpus ready) before)) (ne_eqb m n (λ same.
+    elim (is_chosen_number cpus ready m) as (λ b. is_chosen_number cpus ready m ≡ b → (is_task n (cond b (Some m) None) || stands n (map (kept_if_chosen cpus ready) before)) ≡ false) [
+      | true ↦ λ is. both_false (eqb m n) (stands n (map (kept_if_chosen cpus ready) before)) (ne_eqb m n (λ same.
           let no : true ≡ false = sym is ∙ ap (is_chosen_number cpus ready) same ∙ not_chosen cpus n ready ready none in absurd cc)) rest
       | false ↦ λ is. rest
     ] refl
@@ -338,10 +338,10 @@ none_seated_if n places ready (Some c) other none = none_seated n places c (othe
 none_upto : (n : ℕ) (ready : List Candidate) (places : Places) (r : ℕ) → list_any (is_of n) ready ≡ false → stands n places ≡ false → stands n (seated_upto ready places r) ≡ false
 none_upto n ready places zero none empty = empty
 none_upto n ready places (suc r) none empty =
-    none_seated_if n (seated_upto ready places r) ready (ranked ready r) (λ c e. found_other n (λ x. eqb (rank ready x) r) ready c none e) (none_upto n ready places r none empty)
+    none_seated_if n (seated_upto ready places r) ready (candidate_at_rank ready r) (λ c e. found_other n (λ x. eqb (rank ready x) r) ready c none e) (none_upto n ready places r none empty)
 
 none_placed : (n cpus : ℕ) (ready : List Candidate) (before : Places) → list_any (is_of n) ready ≡ false → stands n (placed cpus ready before) ≡ false
-none_placed n cpus ready before none = none_upto n ready (map (kept cpus ready) before) cpus none (none_stays cpus n ready before none)
+none_placed n cpus ready before none = none_upto n ready (map (kept_if_chosen cpus ready) before) cpus none (none_stays cpus n ready before none)
 
 abbrev is_ready_of : ℕ → Task → Bool
 is_ready_of n t = eqb t.number n && is_ready t.condition
@@ -399,11 +399,11 @@ pub homed_condition : (o : Option ℕ) (t : Task) → (with_cpu o t).condition �
 homed_condition None t = refl
 homed_condition (Some cpu) t = refl
 
-pub begun_may_run : (d : Domain) → AreNumbered (prepared d.time d.tasks) → All (MayRun (begun d)) (begun d).tasks
+pub begun_may_run : (d : Domain) → AreNumbered (prepared d.time d.tasks) → All (MayRun (with_tick_begun d)) (with_tick_begun d).tasks
 begun_may_run d numbered =
     let tasks = prepared d.time d.tasks in
     let places = placed d.cpus (candidates tasks) d.curr in
-    All-map (MayRun (begun d)) (with_last_cpu places) tasks
+    All-map (MayRun (with_tick_begun d)) (with_last_cpu places) tasks
     (λ k e h standing.
     let t = get_or tasks k e in
     let o = position (is_task t.number) places in
@@ -425,7 +425,7 @@ number_started time EndNow t = refl
 
 pub number_unblocked : (time : ℕ) (t : Task) → (unblocked time t).number ≡ t.number
 number_unblocked time t =
-    let a = asked t.cursor time in
+    let a = next_segment t.cursor time in
     elim (is_over time t.condition) as (λ b. (cond b (starts time t a) t).number ≡ t.number) [ true ↦ number_started time a.segment (record t { cursor = a.cursor }) | false ↦ refl ]
 
 pub numbered_map : (f : Task → Task) → ((t : Task) → (f t).number ≡ t.number) → (tasks : List Task) → AreNumbered tasks → AreNumbered (map f tasks)
@@ -450,8 +450,8 @@ even_more a b c hs gs one two n = omega (arith, one n, two n, sum_by-append (thr
 
 pub tick_even : (d : Domain) → AreNumbered d.tasks → AreEven d.tasks (told_by_tick d) (ticked d).tasks
 tick_even d numbered =
-    even_more d.tasks (begun d).tasks (ticked d).tasks (told_by_beginning d) (told_by_end (begun d))
-    (beginning_even d) (end_even (begun d) (begun_may_run d (prepared_numbered d.time d.tasks numbered)))
+    even_more d.tasks (with_tick_begun d).tasks (ticked d).tasks (told_by_beginning d) (told_by_end (with_tick_begun d))
+    (beginning_even d) (end_even (with_tick_begun d) (begun_may_run d (prepared_numbered d.time d.tasks numbered)))
 
 pub ticks_even : (k : ℕ) (d : Domain) → AreNumbered d.tasks → AreEven d.tasks (told_by_ticks k d) (ticks k d).tasks
 ticks_even zero d numbered = λ n. omega arith

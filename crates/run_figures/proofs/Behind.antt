@@ -8,14 +8,15 @@ use Rattle.std.proofs.lemmas.List.FromFn.{length-range_with_len, get_or-range_wi
 use Rattle.std.proofs.lemmas.List.Elements.{All-head, All-tail, All-map, filter-append}
 use Rattle.std.proofs.lemmas.List.Sums.{sum_by-cons, sum_by-append, fold-append, length-filter, count_by-le-length}
 use Rattle.domain_run.specs.Switch.{Switch}
-use Rattle.domain_run.specs.Switches.{is_before}
+use Rattle.domain_run.specs.Switches.{is_switch_before}
 use Rattle.run_figures.specs.declared.ran.Ran.{Ran}
 use Rattle.run_figures.specs.declared.ran.Cpu.{Cpu}
-use Rattle.run_figures.specs.Stays.{Stay, until, stays_by, stays, cpu_us, busy_us, is_task, placements, changes_from, changes, migrations}
+use Rattle.edf_pick.specs.Places.{is_task}
+use Rattle.run_figures.specs.Stays.{Stay, until, stays_by, stays, cpu_us, busy_us, placements, changes_from, changes, migrations}
 use Rattle.run_figures.specs.private.Running.{last_from, last_of, ran_by, moves_to, with_stay, with_stay_of, without_rest_of, who_from, cpu_by, busy_if, with_switch, with_switch_on}
 use Rattle.run_figures.proofs.Passing.{map-map, map_same}
 
-pub not_earlier : (a b : Switch) → IsTrue (is_before a b) → a.time ≤ b.time
+pub not_earlier : (a b : Switch) → IsTrue (is_switch_before a b) → a.time ≤ b.time
 not_earlier a b h = ⊎_elim
     (λ (less : nat_lt a.time b.time ≡ true). omega (arith, ltb-true a.time b.time less))
     (λ (same : ((a.time == b.time) && nat_lt a.cpu b.cpu) ≡ true). omega (arith, eqb-true a.time b.time (and_parts (a.time == b.time) (nat_lt a.cpu b.cpu) same).0))
@@ -300,7 +301,7 @@ pub record AreRan (time : ℕ) (ss : List Switch) (numbers : List ℕ) (n k : �
   pub ran : rs ≡ map (ran_by time (take k ss)) numbers
   pub cpus : cs ≡ map (cpu_by time (take k ss)) (range_with_len 0 n)
 
-earlier : (ss : List Switch) (k : ℕ) (d : Switch) → k < length ss → AllPairs (λ a b. IsTrue (is_before a b)) ss → All (λ x. x.time ≤ (get_or ss k d).time) (take k ss)
+earlier : (ss : List Switch) (k : ℕ) (d : Switch) → k < length ss → AllPairs (λ a b. IsTrue (is_switch_before a b)) ss → All (λ x. x.time ≤ (get_or ss k d).time) (take k ss)
 earlier ss k d l rising i e m =
     let before : i < k = omega (arith, m, length-take k ss) in
     let at : get_or (take k ss) i e ≡ get_or ss i e = get_or-take k ss i e before in
@@ -308,7 +309,7 @@ earlier ss k d l rising i e m =
     omega (arith, ap (λ (x : Switch). x.time) at, ap (λ (x : Switch). x.time) last, not_earlier (get_or ss i e) (get_or ss k e) (rising i k e before l))
 
 pub next_ran : (time : ℕ) (ss : List Switch) (numbers : List ℕ) (n k : ℕ) (d : Switch) (e : Cpu) (ran after : List Ran) (cpus last : List Cpu)
-    → AreRan time ss numbers n k ran cpus → k < length ss → (get_or ss k d).cpu < n → (get_or ss k d).time ≤ time → AllPairs (λ a b. IsTrue (is_before a b)) ss
+    → AreRan time ss numbers n k ran cpus → k < length ss → (get_or ss k d).cpu < n → (get_or ss k d).time ≤ time → AllPairs (λ a b. IsTrue (is_switch_before a b)) ss
     → after ≡ map (without_rest_of (get_or cpus (get_or ss k d).cpu e).task (time - (get_or ss k d).time)) (map (with_stay_of (get_or ss k d).next (get_or ss k d).cpu (time - (get_or ss k d).time)) ran)
     → last ≡ map (with_switch_on (get_or ss k d) (time - (get_or ss k d).time)) cpus
     → AreRan time ss numbers n (k + 1) after last

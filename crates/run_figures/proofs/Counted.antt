@@ -13,7 +13,7 @@ use Rattle.run_figures.specs.declared.counting.Ended.{Ended}
 use Rattle.run_figures.specs.declared.counting.Counts.{Counts}
 use Rattle.run_figures.specs.declared.throttle.Throttle.{Throttle}
 use Rattle.run_figures.specs.declared.told.Told.{Told}
-use Rattle.run_figures.specs.Jobs.{of_task, over_by, under_way, jobs_from}
+use Rattle.run_figures.specs.Jobs.{of_task, over_by, job_after, jobs_from}
 use Rattle.run_figures.specs.Throttling.{throttles, frees, throttled_of, throttled_us, until_free, throttled_then}
 use Rattle.run_figures.specs.Figures.{Outcome, outcome_at, outcomes, is_late, responses_of}
 use Rattle.run_figures.specs.private.Telling.{first_ended, one_more, with_outcome, with_job, with_over, gap, throttle_by, told_after, told_all}
@@ -46,7 +46,7 @@ pub jobs_counted : (end : ℕ) (own : List Happened) (t : Told) → with_over en
 jobs_counted end [] t = sym (over_counted end t.counts t.job)
 jobs_counted end (h ∷ hs) t =
     let o = over_by h.time h.what t.job in
-    let rest = jobs_from (under_way h.time h.what t.job) hs in
+    let rest = jobs_from (job_after h.time h.what t.job) hs in
     jobs_counted end hs (told_after end h t)
     ∙ ap (λ (c : Counts). fold (with_job end) c rest) (sym (over_counted end t.counts o))
     ∙ sym (fold-append (with_job end) t.counts (option_to_list o) rest)

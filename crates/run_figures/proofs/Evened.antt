@@ -9,7 +9,7 @@ use Rattle.run_figures.specs.Runs.{RunView}
 use Rattle.run_figures.specs.Throttling.{throttled_of}
 use Rattle.run_figures.specs.Balance.{replenished_of, is_left_throttled}
 use Rattle.run_figures.specs.Figures.{figures_of, task_figures}
-use Rattle.run_figures.specs.Laws.{IsToldOfCalls, IsBalanced}
+use Rattle.run_figures.specs.Laws.{IsToldOfCalls, ThrottlesBalance}
 use Rattle.run_figures.proofs.RunsInTurn.{run_counted}
 
 own_counted : (n : ℕ) (happened : List Happened) → IsToldOfCalls happened
@@ -17,7 +17,7 @@ own_counted : (n : ℕ) (happened : List Happened) → IsToldOfCalls happened
 own_counted n happened (cpus, limit, calls, same) =
     subst (λ (hs : List Happened). throttled_of (of_task n hs) ≡ replenished_of (of_task n hs) + cond (is_left_throttled false (of_task n hs)) 1 0) (sym same) (run_counted cpus limit calls n)
 
-pub all_balanced : (run : RunView) (items : List TaskFigures) → items ≡ task_figures run → IsToldOfCalls run.happened → All (IsBalanced run.happened) items
+pub all_balanced : (run : RunView) (items : List TaskFigures) → items ≡ task_figures run → IsToldOfCalls run.happened → All (ThrottlesBalance run.happened) items
 all_balanced run items is told =
-    subst (All (IsBalanced run.happened)) (sym is)
-    (All-map (IsBalanced run.happened) (figures_of run) run.tasks (λ k e h. own_counted (get_or run.tasks k e).number run.happened told))
+    subst (All (ThrottlesBalance run.happened)) (sym is)
+    (All-map (ThrottlesBalance run.happened) (figures_of run) run.tasks (λ k e h. own_counted (get_or run.tasks k e).number run.happened told))

@@ -10,12 +10,12 @@ use Rattle.std.proofs.lemmas.List.Sums.{sum_by-cons, count_by-le-length, prefix_
 use Rattle.domain_run.specs.declared.happened.Happened.{Happened}
 use Rattle.domain_run.specs.Switch.{Switch}
 use Rattle.domain_run.specs.declared.switch.PrevState.TheVariants.{Running}
-use Rattle.domain_run.specs.Switches.{is_before}
+use Rattle.domain_run.specs.Switches.{is_switch_before}
 use Rattle.run_figures.specs.declared.told.Told.{Told}
 use Rattle.run_figures.specs.Jobs.{of_task}
-use Rattle.run_figures.specs.Stays.{is_task}
+use Rattle.edf_pick.specs.Places.{is_task}
 use Rattle.run_figures.specs.Throttling.{wants_it, is_throttled_by, up_to, preempts, preemptions}
-use Rattle.run_figures.specs.private.Telling.{told_all, untold, so_far, told_by, with_preemption, IsWithin}
+use Rattle.run_figures.specs.private.Telling.{told_all, nothing_told, so_far, told_by, with_preemption, IsToldWithin}
 use Rattle.run_figures.proofs.Passing.{map-map, map_same, number_of_told, more_told, more_switched, passes_later, goes_on}
 use Rattle.run_figures.proofs.Behind.{not_earlier}
 
@@ -26,7 +26,7 @@ blank_switch = record { time = 0; prev = None; next = None; cpu = 0; state = Run
 pub record IsAtSwitch (end : ℕ) (hs : List Happened) (ss : List Switch) (numbers : List ℕ) (j k : ℕ) (ts : List Told) : Type 0 where
   pub inside : j ≤ length hs
   pub told : ts ≡ map (so_far end hs ss j k) numbers
-  pub within : All (IsWithin j) ts
+  pub within : All (IsToldWithin j) ts
   pub ahead : (i : ℕ) (d : Switch) → k ≤ i → i < length ss → j ≤ prefix_len (λ h. nat_le h.time (get_or ss i d).time) hs
 
 -- WHAT IS LATER changes nothing of an earlier switch
@@ -73,11 +73,11 @@ still_told : (end : ℕ) (before hs : List Happened) (past ss : List Switch) (n 
 still_told end before hs past ss n later =
     let t = sym (take-append_seam before hs) in
     let s = sym (take-append_seam past ss) in
-    (λ i. record (told_all end before (untold n)) { preempted = preemptions_stay n before hs past later i })
-    ∙ (λ i. record (told_all end (t i) (untold n)) { preempted = count_by (preempts (before ++ hs) n) (s i) })
+    (λ i. record (told_all end before (nothing_told n)) { preempted = preemptions_stay n before hs past later i })
+    ∙ (λ i. record (told_all end (t i) (nothing_told n)) { preempted = count_by (preempts (before ++ hs) n) (s i) })
 
 pub at_piece : (end : ℕ) (before hs : List Happened) (past ss : List Switch) (numbers : List ℕ) (told : List Told)
-    → told ≡ map (told_by end before past) numbers → All (IsWithin (length before)) told
+    → told ≡ map (told_by end before past) numbers → All (IsToldWithin (length before)) told
     → All (λ s. All (λ h. h.time ≤ s.time) before) ss → All (λ h. All (λ s. s.time < h.time) past) hs
     → IsAtSwitch end (before ++ hs) (past ++ ss) numbers (length before) (length past) told
 at_piece end before hs past ss numbers told is within behind later = record {
@@ -95,7 +95,7 @@ at_piece end before hs past ss numbers told is within behind later = record {
 so_far_keyed : (end : ℕ) (hs : List Happened) (ss : List Switch) (numbers : List ℕ) (j k : ℕ) → map (λ t. t.number) (map (so_far end hs ss j k) numbers) ≡ numbers
 so_far_keyed end hs ss numbers j k =
     map-map (λ (t : Told). t.number) (so_far end hs ss j k) numbers
-    ∙ map_same (λ n. (so_far end hs ss j k n).number) (λ n. n) numbers (λ n. number_of_told end (take j hs) (untold n))
+    ∙ map_same (λ n. (so_far end hs ss j k n).number) (λ n. n) numbers (λ n. number_of_told end (take j hs) (nothing_told n))
     ∙ map-id numbers
 
 -- behind the entries up to a switch
@@ -116,9 +116,9 @@ few_preemptions end hs ss numbers j k m after at l =
     (λ i d h. omega (arith, l, count_by-le-length (preempts hs (get_or numbers i d)) (take k ss), length-take k ss)))
 
 pub next_switch : (end : ℕ) (hs : List Happened) (ss : List Switch) (numbers : List ℕ) (j k c : ℕ) (d : Switch) (told after last : List Told)
-    → IsAtSwitch end hs ss numbers j k told → k < length ss → AllPairs (λ a b. IsTrue (is_before a b)) ss
+    → IsAtSwitch end hs ss numbers j k told → k < length ss → AllPairs (λ a b. IsTrue (is_switch_before a b)) ss
     → c ≡ prefix_len (λ h. nat_le h.time (get_or ss k d).time) (drop j hs)
-    → after ≡ map (told_all end (take c (drop j hs))) told → All (IsWithin (j + c)) last
+    → after ≡ map (told_all end (take c (drop j hs))) told → All (IsToldWithin (j + c)) last
     → last ≡ map (with_preemption (get_or ss k d)) after
     → IsAtSwitch end hs ss numbers (j + c) (k + 1) last
 next_switch end hs ss numbers j k c d told after last at l rising count a within b =
@@ -145,5 +145,5 @@ at_the_end end hs ss numbers j k told after at l a =
     let to : j + (length hs - j) ≡ length hs = omega (arith, at.inside) in
     entries_told end hs ss numbers j k (length hs - j) told after at.told (a ∙ ap (λ (xs : List Happened). map (told_all end xs) told) (sym (take_rest hs j)))
     ∙ map_same (so_far end hs ss (j + (length hs - j)) k) (told_by end hs ss) numbers
-    (λ n. (λ i. record (told_all end (take (to i) hs) (untold n)) { preempted = count_by (preempts hs n) (take k ss) })
-    ∙ (λ i. record (told_all end (take_all (length hs) hs (omega arith) i) (untold n)) { preempted = count_by (preempts hs n) (take_all k ss l i) }))
+    (λ n. (λ i. record (told_all end (take (to i) hs) (nothing_told n)) { preempted = count_by (preempts hs n) (take k ss) })
+    ∙ (λ i. record (told_all end (take_all (length hs) hs (omega arith) i) (nothing_told n)) { preempted = count_by (preempts hs n) (take_all k ss l i) }))

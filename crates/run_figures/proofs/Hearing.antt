@@ -12,10 +12,10 @@ use Rattle.run_figures.specs.declared.told.Told.{Told}
 use Rattle.run_figures.specs.declared.ran.Ran.{Ran}
 use Rattle.run_figures.specs.declared.ran.Cpu.{Cpu}
 use Rattle.run_figures.specs.declared.run.Admitted.{Admitted}
-use Rattle.run_figures.specs.Runs.{RunView, AreTasks, IsRun}
+use Rattle.run_figures.specs.Runs.{RunView, AreTasks, IsBoundedRun}
 use Rattle.run_figures.specs.Accounting.{AccountingView, heard_run, with_piece, IsNextPiece}
-use Rattle.run_figures.specs.private.Keeping.{IsKept, IsOfRun}
-use Rattle.run_figures.specs.private.Telling.{told_all, told_by, so_far, untold, with_preemption, IsWithin, HaveRoomFor}
+use Rattle.run_figures.specs.private.Keeping.{IsAccountingKept, IsOfRun}
+use Rattle.run_figures.specs.private.Telling.{told_all, told_by, so_far, nothing_told, with_preemption, IsToldWithin, HaveRoomFor}
 use Rattle.run_figures.specs.private.Running.{not_run, idle, ran_by, cpu_by, with_stay_of, without_rest_of, with_switch_on}
 use Rattle.run_figures.specs.declared.figures.TaskFigures.{TaskFigures}
 use Rattle.run_figures.specs.declared.figures.CpuFigures.{CpuFigures}
@@ -48,7 +48,7 @@ of_run_still a hs ss run next = record {
 }
 
 -- THE FIRST
-pub none_heard : (a : AccountingView) (hs : List Happened) (ss : List Switch) (told : List Told) (ran : List Ran) (cpus : List Cpu) → IsKept a told ran cpus → IsNextPiece a hs ss → IsHeard a hs ss 0 0 told ran cpus
+pub none_heard : (a : AccountingView) (hs : List Happened) (ss : List Switch) (told : List Told) (ran : List Ran) (cpus : List Cpu) → IsAccountingKept a told ran cpus → IsNextPiece a hs ss → IsHeard a hs ss 0 0 told ran cpus
 none_heard a hs ss told ran cpus kept next =
     let j : length a.happened ≡ length a.happened + 0 = omega arith in
     let k : length a.switches ≡ length a.switches + 0 = omega arith in
@@ -136,7 +136,7 @@ heard_cpus_few a hs ss from i told ran cpus h next l =
 pub one_heard : (a : AccountingView) (hs : List Happened) (ss : List Switch) (from i c : ℕ) (d : Switch) (e : Cpu) (told after last : List Told) (ran gone : List Ran) (cpus then : List Cpu)
     → IsHeard a hs ss from i told ran cpus → IsOfRun a → IsNextPiece a hs ss → i < length ss
     → c ≡ prefix_len (λ h. nat_le h.time (get_or ss i d).time) (drop from hs)
-    → after ≡ map (told_all a.time (take c (drop from hs))) told → ((n : ℕ) → All (IsWithin n) told → All (IsWithin (n + c)) last)
+    → after ≡ map (told_all a.time (take c (drop from hs))) told → ((n : ℕ) → All (IsToldWithin n) told → All (IsToldWithin (n + c)) last)
     → last ≡ map (with_preemption (get_or ss i d)) after
     → gone ≡ map (without_rest_of (get_or cpus (get_or ss i d).cpu e).task (a.time - (get_or ss i d).time)) (map (with_stay_of (get_or ss i d).next (get_or ss i d).cpu (a.time - (get_or ss i d).time)) ran)
     → then ≡ map (with_switch_on (get_or ss i d) (a.time - (get_or ss i d).time)) cpus
@@ -169,7 +169,7 @@ one_heard a hs ss from i c d e told after last ran gone cpus then h run next l c
 
 -- ALL OF IT
 pub all_heard : (a : AccountingView) (hs : List Happened) (ss : List Switch) (from i : ℕ) (told after : List Told) (ran : List Ran) (cpus : List Cpu) → IsHeard a hs ss from i told ran cpus → length ss ≤ i
-    → after ≡ map (told_all a.time (drop from hs)) told → All (IsWithin (length a.happened + length hs)) after → IsKept (with_piece a hs ss) after ran cpus
+    → after ≡ map (told_all a.time (drop from hs)) told → All (IsToldWithin (length a.happened + length hs)) after → IsAccountingKept (with_piece a hs ss) after ran cpus
 all_heard a hs ss from i told after ran cpus h l is within =
     let SS = a.switches ++ ss in
     let end : length SS ≤ length a.switches + i = omega (arith, l, length-append a.switches ss) in
@@ -177,16 +177,16 @@ all_heard a hs ss from i told after ran cpus h l is within =
     record {
       told = at_the_end a.time (a.happened ++ hs) SS a.tasks (length a.happened + from) (length a.switches + i) told after h.told end
           (is ∙ ap (λ (xs : List Happened). map (told_all a.time xs) told) (left_over a hs from));
-      within = subst (λ n. All (IsWithin n) after) (sym (length-append a.happened hs)) within;
+      within = subst (λ n. All (IsToldWithin n) after) (sym (length-append a.happened hs)) within;
       ran = h.ran.ran ∙ ap (λ (xs : List Switch). map (ran_by a.time xs) a.tasks) all;
       cpus = h.ran.cpus ∙ ap (λ (xs : List Switch). map (cpu_by a.time xs) (range_with_len 0 a.cpus)) all;
     }
 
 -- NOTHING heard yet
-pub nothing_kept : (a : AccountingView) (ts : List Told) (rs : List Ran) (cs : List Cpu) → a.happened ≡ [] → a.switches ≡ [] → ts ≡ map untold a.tasks → rs ≡ map not_run a.tasks → cs ≡ map idle (range_with_len 0 a.cpus) → IsKept a ts rs cs
+pub nothing_kept : (a : AccountingView) (ts : List Told) (rs : List Ran) (cs : List Cpu) → a.happened ≡ [] → a.switches ≡ [] → ts ≡ map nothing_told a.tasks → rs ≡ map not_run a.tasks → cs ≡ map idle (range_with_len 0 a.cpus) → IsAccountingKept a ts rs cs
 nothing_kept a ts rs cs none nobody t r c = record {
-  told = t ∙ map_same untold (told_by a.time [] []) a.tasks (λ n. refl) ∙ (λ i. map (told_by a.time (sym none i) (sym nobody i)) a.tasks);
-  within = subst (All (IsWithin (length a.happened))) (sym t) (All-map (IsWithin (length a.happened)) untold a.tasks
+  told = t ∙ map_same nothing_told (told_by a.time [] []) a.tasks (λ n. refl) ∙ (λ i. map (told_by a.time (sym none i) (sym nobody i)) a.tasks);
+  within = subst (All (IsToldWithin (length a.happened))) (sym t) (All-map (IsToldWithin (length a.happened)) nothing_told a.tasks
       (λ k d l. record { job = tt; ended = tt; late = omega arith; times = omega arith; us = omega arith }));
   ran = r ∙ map_same not_run (ran_by a.time []) a.tasks (λ n. refl) ∙ (λ i. map (ran_by a.time (sym nobody i)) a.tasks);
   cpus = c ∙ map_same idle (cpu_by a.time []) (range_with_len 0 a.cpus) (λ n. refl) ∙ (λ i. map (cpu_by a.time (sym nobody i)) (range_with_len 0 a.cpus));
@@ -207,7 +207,7 @@ nothing_of_run a none nobody early few =
     }
 
 -- THE RUN that was heard
-pub run_heard : (a : AccountingView) (tasks : List Admitted) → IsOfRun a → AreTasks tasks → IsRun (heard_run a tasks)
+pub run_heard : (a : AccountingView) (tasks : List Admitted) → IsOfRun a → AreTasks tasks → IsBoundedRun (heard_run a tasks)
 run_heard a tasks run are = record {
   early = run.early;
   cpus = run.cpus;
@@ -217,33 +217,33 @@ run_heard a tasks run are = record {
   rising = run.rising;
 }
 
-pub told_of_tasks : (a : AccountingView) (tasks : List Admitted) (ts : List Told) (rs : List Ran) (cs : List Cpu) → IsKept a ts rs cs → map (λ t. t.number) tasks ≡ a.tasks → ts ≡ map (λ t. told_by a.time a.happened a.switches t.number) tasks
+pub told_of_tasks : (a : AccountingView) (tasks : List Admitted) (ts : List Told) (rs : List Ran) (cs : List Cpu) → IsAccountingKept a ts rs cs → map (λ t. t.number) tasks ≡ a.tasks → ts ≡ map (λ t. told_by a.time a.happened a.switches t.number) tasks
 told_of_tasks a tasks ts rs cs kept same =
     kept.told ∙ ap (map (told_by a.time a.happened a.switches)) (sym same) ∙ map-map (told_by a.time a.happened a.switches) (λ (t : Admitted). t.number) tasks
 
-pub ran_of_tasks : (a : AccountingView) (tasks : List Admitted) (ts : List Told) (rs : List Ran) (cs : List Cpu) → IsKept a ts rs cs → map (λ t. t.number) tasks ≡ a.tasks → rs ≡ map (λ t. ran_by a.time a.switches t.number) tasks
+pub ran_of_tasks : (a : AccountingView) (tasks : List Admitted) (ts : List Told) (rs : List Ran) (cs : List Cpu) → IsAccountingKept a ts rs cs → map (λ t. t.number) tasks ≡ a.tasks → rs ≡ map (λ t. ran_by a.time a.switches t.number) tasks
 ran_of_tasks a tasks ts rs cs kept same =
     kept.ran ∙ ap (map (ran_by a.time a.switches)) (sym same) ∙ map-map (ran_by a.time a.switches) (λ (t : Admitted). t.number) tasks
 
-pub tasks_heard : (v a : AccountingView) (tasks : List Admitted) (ts told : List Told) (rs ran : List Ran) (cs : List Cpu) (all : List TaskFigures) → v ≡ a → IsKept v ts rs cs → map (λ t. t.number) tasks ≡ a.tasks
+pub tasks_heard : (v a : AccountingView) (tasks : List Admitted) (ts told : List Told) (rs ran : List Ran) (cs : List Cpu) (all : List TaskFigures) → v ≡ a → IsAccountingKept v ts rs cs → map (λ t. t.number) tasks ≡ a.tasks
     → told ≡ ts → ran ≡ rs → all ≡ put_all v.time tasks told ran → all ≡ task_figures (heard_run a tasks)
 tasks_heard v a tasks ts told rs ran cs all same before numbers t r put =
-    let kept = subst (λ (x : AccountingView). IsKept x ts rs cs) same before in
+    let kept = subst (λ (x : AccountingView). IsAccountingKept x ts rs cs) same before in
     all_tasks (heard_run a tasks) told ran all (t ∙ told_of_tasks a tasks ts rs cs kept numbers) (r ∙ ran_of_tasks a tasks ts rs cs kept numbers)
     (put ∙ ap (λ (x : AccountingView). put_all x.time tasks told ran) same)
 
-pub cpus_heard : (v a : AccountingView) (tasks : List Admitted) (ts : List Told) (rs : List Ran) (cs cpus : List Cpu) (all : List CpuFigures) → v ≡ a → IsKept v ts rs cs
+pub cpus_heard : (v a : AccountingView) (tasks : List Admitted) (ts : List Told) (rs : List Ran) (cs cpus : List Cpu) (all : List CpuFigures) → v ≡ a → IsAccountingKept v ts rs cs
     → cpus ≡ cs → all ≡ map put_cpu cpus → all ≡ cpu_figures (heard_run a tasks)
 cpus_heard v a tasks ts rs cs cpus all same before c put =
-    let kept = subst (λ (x : AccountingView). IsKept x ts rs cs) same before in
+    let kept = subst (λ (x : AccountingView). IsAccountingKept x ts rs cs) same before in
     all_cpus (heard_run a tasks) cpus all (c ∙ kept.cpus) put
 
-pub kept_room : (v : AccountingView) (ts told : List Told) (rs : List Ran) (cs : List Cpu) → IsKept v ts rs cs → IsOfRun v → told ≡ ts → All (IsWithin (2 ^ 64 - 2)) told
+pub kept_room : (v : AccountingView) (ts told : List Told) (rs : List Ran) (cs : List Cpu) → IsAccountingKept v ts rs cs → IsOfRun v → told ≡ ts → All (IsToldWithin (2 ^ 64 - 2)) told
 kept_room v ts told rs cs kept run is =
-    subst (All (IsWithin (2 ^ 64 - 2))) (sym is) (all_more (length v.happened) (2 ^ 64 - 2) ts (omega (arith, run.few_happened)) kept.within)
+    subst (All (IsToldWithin (2 ^ 64 - 2))) (sym is) (all_more (length v.happened) (2 ^ 64 - 2) ts (omega (arith, run.few_happened)) kept.within)
 
 -- A WHOLE RUN is the next piece where nothing was heard
-pub whole_next : (run : RunView) (a : AccountingView) → IsRun run → a ≡ record { cpus = run.cpus; time = run.time; tasks = map (λ t. t.number) run.tasks; happened = []; switches = [] }
+pub whole_next : (run : RunView) (a : AccountingView) → IsBoundedRun run → a ≡ record { cpus = run.cpus; time = run.time; tasks = map (λ t. t.number) run.tasks; happened = []; switches = [] }
     → length run.happened < 2 ^ 64 - 1 → length run.switches < 2 ^ 64 - 1 → IsNextPiece a run.happened run.switches
 whole_next run a is opened few many =
     subst (λ (x : AccountingView). IsNextPiece x run.happened run.switches) (sym opened) (record {

@@ -10,13 +10,13 @@ use Rattle.domain_run.specs.declared.happened.Happened.{Happened}
 use Rattle.run_figures.specs.declared.job.Job.{Job}
 use Rattle.run_figures.specs.declared.run.Admitted.{Admitted}
 use Rattle.run_figures.specs.TaskJobsView.{TaskJobsView}
-use Rattle.run_figures.specs.Jobs.{of_task, over_by, under_way, jobs_from, task_jobs}
+use Rattle.run_figures.specs.Jobs.{of_task, over_by, job_after, jobs_from, task_jobs}
 use Rattle.run_figures.specs.Laws.{releases, ends, AreReleased}
 
 abbrev one : Option Job → ℕ
 one o = length (option_to_list o)
 
-one_by : (time : ℕ) (what : What) (o : Option Job) → one (over_by time what o) + one (under_way time what o) ≡ one o + cond (releases what) 1 0
+one_by : (time : ℕ) (what : What) (o : Option Job) → one (over_by time what o) + one (job_after time what o) ≡ one o + cond (releases what) 1 0
 one_by time JobEnds None = refl
 one_by time JobEnds (Some j) = refl
 one_by time Cut None = refl
@@ -36,7 +36,7 @@ released_from : (o : Option Job) (own : List Happened) → length (jobs_from o o
 released_from o [] = omega arith
 released_from o (h ∷ hs) =
     let over = over_by h.time h.what o in
-    let next = under_way h.time h.what o in
+    let next = job_after h.time h.what o in
     omega (arith, length-append (option_to_list over) (jobs_from next hs), released_from next hs, one_by h.time h.what o, sum_by-cons (λ (x : Happened). cond (releases x.what) 1 0) h hs)
 
 -- a job under way has no end
@@ -46,7 +46,7 @@ ended jobs = count_by (λ j. is_some j.ended) jobs
 none_ended : (j : Job) → j.ended ≡ None → ended (j ∷ []) ≡ 0
 none_ended j e = omega (arith, sum_by-cons (λ (x : Job). cond (is_some x.ended) 1 0) j [], ap {B = ℕ} (λ (at : Option ℕ). cond (is_some at) 1 0) e)
 
-goes_on : (time : ℕ) (what : What) (o : Option Job) → IfSome o (λ j. j.ended ≡ None) → IfSome (under_way time what o) (λ j. j.ended ≡ None)
+goes_on : (time : ℕ) (what : What) (o : Option Job) → IfSome o (λ j. j.ended ≡ None) → IfSome (job_after time what o) (λ j. j.ended ≡ None)
 goes_on time JobEnds o h = tt
 goes_on time Cut o h = tt
 goes_on time (NextReleased d) o h = refl
@@ -75,7 +75,7 @@ ended_from : (o : Option Job) (own : List Happened) → IfSome o (λ j. j.ended 
 ended_from o [] h = ended_at_end o h
 ended_from o (x ∷ xs) h =
     let over = over_by x.time x.what o in
-    let next = under_way x.time x.what o in
+    let next = job_after x.time x.what o in
     omega (arith, sum_by-append (λ (j : Job). cond (is_some j.ended) 1 0) (option_to_list over) (jobs_from next xs), ended_from next xs (goes_on x.time x.what o h), ended_by x.time x.what o h, sum_by-cons (λ (y : Happened). cond (ends y.what) 1 0) x xs)
 
 pub all_released : (happened : List Happened) (tasks : List Admitted) (all : List TaskJobsView) → all ≡ map (λ t. task_jobs happened t.number) tasks → All (AreReleased happened) all

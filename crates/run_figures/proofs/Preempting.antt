@@ -6,7 +6,7 @@ use Rattle.std.proofs.lemmas.List.{map-id, set-get_or}
 use Rattle.std.proofs.lemmas.Bool.{cases_eq, ne_eqb, eq-eqb}
 use Rattle.domain_run.specs.Switch.{Switch}
 use Rattle.run_figures.specs.declared.told.Told.{Told}
-use Rattle.run_figures.specs.Stays.{is_task}
+use Rattle.edf_pick.specs.Places.{is_task}
 use Rattle.run_figures.specs.Places.{IsAt, IsAbsent, if_number}
 use Rattle.run_figures.specs.private.Telling.{leaver_wanting, with_preemption}
 use Rattle.run_figures.proofs.Turning.{turned_place, turned_none}

@@ -16,13 +16,13 @@ use Rattle.run_figures.specs.declared.ran.Ran.{Ran}
 use Rattle.run_figures.specs.declared.ran.Cpu.{Cpu}
 use Rattle.run_figures.specs.declared.figures.TaskFigures.{TaskFigures}
 use Rattle.run_figures.specs.declared.figures.CpuFigures.{CpuFigures}
-use Rattle.run_figures.specs.Runs.{RunView, IsRun}
+use Rattle.run_figures.specs.Runs.{RunView, IsBoundedRun}
 use Rattle.run_figures.specs.Laws.{AreKnown, IsShared, AreShort}
 use Rattle.run_figures.specs.Jobs.{of_task, jobs_of}
 use Rattle.run_figures.specs.Throttling.{throttled_of, throttled_us, preemptions}
 use Rattle.run_figures.specs.Stays.{stays, cpu_us, migrations}
 use Rattle.run_figures.specs.Figures.{outcomes, is_late, figures_of, task_figures, cpu_of, cpu_figures}
-use Rattle.run_figures.specs.private.Telling.{told_all, told_by, untold, with_over, gap}
+use Rattle.run_figures.specs.private.Telling.{told_all, told_by, nothing_told, with_over, gap}
 use Rattle.run_figures.specs.private.Running.{ran_by, cpu_by}
 use Rattle.run_figures.specs.private.Putting.{responses_by, put_task, put_all, put_cpu}
 use Rattle.run_figures.proofs.Turning.{cpus_apart, cpu_at}
@@ -36,19 +36,19 @@ pub task_is : (run : RunView) (task : Admitted) → put_task run.time task (told
 task_is run task =
     let n = task.number in
     let own = of_task n run.happened in
-    let told : Told = told_all run.time run.happened (untold n) in
-    let kept : told ≡ told_own run.time (untold n) own = own_told run.time run.happened (untold n) n refl in
+    let told : Told = told_all run.time run.happened (nothing_told n) in
+    let kept : told ≡ told_own run.time (nothing_told n) own = own_told run.time run.happened (nothing_told n) n refl in
     let counts : Counts = with_over run.time told.counts told.job in
-    let counted = ap (λ (t : Told). with_over run.time t.counts t.job) kept ∙ jobs_counted run.time own (untold n) in
+    let counted = ap (λ (t : Told). with_over run.time t.counts t.job) kept ∙ jobs_counted run.time own (nothing_told n) in
     let none : Counts = record { ended = None; late = 0 } in
     let jobs = jobs_of run.happened n in
     let ended = ap (λ (c : Counts). c.ended) counted ∙ ended_counted run.time jobs none in
     let late : counts.late ≡ count_by (is_late run.time) jobs = omega (arith, ap (λ (c : Counts). c.late) counted ∙ late_counted run.time jobs none) in
-    let throttle = ap (λ (t : Told). t.throttle) kept ∙ own_throttle run.time own (untold n) in
+    let throttle = ap (λ (t : Told). t.throttle) kept ∙ own_throttle run.time own (nothing_told n) in
     let how_many = ap (λ (x : Option Ended). option_map_or (λ (e : Ended). e.count) x 0) ended ∙ count_of_outcomes (outcomes jobs) in
     let responses = ap (option_map responses_by) ended ∙ responses_counted (outcomes jobs) in
-    let times : told.throttle.times ≡ throttled_of own = omega (arith, ap (λ (t : Throttle). t.times) throttle ∙ times_counted own (untold n).throttle) in
-    let us : told.throttle.us + gap told.throttle.since run.time ≡ throttled_us run.time own = omega (arith, ap (λ (t : Throttle). t.us + gap t.since run.time) throttle ∙ us_counted run.time own (untold n).throttle) in
+    let times : told.throttle.times ≡ throttled_of own = omega (arith, ap (λ (t : Throttle). t.times) throttle ∙ times_counted own (nothing_told n).throttle) in
+    let us : told.throttle.us + gap told.throttle.since run.time ≡ throttled_us run.time own = omega (arith, ap (λ (t : Throttle). t.us + gap t.since run.time) throttle ∙ us_counted run.time own (nothing_told n).throttle) in
     λ i. record {
       number = n;
       runtime = task.runtime;
@@ -98,7 +98,7 @@ pub all_cpus : (run : RunView) (cpus : List Cpu) (figures : List CpuFigures) →
 all_cpus run cpus figures c f = f ∙ ap (map put_cpu) c ∙ map-map put_cpu (cpu_by run.time run.switches) (range_with_len 0 run.cpus)
 
 -- THEIR TIMES ARE SHORT
-pub all_short : (run : RunView) (tasks : List TaskFigures) (cpus : List CpuFigures) → IsRun run → length run.switches < 2 ^ 64 → tasks ≡ task_figures run → cpus ≡ cpu_figures run → AreShort tasks cpus
+pub all_short : (run : RunView) (tasks : List TaskFigures) (cpus : List CpuFigures) → IsBoundedRun run → length run.switches < 2 ^ 64 → tasks ≡ task_figures run → cpus ≡ cpu_figures run → AreShort tasks cpus
 all_short run tasks cpus h few t c =
     let early = All-weaker (λ (s : Switch). s.time ≤ run.time) (λ (s : Switch). s.time ≤ 2 ^ 42) (λ s l. omega (arith, l, h.early)) run.switches h.past in (
       subst (All (λ x. x.cpu_us < 2 ^ 108)) (sym t) (All-map (λ (x : TaskFigures). x.cpu_us < 2 ^ 108) (figures_of run) run.tasks
@@ -123,7 +123,7 @@ each_among : (tasks : List Admitted) (next : Option ℕ) → IfSome next (λ n. 
 each_among tasks None h = tt
 each_among tasks (Some n) h = task_among tasks n h
 
-pub shared : (run : RunView) (tasks : List TaskFigures) (cpus : List CpuFigures) → IsRun run → tasks ≡ task_figures run → cpus ≡ cpu_figures run → AreKnown run.tasks run.switches → IsShared tasks cpus
+pub shared : (run : RunView) (tasks : List TaskFigures) (cpus : List CpuFigures) → IsBoundedRun run → tasks ≡ task_figures run → cpus ≡ cpu_figures run → AreKnown run.tasks run.switches → IsShared tasks cpus
 shared run tasks cpus h t c known =
     let numbers = map (λ (a : Admitted). a.number) run.tasks in
     let of_tasks = shared_out (λ x. x.number) numbers (stays run.time run.switches) (numbers_apart run.tasks h.tasks)

@@ -12,7 +12,7 @@ use Rattle.attr_check.specs.ParamsView.{ParamsView}
 use Rattle.attr_check.specs.Ratio.{cap}
 use Rattle.cbs_rules.specs.Serving.{replenished}
 use Rattle.edf_pick.specs.Places.{Places, is_task, stands}
-use Rattle.task_script.specs.script.Segments.{asked}
+use Rattle.task_script.specs.script.Segments.{next_segment}
 use Rattle.domain_run.specs.declared.task.Task.{Task}
 use Rattle.domain_run.specs.declared.task.Condition.{Condition}
 use Rattle.domain_run.specs.declared.task.Condition.TheVariants.{Ready, Throttled, Blocked, Waiting, Leaving}
@@ -23,12 +23,12 @@ use Rattle.domain_run.specs.declared.call.Call.TheVariants.{Admit, Regrade, Wake
 use Rattle.domain_run.specs.declared.call.Reply.TheVariants.{Admitted, Woken, Full, Twice, Busy, NotWaiting}
 use Rattle.domain_run.specs.Conditions.{is_ready, is_throttled, is_contending, is_waiting, is_leaving, is_over, has_come}
 use Rattle.domain_run.specs.Parts.{replenish_due, settled, is_listed, unblocked, starts, with_last_cpu, stopped, ran}
-use Rattle.domain_run.specs.Domain.{Domain, opened}
-use Rattle.domain_run.specs.Tick.{sum_of, prepared, begun, rate_of, ran_if, finished, ticked, ticks}
-use Rattle.domain_run.specs.Calls.{admit_reply, new_task, with_number, listed, task_of, of_number, changed, regraded, wake_reply, released, leave_reply, ended, with_limit, depart_reply, is_other, departed, reply_to, is_refusal, granted, after_call}
+use Rattle.domain_run.specs.Domain.{Domain, empty_domain}
+use Rattle.domain_run.specs.Tick.{sum_of, prepared, with_tick_begun, rate_of, ran_if, finished, ticked, ticks}
+use Rattle.domain_run.specs.Calls.{admit_reply, new_task, with_number, with_task_listed, task_of, of_number, with_task_changed, with_new_params, wake_reply, blocked_until, leave_reply, ended_at, with_limit, depart_reply, is_other, after_departure, reply_to, is_refusal, after_granted, after_call}
 use Rattle.domain_run.specs.Run.{after_calls}
 use Rattle.domain_run.specs.Sound.{IsAdmitted}
-use Rattle.domain_run.specs.Happened.{told, told_by_beginning, told_by_end, told_by_tick, told_by_ticks, told_by_cut, told_by_granted, told_by_call, told_by_calls}
+use Rattle.domain_run.specs.Happened.{happened_to, told_by_beginning, told_by_end, told_by_tick, told_by_ticks, told_by_cut, told_by_granted, told_by_call, told_by_calls}
 use Rattle.domain_run.proofs.CallerLemmas.{AreNumbered, with_number_contains}
 use Rattle.run_figures.specs.Jobs.{of_task}
 use Rattle.run_figures.specs.Throttling.{throttled_of}
@@ -61,12 +61,12 @@ prepared_known used time tasks are =
     (All-filter is_listed (λ (t : Task). IsAdmitted used t.number) second
     (known_map used (settled time) first (number_settled time) (known_map used (replenish_due time) tasks (number_due time) are)))
 
-begun_numbered : (d : Domain) → AreNumbered d.tasks → AreNumbered (begun d).tasks
-begun_numbered d numbered = numbered_map (with_last_cpu (begun d).curr) (number_homed (begun d).curr) (prepared d.time d.tasks) (prepared_numbered d.time d.tasks numbered)
+begun_numbered : (d : Domain) → AreNumbered d.tasks → AreNumbered (with_tick_begun d).tasks
+begun_numbered d numbered = numbered_map (with_last_cpu (with_tick_begun d).curr) (number_homed (with_tick_begun d).curr) (prepared d.time d.tasks) (prepared_numbered d.time d.tasks numbered)
 
 has_ticked : (d : Domain) → HasNumbers d → HasNumbers (ticked d)
 has_ticked d has =
-    let b : Domain = begun d in
+    let b : Domain = with_tick_begun d in
     record {
       numbered = numbered_map (ran_if b) (number_ran_if b) b.tasks (begun_numbered d has.numbered);
       known = known_map d.used (ran_if b) b.tasks (number_ran_if b)
@@ -80,13 +80,13 @@ has_ticks (suc k) d has = has_ticked (ticks k d) (has_ticks k d has)
 of_number_keeps : (number : ℕ) (f : Task → Task) → ((t : Task) → (f t).number ≡ t.number) → (t : Task) → (of_number number f t).number ≡ t.number
 of_number_keeps number f same t = elim (eqb t.number number) as (λ b. (cond b (f t) t).number ≡ t.number) [ true ↦ same t | false ↦ refl ]
 
-has_changed : (d : Domain) (number : ℕ) (f : Task → Task) → ((t : Task) → (f t).number ≡ t.number) → HasNumbers d → HasNumbers (changed d number f)
+has_changed : (d : Domain) (number : ℕ) (f : Task → Task) → ((t : Task) → (f t).number ≡ t.number) → HasNumbers d → HasNumbers (with_task_changed d number f)
 has_changed d number f same has = record {
   numbered = numbered_map (of_number number f) (of_number_keeps number f same) d.tasks has.numbered;
   known = known_map d.used (of_number number f) d.tasks (of_number_keeps number f same) has.known;
 }
 
-number_ended : (time : ℕ) (t : Task) → (ended time t).number ≡ t.number
+number_ended : (time : ℕ) (t : Task) → (ended_at time t).number ≡ t.number
 number_ended time t = elim (is_contending t.condition) as (λ b. (cond b (stopped time Leaving t) (record t { condition = Leaving })).number ≡ t.number) [ true ↦ refl | false ↦ refl ]
 
 or_true : (a b : Bool) → b ≡ true → (a || b) ≡ true
@@ -111,7 +111,7 @@ fresh d number params e = fresh_by (leb 256 (length d.tasks)) (list_any (λ (n :
 not_fresh : (used : List ℕ) (number n : ℕ) → list_any (λ (m : ℕ). eqb m number) used ≡ false → IsAdmitted used n → n ≢ number
 not_fresh used number n new is e = let no : true ≡ false = sym is ∙ ap (λ (m : ℕ). list_any (λ (k : ℕ). eqb k m) used) e ∙ new in absurd cc
 
-has_listed : (d : Domain) (t : Task) → list_any (λ (n : ℕ). eqb n t.number) d.used ≡ false → HasNumbers d → HasNumbers (listed d t)
+has_listed : (d : Domain) (t : Task) → list_any (λ (n : ℕ). eqb n t.number) d.used ≡ false → HasNumbers d → HasNumbers (with_task_listed d t)
 has_listed d t new has = record {
   numbered = all_pairs_push (λ (a b : Task). a.number ≢ b.number) d.tasks t has.numbered (λ k x h. not_fresh d.used t.number (get_or d.tasks k x).number new (has.known k x h));
   known = All-push (λ (u : Task). IsAdmitted (with_number t.number d.used) u.number) d.tasks t
@@ -119,17 +119,17 @@ has_listed d t new has = record {
       (admitted_now d.used t.number);
 }
 
-has_departed : (d : Domain) (number : ℕ) → HasNumbers d → HasNumbers (departed d number)
+has_departed : (d : Domain) (number : ℕ) → HasNumbers d → HasNumbers (after_departure d number)
 has_departed d number has = record {
   numbered = AllPairs-filter (λ (a b : Task). a.number ≢ b.number) (is_other number) d.tasks has.numbered;
   known = All-filter (is_other number) (λ (t : Task). IsAdmitted d.used t.number) d.tasks has.known;
 }
 
-has_granted : (d : Domain) (c : Call) → is_refusal (reply_to d c) ≡ false → HasNumbers d → HasNumbers (granted d c)
+has_granted : (d : Domain) (c : Call) → is_refusal (reply_to d c) ≡ false → HasNumbers d → HasNumbers (after_granted d c)
 has_granted d (Admit number name params delay script) is has = has_listed d (new_task d number name params delay script) (fresh d number params is) has
-has_granted d (Regrade number params word) is has = has_changed d number (regraded params) (λ t. refl) has
-has_granted d (Wake number) is has = has_changed d number (released d.time) (λ t. refl) has
-has_granted d (Leave number) is has = has_changed d number (ended d.time) (number_ended d.time) has
+has_granted d (Regrade number params word) is has = has_changed d number (with_new_params params) (λ t. refl) has
+has_granted d (Wake number) is has = has_changed d number (blocked_until d.time) (λ t. refl) has
+has_granted d (Leave number) is has = has_changed d number (ended_at d.time) (number_ended d.time) has
 has_granted d (Advance n) is has = has_ticks n d has
 has_granted d (Limit limit word) is has = record { numbered = has.numbered; known = has.known }
 has_granted d (Depart number) is has = has_departed d number has
@@ -140,7 +140,7 @@ has_either d e true has more = has
 has_either d e false has more = more refl
 
 has_call : (d : Domain) (c : Call) → HasNumbers d → HasNumbers (after_call d c)
-has_call d c has = has_either d (granted d c) (is_refusal (reply_to d c)) has (λ is. has_granted d c is has)
+has_call d c has = has_either d (after_granted d c) (is_refusal (reply_to d c)) has (λ is. has_granted d c is has)
 
 -- ---- OVER: a number that was admitted, and whose task has ended or is off the list
 
@@ -187,7 +187,7 @@ leaving_settled time t is = elim (has_come time t.zero_lag) as (λ b. is_leaving
 
 leaving_unblocked : (time : ℕ) (t : Task) → is_leaving t.condition ≡ true → is_leaving (unblocked time t).condition ≡ true
 leaving_unblocked time t is =
-    let a = asked t.cursor time in
+    let a = next_segment t.cursor time in
     ap (λ b. is_leaving (cond b (starts time t a) t).condition) (asleep t.condition is) ∙ is
   where
     asleep : (c : Condition) → is_leaving c ≡ true → is_over time c ≡ false
@@ -200,12 +200,12 @@ leaving_unblocked time t is =
 leaving_homed : (places : Places) (t : Task) → is_leaving t.condition ≡ true → is_leaving (with_last_cpu places t).condition ≡ true
 leaving_homed places t is = ap is_leaving (homed_condition (position (is_task t.number) places) t) ∙ is
 
-over_begun : (n : ℕ) (d : Domain) → AreOver n d.tasks → AreOver n (begun d).tasks
+over_begun : (n : ℕ) (d : Domain) → AreOver n d.tasks → AreOver n (with_tick_begun d).tasks
 over_begun n d over =
     let first = map (replenish_due d.time) d.tasks in
     let second = map (settled d.time) first in
     let third = filter is_listed second in
-    over_map n (with_last_cpu (begun d).curr) (prepared d.time d.tasks) (number_homed (begun d).curr) (leaving_homed (begun d).curr)
+    over_map n (with_last_cpu (with_tick_begun d).curr) (prepared d.time d.tasks) (number_homed (with_tick_begun d).curr) (leaving_homed (with_tick_begun d).curr)
     (over_map n (unblocked d.time) third (number_unblocked d.time) (leaving_unblocked d.time)
     (All-filter is_listed (λ (t : Task). is_live n t ≡ false) second
     (over_map n (settled d.time) first (number_settled d.time) (leaving_settled d.time) (over_map n (replenish_due d.time) d.tasks (number_due d.time) (leaving_due d.time) over))))
@@ -295,7 +295,7 @@ goes_more n b hs gs d e one more =
 
 tick_goes : (n : ℕ) (b : Bool) (d : Domain) → HasNumbers d → IsAt n d b → GoesOn n b (told_by_tick d) (ticked d)
 tick_goes n b d has at =
-    let m : Domain = begun d in
+    let m : Domain = with_tick_begun d in
     let numbered = begun_numbered d has.numbered in
     let may = begun_may_run d (prepared_numbered d.time d.tasks has.numbered) in
     goes_more n b (told_by_beginning d) (told_by_end m) m (ticked d)
@@ -315,11 +315,11 @@ quiet : (n : ℕ) (b : Bool) (d e : Domain) → sum_by (opened_by n) e.tasks ≡
 quiet n b d e same stays (inl closes) = inl (closes ∙ sym same)
 quiet n b d e same stays (inr over) = inr (stays over)
 
-listed_at : (n : ℕ) (b : Bool) (d : Domain) (t : Task) → is_throttled t.condition ≡ false → list_any (λ (m : ℕ). eqb m t.number) d.used ≡ false → IsAt n d b → IsAt n (listed d t) b
+listed_at : (n : ℕ) (b : Bool) (d : Domain) (t : Task) → is_throttled t.condition ≡ false → list_any (λ (m : ℕ). eqb m t.number) d.used ≡ false → IsAt n d b → IsAt n (with_task_listed d t) b
 listed_at n b d t free new at =
     let none : opened_by n t ≡ 0 = ap (λ x. cond {A = ℕ} (eqb t.number n && x) 1 0) free ∙ closed n t.number in
     let one : sum_by (opened_by n) (t ∷ []) ≡ 0 = sum_by-cons (opened_by n) t [] ∙ ap (λ k. k + 0) none in
-    quiet n b d (listed d t) (omega (arith, sum_by-append (opened_by n) d.tasks (t ∷ []), one))
+    quiet n b d (with_task_listed d t) (omega (arith, sum_by-append (opened_by n) d.tasks (t ∷ []), one))
     (λ is. record {
       admitted = admitted_more d.used t.number n is.admitted;
       over = All-push (λ (u : Task). is_live n u ≡ false) d.tasks t is.over (ap (λ x. x && not (is_leaving t.condition)) (ne_eqb t.number n (λ e. not_fresh d.used t.number n new is.admitted (sym e))));
@@ -333,13 +333,13 @@ same_open_all n f (t ∷ tasks) same =
     let rest = same_open_all n f tasks (All-tail (λ t. opened_by n (f t) ≡ opened_by n t) t tasks same) in
     omega (arith, sum_by-cons (opened_by n) (f t) (map f tasks), sum_by-cons (opened_by n) t tasks, here, rest)
 
-regraded_at : (n : ℕ) (b : Bool) (d : Domain) (number : ℕ) (params : ParamsView) → IsAt n d b → IsAt n (changed d number (regraded params)) b
+regraded_at : (n : ℕ) (b : Bool) (d : Domain) (number : ℕ) (params : ParamsView) → IsAt n d b → IsAt n (with_task_changed d number (with_new_params params)) b
 regraded_at n b d number params at =
-    let f = of_number number (regraded params) in
-    let same_open : (t : Task) → opened_by n (f t) ≡ opened_by n t = λ t. elim (eqb t.number number) as (λ x. opened_by n (cond x (regraded params t) t) ≡ opened_by n t) [ true ↦ refl | false ↦ refl ] in
-    let keeps : (t : Task) → is_leaving t.condition ≡ true → is_leaving (f t).condition ≡ true = λ t is. elim (eqb t.number number) as (λ x. is_leaving (cond x (regraded params t) t).condition ≡ true) [ true ↦ is | false ↦ is ] in
-    quiet n b d (changed d number (regraded params)) (same_open_all n f d.tasks (λ k e h. same_open (get_or d.tasks k e)))
-    (λ is. record { admitted = is.admitted; over = over_map n f d.tasks (of_number_keeps number (regraded params) (λ t. refl)) keeps is.over }) at
+    let f = of_number number (with_new_params params) in
+    let same_open : (t : Task) → opened_by n (f t) ≡ opened_by n t = λ t. elim (eqb t.number number) as (λ x. opened_by n (cond x (with_new_params params t) t) ≡ opened_by n t) [ true ↦ refl | false ↦ refl ] in
+    let keeps : (t : Task) → is_leaving t.condition ≡ true → is_leaving (f t).condition ≡ true = λ t is. elim (eqb t.number number) as (λ x. is_leaving (cond x (with_new_params params t) t).condition ≡ true) [ true ↦ is | false ↦ is ] in
+    quiet n b d (with_task_changed d number (with_new_params params)) (same_open_all n f d.tasks (λ k e h. same_open (get_or d.tasks k e)))
+    (λ is. record { admitted = is.admitted; over = over_map n f d.tasks (of_number_keeps number (with_new_params params) (λ t. refl)) keeps is.over }) at
 
 -- ---- THE TASK OF A NUMBER
 
@@ -397,9 +397,9 @@ other_over n number f t same other over =
       | false ↦ λ e. over
     ] refl
 
-other_at : (n : ℕ) (b : Bool) (d : Domain) (number : ℕ) (f : Task → Task) → ((u : Task) → (f u).number ≡ u.number) → number ≢ n → IsAt n d b → IsAt n (changed d number f) b
+other_at : (n : ℕ) (b : Bool) (d : Domain) (number : ℕ) (f : Task → Task) → ((u : Task) → (f u).number ≡ u.number) → number ≢ n → IsAt n d b → IsAt n (with_task_changed d number f) b
 other_at n b d number f same other at =
-    quiet n b d (changed d number f) (same_open_all n (of_number number f) d.tasks (λ k e h. other_open n number f (get_or d.tasks k e) same other))
+    quiet n b d (with_task_changed d number f) (same_open_all n (of_number number f) d.tasks (λ k e h. other_open n number f (get_or d.tasks k e) same other))
     (λ is. record { admitted = is.admitted; over = All-map (λ (t : Task). is_live n t ≡ false) (of_number number f) d.tasks (λ k e h. other_over n number f (get_or d.tasks k e) same other (is.over k e h)) }) at
 
 -- one that is over is not found
@@ -431,37 +431,37 @@ waiting_open n t is = by_condition t.condition is
     by_condition (Blocked u) e = absurd cc
     by_condition Leaving e = absurd cc
 
-wake_at : (n : ℕ) (b : Bool) (d : Domain) (number : ℕ) → HasNumbers d → is_refusal (wake_reply (task_of d number)) ≡ false → IsAt n d b → IsAt n (changed d number (released d.time)) b
-wake_at n b d number has granted at =
-    elim (eqb number n) as (λ x. eqb number n ≡ x → IsAt n (changed d number (released d.time)) b) [
+wake_at : (n : ℕ) (b : Bool) (d : Domain) (number : ℕ) → HasNumbers d → is_refusal (wake_reply (task_of d number)) ≡ false → IsAt n d b → IsAt n (with_task_changed d number (blocked_until d.time)) b
+wake_at n b d number has after_granted at =
+    elim (eqb number n) as (λ x. eqb number n ≡ x → IsAt n (with_task_changed d number (blocked_until d.time)) b) [
       | true ↦ λ e. mine (eqb-true number n e)
-      | false ↦ λ e. other_at n b d number (released d.time) (λ u. refl) (λ same. differ (sym e ∙ eq-eqb number n same)) at
+      | false ↦ λ e. other_at n b d number (blocked_until d.time) (λ u. refl) (λ same. differ (sym e ∙ eq-eqb number n same)) at
     ] refl
   where
     differ : false ≡ true → ⊥
     differ e = absurd cc
 
-    mine : number ≡ n → IsAt n (changed d number (released d.time)) b
+    mine : number ≡ n → IsAt n (with_task_changed d number (blocked_until d.time)) b
     mine same =
-        let (t, found, waits) = wake_found (task_of d number) granted in
-        let f = of_number number (released d.time) in
+        let (t, found, waits) = wake_found (task_of d number) after_granted in
+        let f = of_number number (blocked_until d.time) in
         let only = only_one d.tasks number t has.numbered found in
         let each : (u : Task) → (eqb u.number number ≡ true → u ≡ t) → opened_by n (f u) ≡ opened_by n u = λ u is.
-        elim (eqb u.number number) as (λ x. eqb u.number number ≡ x → opened_by n (cond x (released d.time u) u) ≡ opened_by n u) [
+        elim (eqb u.number number) as (λ x. eqb u.number number ≡ x → opened_by n (cond x (blocked_until d.time u) u) ≡ opened_by n u) [
           | true ↦ λ e. closed n u.number ∙ sym (ap (opened_by n) (is e) ∙ waiting_open n t waits)
           | false ↦ λ e. refl
         ] refl in
-        quiet n b d (changed d number (released d.time)) (same_open_all n f d.tasks (λ k e h. each (get_or d.tasks k e) (only k e h)))
+        quiet n b d (with_task_changed d number (blocked_until d.time)) (same_open_all n f d.tasks (λ k e h. each (get_or d.tasks k e) (only k e h)))
         (λ is. absurd (over_lost number d.tasks t (subst (λ (m : ℕ). AreOver m d.tasks) (sym same) is.over) found)) at
 
 -- ---- LEAVE AND DEPART: its job is cut, and it is over
 
-cut_none : (n : ℕ) (d : Domain) (number : ℕ) (f : Happened → ℕ) → ((t : Task) → f (told d.time t Cut) ≡ 0) → sum_by f (told_by_cut d number) ≡ 0
+cut_none : (n : ℕ) (d : Domain) (number : ℕ) (f : Happened → ℕ) → ((t : Task) → f (happened_to d.time t Cut) ≡ 0) → sum_by f (told_by_cut d number) ≡ 0
 cut_none n d number f none = all (filter (λ t. eqb t.number number) d.tasks)
   where
-    all : (tasks : List Task) → sum_by f (map (λ t. told d.time t Cut) tasks) ≡ 0
+    all : (tasks : List Task) → sum_by f (map (λ t. happened_to d.time t Cut) tasks) ≡ 0
     all [] = refl
-    all (t ∷ tasks) = omega (arith, sum_by-cons f (told d.time t Cut) (map (λ t. told d.time t Cut) tasks), none t, all tasks)
+    all (t ∷ tasks) = omega (arith, sum_by-cons f (happened_to d.time t Cut) (map (λ t. happened_to d.time t Cut) tasks), none t, all tasks)
 
 cut_steps : (n : ℕ) (b : Bool) (d : Domain) (number : ℕ) → StepsOf n b (told_by_cut d number) b
 cut_steps n b d number =
@@ -484,13 +484,13 @@ found_admitted d number t has found =
     let mine : (get_or d.tasks at.place t).number ≡ number = ap (λ (x : Task). x.number) at.there ∙ eqb-true t.number number (and_left (eqb t.number number) (not (is_leaving t.condition)) at.passes) in
     subst (λ (m : ℕ). IsAdmitted d.used m) mine (has.known at.place t at.within)
 
-ended_leaves : (time : ℕ) (t : Task) → is_leaving (ended time t).condition ≡ true
+ended_leaves : (time : ℕ) (t : Task) → is_leaving (ended_at time t).condition ≡ true
 ended_leaves time t = elim (is_contending t.condition) as (λ b. is_leaving (cond b (stopped time Leaving t) (record t { condition = Leaving })).condition ≡ true) [ true ↦ refl | false ↦ refl ]
 
-ended_over : (time number : ℕ) (t : Task) → is_live number (of_number number (ended time) t) ≡ false
+ended_over : (time number : ℕ) (t : Task) → is_live number (of_number number (ended_at time) t) ≡ false
 ended_over time number t =
-    elim (eqb t.number number) as (λ b. eqb t.number number ≡ b → is_live number (cond b (ended time t) t) ≡ false) [
-      | true ↦ λ e. ap (λ x. eqb (ended time t).number number && not x) (ended_leaves time t) ∙ none (eqb (ended time t).number number)
+    elim (eqb t.number number) as (λ b. eqb t.number number ≡ b → is_live number (cond b (ended_at time t) t) ≡ false) [
+      | true ↦ λ e. ap (λ x. eqb (ended_at time t).number number && not x) (ended_leaves time t) ∙ none (eqb (ended_at time t).number number)
       | false ↦ λ e. ap (λ x. x && not (is_leaving t.condition)) e
     ] refl
   where
@@ -498,22 +498,22 @@ ended_over time number t =
     none true = refl
     none false = refl
 
-leave_goes : (n : ℕ) (b : Bool) (d : Domain) (number : ℕ) → HasNumbers d → is_refusal (leave_reply (task_of d number)) ≡ false → IsAt n d b → GoesOn n b (told_by_cut d number) (changed d number (ended d.time))
-leave_goes n b d number has granted at = record { after = b; steps = cut_steps n b d number; at = then }
+leave_goes : (n : ℕ) (b : Bool) (d : Domain) (number : ℕ) → HasNumbers d → is_refusal (leave_reply (task_of d number)) ≡ false → IsAt n d b → GoesOn n b (told_by_cut d number) (with_task_changed d number (ended_at d.time))
+leave_goes n b d number has after_granted at = record { after = b; steps = cut_steps n b d number; at = then }
   where
     differ : false ≡ true → ⊥
     differ e = absurd cc
 
-    mine : number ≡ n → IsAt n (changed d number (ended d.time)) b
+    mine : number ≡ n → IsAt n (with_task_changed d number (ended_at d.time)) b
     mine same =
-        let (t, found) = leave_found (task_of d number) granted in
-        let over : AreOver number (changed d number (ended d.time)).tasks = All-map (λ (u : Task). is_live number u ≡ false) (of_number number (ended d.time)) d.tasks (λ k e h. ended_over d.time number (get_or d.tasks k e)) in
-        inr (record { admitted = subst (λ (m : ℕ). IsAdmitted d.used m) same (found_admitted d number t has found); over = subst (λ (m : ℕ). AreOver m (changed d number (ended d.time)).tasks) same over })
+        let (t, found) = leave_found (task_of d number) after_granted in
+        let over : AreOver number (with_task_changed d number (ended_at d.time)).tasks = All-map (λ (u : Task). is_live number u ≡ false) (of_number number (ended_at d.time)) d.tasks (λ k e h. ended_over d.time number (get_or d.tasks k e)) in
+        inr (record { admitted = subst (λ (m : ℕ). IsAdmitted d.used m) same (found_admitted d number t has found); over = subst (λ (m : ℕ). AreOver m (with_task_changed d number (ended_at d.time)).tasks) same over })
 
-    then : IsAt n (changed d number (ended d.time)) b
-    then = elim (eqb number n) as (λ x. eqb number n ≡ x → IsAt n (changed d number (ended d.time)) b) [
+    then : IsAt n (with_task_changed d number (ended_at d.time)) b
+    then = elim (eqb number n) as (λ x. eqb number n ≡ x → IsAt n (with_task_changed d number (ended_at d.time)) b) [
       | true ↦ λ e. mine (eqb-true number n e)
-      | false ↦ λ e. other_at n b d number (ended d.time) (number_ended d.time) (λ same. differ (sym e ∙ eq-eqb number n same)) at
+      | false ↦ λ e. other_at n b d number (ended_at d.time) (number_ended d.time) (λ same. differ (sym e ∙ eq-eqb number n same)) at
     ] refl
 
 -- the others stay
@@ -537,21 +537,21 @@ departed_over number (t ∷ tasks) =
       | false ↦ λ e. All-cons (λ (u : Task). is_live number u ≡ false) t (filter (is_other number) tasks) (ap (λ x. x && not (is_leaving t.condition)) e) (departed_over number tasks)
     ] refl
 
-depart_goes : (n : ℕ) (b : Bool) (d : Domain) (number : ℕ) → HasNumbers d → is_refusal (depart_reply (task_of d number)) ≡ false → IsAt n d b → GoesOn n b (told_by_cut d number) (departed d number)
-depart_goes n b d number has granted at = record { after = b; steps = cut_steps n b d number; at = then }
+depart_goes : (n : ℕ) (b : Bool) (d : Domain) (number : ℕ) → HasNumbers d → is_refusal (depart_reply (task_of d number)) ≡ false → IsAt n d b → GoesOn n b (told_by_cut d number) (after_departure d number)
+depart_goes n b d number has after_granted at = record { after = b; steps = cut_steps n b d number; at = then }
   where
     differ : false ≡ true → ⊥
     differ e = absurd cc
 
-    mine : number ≡ n → IsAt n (departed d number) b
+    mine : number ≡ n → IsAt n (after_departure d number) b
     mine same =
-        let (t, found) = depart_found (task_of d number) granted in
-        inr (record { admitted = subst (λ (m : ℕ). IsAdmitted d.used m) same (found_admitted d number t has found); over = subst (λ (m : ℕ). AreOver m (departed d number).tasks) same (departed_over number d.tasks) })
+        let (t, found) = depart_found (task_of d number) after_granted in
+        inr (record { admitted = subst (λ (m : ℕ). IsAdmitted d.used m) same (found_admitted d number t has found); over = subst (λ (m : ℕ). AreOver m (after_departure d number).tasks) same (departed_over number d.tasks) })
 
-    then : IsAt n (departed d number) b
-    then = elim (eqb number n) as (λ x. eqb number n ≡ x → IsAt n (departed d number) b) [
+    then : IsAt n (after_departure d number) b
+    then = elim (eqb number n) as (λ x. eqb number n ≡ x → IsAt n (after_departure d number) b) [
       | true ↦ λ e. mine (eqb-true number n e)
-      | false ↦ λ e. quiet n b d (departed d number) (others_open n number d.tasks (λ same. differ (sym e ∙ eq-eqb number n same)))
+      | false ↦ λ e. quiet n b d (after_departure d number) (others_open n number d.tasks (λ same. differ (sym e ∙ eq-eqb number n same)))
           (λ is. record { admitted = is.admitted; over = All-filter (is_other number) (λ (t : Task). is_live n t ≡ false) d.tasks is.over }) at
     ] refl
 
@@ -560,22 +560,22 @@ depart_goes n b d number has granted at = record { after = b; steps = cut_steps 
 silent : (n : ℕ) (b : Bool) (e : Domain) → IsAt n e b → GoesOn n b [] e
 silent n b e at = goes_nowhere n b e at
 
-granted_goes : (n : ℕ) (b : Bool) (d : Domain) (c : Call) → HasNumbers d → is_refusal (reply_to d c) ≡ false → IsAt n d b → GoesOn n b (told_by_granted d c) (granted d c)
-granted_goes n b d (Admit number name params delay script) has is at = let t : Task = new_task d number name params delay script in silent n b (listed d t) (listed_at n b d t refl (fresh d number params is) at)
-granted_goes n b d (Regrade number params word) has is at = silent n b (changed d number (regraded params)) (regraded_at n b d number params at)
-granted_goes n b d (Wake number) has is at = silent n b (changed d number (released d.time)) (wake_at n b d number has is at)
+granted_goes : (n : ℕ) (b : Bool) (d : Domain) (c : Call) → HasNumbers d → is_refusal (reply_to d c) ≡ false → IsAt n d b → GoesOn n b (told_by_granted d c) (after_granted d c)
+granted_goes n b d (Admit number name params delay script) has is at = let t : Task = new_task d number name params delay script in silent n b (with_task_listed d t) (listed_at n b d t refl (fresh d number params is) at)
+granted_goes n b d (Regrade number params word) has is at = silent n b (with_task_changed d number (with_new_params params)) (regraded_at n b d number params at)
+granted_goes n b d (Wake number) has is at = silent n b (with_task_changed d number (blocked_until d.time)) (wake_at n b d number has is at)
 granted_goes n b d (Leave number) has is at = leave_goes n b d number has is at
 granted_goes n b d (Advance k) has is at = ticks_go k n b d has at
 granted_goes n b d (Limit limit word) has is at = silent n b (with_limit limit d) (quiet n b d (with_limit limit d) refl (λ o. record { admitted = o.admitted; over = o.over }) at)
 granted_goes n b d (Depart number) has is at = depart_goes n b d number has is at
-granted_goes n b d (Arrive number name params script) has is at = let t : Task = new_task d number name params 0 script in silent n b (listed d t) (listed_at n b d t refl (fresh d number params is) at)
+granted_goes n b d (Arrive number name params script) has is at = let t : Task = new_task d number name params 0 script in silent n b (with_task_listed d t) (listed_at n b d t refl (fresh d number params is) at)
 
 either_goes : (n : ℕ) (b refused : Bool) (d e : Domain) (hs : List Happened) → IsAt n d b → (refused ≡ false → GoesOn n b hs e) → GoesOn n b (cond refused [] hs) (cond refused d e)
 either_goes n b true d e hs at more = goes_nowhere n b d at
 either_goes n b false d e hs at more = more refl
 
 call_goes : (n : ℕ) (b : Bool) (d : Domain) (c : Call) → HasNumbers d → IsAt n d b → GoesOn n b (told_by_call d c) (after_call d c)
-call_goes n b d c has at = either_goes n b (is_refusal (reply_to d c)) d (granted d c) (told_by_granted d c) at (λ is. granted_goes n b d c has is at)
+call_goes n b d c has at = either_goes n b (is_refusal (reply_to d c)) d (after_granted d c) (told_by_granted d c) at (λ is. granted_goes n b d c has is at)
 
 calls_go : (n : ℕ) (b : Bool) (d : Domain) (calls : List Call) → HasNumbers d → IsAt n d b → GoesOn n b (told_by_calls d calls) (after_calls d calls)
 calls_go n b d [] has at = goes_nowhere n b d at
@@ -583,15 +583,15 @@ calls_go n b d (c ∷ calls) has at =
     let e : Domain = after_call d c in
     goes_more n b (told_by_call d c) (told_by_calls e calls) e (after_calls e calls) (call_goes n b d c has at) (λ a then. calls_go n a e calls (has_call d c has) then)
 
-has_opened : (cpus limit : ℕ) → HasNumbers (opened cpus limit)
+has_opened : (cpus limit : ℕ) → HasNumbers (empty_domain cpus limit)
 has_opened cpus limit = record { numbered = λ i j d less within. absurd (omega (arith, within)); known = All-nil (λ (t : Task). IsAdmitted [] t.number) }
 
 -- of a whole run, each task's throttles and replenishments come in turn
-pub run_turns : (cpus limit : ℕ) (calls : List Call) (n : ℕ) → come_in_turn false (of_task n (told_by_calls (opened cpus limit) calls)) ≡ true
-run_turns cpus limit calls n = (calls_go n false (opened cpus limit) calls (has_opened cpus limit) (inl refl)).steps.0
+pub run_turns : (cpus limit : ℕ) (calls : List Call) (n : ℕ) → come_in_turn false (of_task n (told_by_calls (empty_domain cpus limit) calls)) ≡ true
+run_turns cpus limit calls n = (calls_go n false (empty_domain cpus limit) calls (has_opened cpus limit) (inl refl)).steps.0
 
 -- so there are as many, or one throttle more
-pub run_counted : (cpus limit : ℕ) (calls : List Call) (n : ℕ) → let own = of_task n (told_by_calls (opened cpus limit) calls) in throttled_of own ≡ replenished_of own + bit (is_left_throttled false own)
+pub run_counted : (cpus limit : ℕ) (calls : List Call) (n : ℕ) → let own = of_task n (told_by_calls (empty_domain cpus limit) calls) in throttled_of own ≡ replenished_of own + bit (is_left_throttled false own)
 run_counted cpus limit calls n =
-    let own = of_task n (told_by_calls (opened cpus limit) calls) in
+    let own = of_task n (told_by_calls (empty_domain cpus limit) calls) in
     omega (arith, turns_counted own false (run_turns cpus limit calls n))

@@ -9,15 +9,15 @@ use Rattle.run_figures.specs.declared.counting.Ended.{Ended}
 use Rattle.run_figures.specs.declared.counting.Counts.{Counts}
 use Rattle.run_figures.specs.declared.throttle.Throttle.{Throttle}
 use Rattle.run_figures.specs.declared.told.Told.{Told}
-use Rattle.run_figures.specs.Jobs.{over_by, under_way}
+use Rattle.run_figures.specs.Jobs.{over_by, job_after}
 use Rattle.run_figures.specs.Figures.{Outcome, outcome_at, is_late}
-use Rattle.run_figures.specs.private.Telling.{IsUnderWay, IsWithinEnded, IsWithin, with_outcome, with_over, gap, throttle_by, told_after}
+use Rattle.run_figures.specs.private.Telling.{IsJobUnderWay, IsWithinEnded, IsToldWithin, with_outcome, with_over, gap, throttle_by, told_after}
 
-way_more : (n m : ℕ) (o : Option Job) → n ≤ m → IfSome o (IsUnderWay n) → IfSome o (IsUnderWay m)
+way_more : (n m : ℕ) (o : Option Job) → n ≤ m → IfSome o (IsJobUnderWay n) → IfSome o (IsJobUnderWay m)
 way_more n m None l h = tt
 way_more n m (Some j) l h = record { throttled = omega (arith, h.throttled); going = h.going }
 
-job_within : (n time : ℕ) (what : What) (o : Option Job) → IfSome o (IsUnderWay n) → IfSome (under_way time what o) (IsUnderWay (n + 1))
+job_within : (n time : ℕ) (what : What) (o : Option Job) → IfSome o (IsJobUnderWay n) → IfSome (job_after time what o) (IsJobUnderWay (n + 1))
 job_within n time JobEnds o h = tt
 job_within n time Cut o h = tt
 job_within n time (NextReleased d) o h = record { throttled = omega arith; going = refl }
@@ -41,7 +41,7 @@ end_within n ended j None small h = ended_more n (n + 1) ended (omega arith) h
 end_within n ended j (Some e) small h = one_within n ended (record { response = e - j.release; slack = pos j.deadline -ℤ pos e }) (omega (arith, small)) h
 
 -- a job that is under way did not end before
-over_within : (n end time : ℕ) (what : What) (o : Option Job) (c : Counts) → time < 2 ^ 64 → IfSome o (IsUnderWay n) → IfSome c.ended (IsWithinEnded n) → IfSome (with_over end c (over_by time what o)).ended (IsWithinEnded (n + 1))
+over_within : (n end time : ℕ) (what : What) (o : Option Job) (c : Counts) → time < 2 ^ 64 → IfSome o (IsJobUnderWay n) → IfSome c.ended (IsWithinEnded n) → IfSome (with_over end c (over_by time what o)).ended (IsWithinEnded (n + 1))
 over_within n end time what None c small way h = ended_more n (n + 1) c.ended (omega arith) h
 over_within n end time JobEnds (Some j) c small way h = end_within n c.ended (record j { ended = Some time }) (Some time) small h
 over_within n end time Cut (Some j) c small way h = end_within n c.ended (record j { cut = true }) j.ended (subst (λ (at : Option ℕ). IfSome at (λ e. e < 2 ^ 64)) (sym way.going) tt) h
@@ -82,7 +82,7 @@ us_within n time (Released d) t small h = omega arith
 us_within n time (WokenSpent d) t small h = omega (arith, gap_small t.since time)
 
 -- one entry more
-pub told_within : (n end : ℕ) (h : Happened) (t : Told) → h.time < 2 ^ 64 → IsWithin n t → IsWithin (n + 1) (told_after end h t)
+pub told_within : (n end : ℕ) (h : Happened) (t : Told) → h.time < 2 ^ 64 → IsToldWithin n t → IsToldWithin (n + 1) (told_after end h t)
 told_within n end h t small w = record {
   job = job_within n h.time h.what t.job w.job;
   ended = over_within n end h.time h.what t.job t.counts small w.job w.ended;
@@ -91,7 +91,7 @@ told_within n end h t small w = record {
   us = us_within n h.time h.what t.throttle small w.us;
 }
 
-pub within_more : (n m : ℕ) (t : Told) → n ≤ m → IsWithin n t → IsWithin m t
+pub within_more : (n m : ℕ) (t : Told) → n ≤ m → IsToldWithin n t → IsToldWithin m t
 within_more n m t l w = record {
   job = way_more n m t.job l w.job;
   ended = ended_more n m t.counts.ended l w.ended;

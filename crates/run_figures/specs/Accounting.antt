@@ -2,7 +2,7 @@
 use Rattle.std.specs.Prelude.{ℕ, ◌+◌, ◌-◌, ◌<◌, ◌≤◌, ◌^◌, ◌++◌, List, length, All, AllPairs, IsTrue}
 use Rattle.domain_run.specs.declared.happened.Happened.{Happened}
 use Rattle.domain_run.specs.Switch.{Switch}
-use Rattle.domain_run.specs.Switches.{is_before}
+use Rattle.domain_run.specs.Switches.{is_switch_before}
 use Rattle.run_figures.specs.declared.run.Admitted.{Admitted}
 use Rattle.run_figures.specs.Runs.{RunView}
 
@@ -42,7 +42,7 @@ pub record IsNextPiece (a : AccountingView) (happened : List Happened) (switches
   -- what is to come is later than the switches that were heard
   pub later : All (λ h. All (λ s. s.time < h.time) a.switches) happened
   -- switches are in their order, within the run and on the domain's CPUs
-  pub rising : AllPairs (λ a b. IsTrue (is_before a b)) (a.switches ++ switches)
+  pub rising : AllPairs (λ a b. IsTrue (is_switch_before a b)) (a.switches ++ switches)
   pub past : All (λ s. s.time ≤ a.time) switches
   pub inside : All (λ s. s.cpu < a.cpus) switches
   -- there are fewer than 2^64 - 1 of each

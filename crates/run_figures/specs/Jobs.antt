@@ -19,37 +19,37 @@ new_job time deadline =
 
 -- the job under way, where it is over by this: it ends, or is cut; and it is over where another one
 -- is released
-abbrev pub closed : ℕ → What → Job → Option Job
-closed time JobEnds job = Some (record job { ended = Some time })
-closed time Cut job = Some (record job { cut = true })
-closed time (NextReleased deadline) job = Some job
-closed time (Released deadline) job = Some job
-closed time (Spent deadline) job = None
-closed time (Replenished deadline) job = None
-closed time (WokenSpent deadline) job = None
+abbrev pub job_closed : ℕ → What → Job → Option Job
+job_closed time JobEnds job = Some (record job { ended = Some time })
+job_closed time Cut job = Some (record job { cut = true })
+job_closed time (NextReleased deadline) job = Some job
+job_closed time (Released deadline) job = Some job
+job_closed time (Spent deadline) job = None
+job_closed time (Replenished deadline) job = None
+job_closed time (WokenSpent deadline) job = None
 
 abbrev pub over_by : ℕ → What → Option Job → Option Job
 over_by time what None = None
-over_by time what (Some job) = closed time what job
+over_by time what (Some job) = job_closed time what job
 
 -- the job that is under way then
 abbrev pub once_more : Job → Job
 once_more job = record job { throttled = job.throttled + 1 }
 
-abbrev pub under_way : ℕ → What → Option Job → Option Job
-under_way time JobEnds job = None
-under_way time Cut job = None
-under_way time (NextReleased deadline) job = Some (new_job time deadline)
-under_way time (Released deadline) job = Some (new_job time deadline)
-under_way time (Spent deadline) job = option_map once_more job
-under_way time (Replenished deadline) job = job
-under_way time (WokenSpent deadline) job = option_map once_more job
+abbrev pub job_after : ℕ → What → Option Job → Option Job
+job_after time JobEnds job = None
+job_after time Cut job = None
+job_after time (NextReleased deadline) job = Some (new_job time deadline)
+job_after time (Released deadline) job = Some (new_job time deadline)
+job_after time (Spent deadline) job = option_map once_more job
+job_after time (Replenished deadline) job = job
+job_after time (WokenSpent deadline) job = option_map once_more job
 
 -- the jobs of a task in their order, of which one may be under way before
 abbrev pub jobs_from : Option Job → List Happened → List Job
 jobs_from job [] = option_to_list job
 jobs_from job (h ∷ hs) =
-    option_to_list (over_by h.time h.what job) ++ jobs_from (under_way h.time h.what job) hs
+    option_to_list (over_by h.time h.what job) ++ jobs_from (job_after h.time h.what job) hs
 
 -- the jobs that a domain's list tells of a task: the first is job 0
 abbrev pub jobs_of : List Happened → ℕ → List Job

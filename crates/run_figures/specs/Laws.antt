@@ -5,7 +5,7 @@ use Rattle.domain_run.specs.declared.happened.What.TheVariants.{JobEnds, NextRel
 use Rattle.domain_run.specs.declared.happened.Happened.{Happened}
 use Rattle.domain_run.specs.Switch.{Switch}
 use Rattle.domain_run.specs.declared.call.Call.{Call}
-use Rattle.domain_run.specs.Domain.{opened}
+use Rattle.domain_run.specs.Domain.{empty_domain}
 use Rattle.domain_run.specs.Happened.{told_by_calls}
 use Rattle.run_figures.specs.declared.run.Admitted.{Admitted}
 use Rattle.run_figures.specs.declared.figures.TaskFigures.{TaskFigures}
@@ -54,10 +54,10 @@ pub record AreReleased (happened : List Happened) (t : TaskJobsView) : Type 0 wh
 -- what a domain tells of some calls, from its opening on
 abbrev pub IsToldOfCalls : List Happened → Type 0
 IsToldOfCalls happened = (cpus : ℕ) × (limit : ℕ) × (calls : List Call)
-    × (happened ≡ told_by_calls (opened cpus limit) calls)
+    × (happened ≡ told_by_calls (empty_domain cpus limit) calls)
 
 -- a task is throttled as often as it is replenished, or once more: it is throttled at the end, or
 -- was cut while it was
-abbrev pub IsBalanced : List Happened → TaskFigures → Type 0
-IsBalanced happened t = t.throttled ≡ replenished_of (of_task t.number happened)
+abbrev pub ThrottlesBalance : List Happened → TaskFigures → Type 0
+ThrottlesBalance happened t = t.throttled ≡ replenished_of (of_task t.number happened)
     + (if is_left_throttled false (of_task t.number happened) then 1 else 0)

@@ -2,7 +2,7 @@
 use Rattle.std.specs.Prelude.{ℕ, ◌<◌, ◌≤◌, ◌≢◌, ◌^◌, List, All, AllPairs, IsTrue}
 use Rattle.domain_run.specs.declared.happened.Happened.{Happened}
 use Rattle.domain_run.specs.Switch.{Switch}
-use Rattle.domain_run.specs.Switches.{is_before}
+use Rattle.domain_run.specs.Switches.{is_switch_before}
 use Rattle.run_figures.specs.declared.run.Admitted.{Admitted}
 use Rattle.run_figures.specs.declared.run.Run.{Run}
 
@@ -15,8 +15,8 @@ pub record RunView : Type 0 where
   pub happened : List Happened
   pub switches : List Switch
 
-abbrev pub view_of : Run → RunView
-view_of r = record {
+abbrev pub run_view_of : Run → RunView
+run_view_of r = record {
   cpus = r.cpus;
   time = r.time;
   tasks = r.tasks.now;
@@ -31,10 +31,10 @@ pub record AreTasks (tasks : List Admitted) : Type 0 where
 
 -- what every domain keeps: at most 2^42 us (own), the switches in their order, within that time and
 -- on the domain's CPUs
-pub record IsRun (r : RunView) : Type 0 where
+pub record IsBoundedRun (r : RunView) : Type 0 where
   pub early : r.time ≤ 2 ^ 42
   pub cpus : r.cpus ≤ 64
   pub tasks : AreTasks r.tasks
   pub past : All (λ s. s.time ≤ r.time) r.switches
   pub inside : All (λ s. s.cpu < r.cpus) r.switches
-  pub rising : AllPairs (λ a b. IsTrue (is_before a b)) r.switches
+  pub rising : AllPairs (λ a b. IsTrue (is_switch_before a b)) r.switches

@@ -1,6 +1,7 @@
 -- The time of tasks on CPUs, read off the switches (own).
-use Rattle.std.specs.Prelude.{ℕ, ◌+◌, ◌-◌, ◌==◌, Bool, false, if◌then◌else◌, List, [], ◌∷◌, ◌++◌, filter, map, sum_by, Option, Some, None}
+use Rattle.std.specs.Prelude.{ℕ, ◌+◌, ◌-◌, ◌==◌, if◌then◌else◌, List, [], ◌∷◌, ◌++◌, filter, map, sum_by, Option, Some, None}
 use Rattle.domain_run.specs.Switch.{Switch}
+use Rattle.edf_pick.specs.Places.{is_task}
 
 -- when a CPU next switches, or the end of the run where it does not
 abbrev pub until : ℕ → ℕ → List Switch → ℕ
@@ -30,11 +31,6 @@ cpu_us time switches number =
 abbrev pub busy_us : ℕ → List Switch → ℕ → ℕ
 busy_us time switches cpu =
     sum_by (λ s. s.us) (filter (λ s. s.cpu == cpu) (stays time switches))
-
--- who comes or leaves is this task
-abbrev pub is_task : ℕ → Option ℕ → Bool
-is_task number None = false
-is_task number (Some n) = n == number
 
 -- the CPUs on which a task was placed, one after another
 abbrev pub placements : ℕ → List Switch → List ℕ

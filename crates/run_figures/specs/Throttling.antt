@@ -7,7 +7,7 @@ use Rattle.domain_run.specs.Switch.{Switch}
 use Rattle.domain_run.specs.declared.switch.PrevState.{PrevState}
 use Rattle.domain_run.specs.declared.switch.PrevState.TheVariants.{Running, Preempted, Sleeping, Dead}
 use Rattle.run_figures.specs.Jobs.{of_task}
-use Rattle.run_figures.specs.Stays.{is_task}
+use Rattle.edf_pick.specs.Places.{is_task}
 
 abbrev pub throttles : What → Bool
 throttles JobEnds = false

@@ -4,14 +4,14 @@ ghost use Rattle.std.specs.Prelude.{◌≡◌, ◌≤◌, ◌^◌, [], IfOk, All
 ghost use Rattle.run_figures.specs.Accounting.{IsNextPiece, heard_run, with_piece};
 ghost use Rattle.run_figures.specs.Figures as figures;
 ghost use Rattle.run_figures.specs.Laws as laws;
-ghost use Rattle.run_figures.specs.Runs.{AreTasks};
+ghost use Rattle.run_figures.specs.Runs.{AreTasks, IsBoundedRun, run_view_of};
 ghost use Rattle.run_figures.specs.private.Keeping as keeping;
 
 use crate::figures::Summary;
 use crate::past::Past;
 use crate::places::Places;
 use crate::ran::{Tables, put_switch};
-use crate::run::Admitted;
+use crate::run::{Admitted, Run};
 use crate::summary::{all_figures, cpu_figures};
 use crate::telling::{tell_all, tell_switch, tell_until, untold_all};
 use crate::told::Told;
@@ -42,15 +42,15 @@ pub struct Accounting {
 
 impl Model for Accounting {
     ghost use Rattle.run_figures.specs.Accounting.{AccountingView};
-    ghost use Rattle.run_figures.specs.private.Keeping.{IsKept, IsOfRun, view_of};
+    ghost use Rattle.run_figures.specs.private.Keeping.{IsAccountingKept, IsOfRun, accounting_view_of};
 
     ghost Value = { AccountingView };
 
-    ghost view = { λ a. view_of a.heard a.places };
+    ghost view = { λ a. accounting_view_of a.heard a.places };
 
-    ghost invariant = { λ a. IsKept (view_of a.heard a.places) a.told.items a.ran.tasks.items
-        a.ran.cpus.items
-        × IsOfRun (view_of a.heard a.places) };
+    ghost invariant = { λ a. IsAccountingKept (accounting_view_of a.heard a.places) a.told.items
+        a.ran.tasks.items a.ran.cpus.items
+        × IsOfRun (accounting_view_of a.heard a.places) };
 }
 
 /// Hears one piece more: each switch behind what happened up to its time.
@@ -62,12 +62,14 @@ fn hear_piece(
     happened: &[Happened],
     switches: &[Switch],
 )
-    requires kept { keeping.IsKept (keeping.view_of heard.now places.now) told.old.items
+    requires kept { keeping.IsAccountingKept (keeping.accounting_view_of heard.now places.now)
+        told.old.items
         ran.old.tasks.items ran.old.cpus.items }
-    requires run { keeping.IsOfRun (keeping.view_of heard.now places.now) }
-    requires next { IsNextPiece (keeping.view_of heard.now places.now) happened.now switches.now }
-    ensures { keeping.IsKept
-        (with_piece (keeping.view_of heard.now places.now) happened.now switches.now)
+    requires run { keeping.IsOfRun (keeping.accounting_view_of heard.now places.now) }
+    requires next { IsNextPiece (keeping.accounting_view_of heard.now places.now) happened.now
+        switches.now }
+    ensures { keeping.IsAccountingKept
+        (with_piece (keeping.accounting_view_of heard.now places.now) happened.now switches.now)
         told.new.items ran.new.tasks.items ran.new.cpus.items }
 {
     let mut from = 0;
@@ -152,11 +154,31 @@ impl Accounting {
         ensures shared { IfOk result (λ s. laws.AreKnown tasks.now self.now.switches
             → laws.IsShared s.tasks.items s.cpus.items) }
         ensures balanced { IfOk result (λ s. laws.IsToldOfCalls self.now.happened
-            → All (laws.IsBalanced self.now.happened) s.tasks.items) }
+            → All (laws.ThrottlesBalance self.now.happened) s.tasks.items) }
     {
         Ok(Summary {
             tasks: all_figures(alloc, tasks, &self.told, &self.ran.tasks, self.heard.time)?,
             cpus: cpu_figures(alloc, &self.ran.cpus)?,
         })
     }
+}
+
+/// The figures of a run: of each task, in the order of the tasks, and of each CPU of the domain.
+/// Goes once through what happened and the switches.
+///
+/// # Errors
+/// 12 [`NoMemory`]: a growth was refused; nothing is left.
+pub fn summary_of(alloc: Global, run: &Run<'_>) -> Result<Summary, NoMemory>
+    requires run { IsBoundedRun (run_view_of run.now) }
+    ensures tasks { IfOk result (λ s. s.tasks.items ≡ figures.task_figures (run_view_of run.now)) }
+    ensures cpus { IfOk result (λ s. s.cpus.items ≡ figures.cpu_figures (run_view_of run.now)) }
+    ensures short { IfOk result (λ s. laws.AreShort s.tasks.items s.cpus.items) }
+    ensures shared { IfOk result (λ s. laws.AreKnown run.now.tasks.now run.now.switches.now
+        → laws.IsShared s.tasks.items s.cpus.items) }
+    ensures balanced { IfOk result (λ s. laws.IsToldOfCalls run.now.happened.now
+        → All (laws.ThrottlesBalance run.now.happened.now) s.tasks.items) }
+{
+    let mut accounting = Accounting::open(alloc, run.cpus, run.time, run.tasks)?;
+    accounting.hear(run.happened, run.switches);
+    accounting.summary(alloc, run.tasks)
 }

@@ -35,7 +35,7 @@ fn new_job(release: u64, deadline: u64) -> Job
 
 /// The job, where it is over by this.
 fn closed(happened: &Happened, job: Job) -> Option<Job>
-    ensures { result ≡ jobs.closed happened.now.time happened.now.what job }
+    ensures { result ≡ jobs.job_closed happened.now.time happened.now.what job }
 {
     match happened.what {
         What::JobEnds => Some(Job {
@@ -75,7 +75,7 @@ fn once_more(job: Option<Job>) -> Option<Job>
 /// The job that is under way then.
 pub(crate) fn under_way(happened: &Happened, job: Option<Job>) -> Option<Job>
     requires room { IfSome job (λ j. j.throttled ≤ 2 ^ 64 - 2) }
-    ensures { result ≡ jobs.under_way happened.now.time happened.now.what job }
+    ensures { result ≡ jobs.job_after happened.now.time happened.now.what job }
 {
     match happened.what {
         What::JobEnds | What::Cut => None,

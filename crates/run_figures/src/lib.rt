@@ -21,11 +21,10 @@ mod telling;
 mod throttle;
 mod told;
 
-pub use accounting::Accounting;
+pub use accounting::{Accounting, summary_of};
 pub use domain_run::NoMemory;
 pub use figures::{CpuFigures, Responses, Summary, TaskFigures};
 pub use job::Job;
 pub use lines::{TaskJobs, jobs_of};
 pub use places::Places;
 pub use run::{Admitted, Run};
-pub use summary::summary_of;

@@ -39,9 +39,9 @@ struct Line {
 }
 
 impl Model for Line {
-    ghost use Rattle.run_figures.specs.private.LineView.{LineView};
+    ghost use Rattle.run_figures.specs.private.LineView.{JobLineView};
 
-    ghost Value = { LineView };
+    ghost Value = { JobLineView };
 
     ghost view = { λ l. record { number = l.number; over = l.over.items; job = l.job } };
 }

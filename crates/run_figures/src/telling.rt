@@ -13,10 +13,11 @@ use std::alloc::Global;
 /// Tells one entry.
 fn tell(told: &mut Vec<Told>, places: &Places, happened: &Happened, time: u64)
     requires keyed { map (λ t. t.number) told.old.items ≡ places.now }
-    requires room { All (telling.IsWithin (2 ^ 64 - 2)) told.old.items }
-    ensures told { told.new.items ≡ map (λ t. telling.told_if time t happened.now) told.old.items }
-    ensures within { (n : ℕ) → All (telling.IsWithin n) told.old.items
-        → All (telling.IsWithin (n + 1)) told.new.items }
+    requires room { All (telling.IsToldWithin (2 ^ 64 - 2)) told.old.items }
+    ensures told { told.new.items
+        ≡ map (λ t. telling.told_to_task time t happened.now) told.old.items }
+    ensures within { (n : ℕ) → All (telling.IsToldWithin n) told.old.items
+        → All (telling.IsToldWithin (n + 1)) told.new.items }
 {
     if let Some(place) = places.find(happened.number) {
         let after = told_after(&told[place], happened, time);
@@ -37,8 +38,8 @@ pub(crate) fn tell_until(
     ensures told { told.new.items
         ≡ map (telling.told_all end (take result happened.now)) told.old.items }
     ensures count { result ≡ prefix_len (λ h. nat_le h.time time) happened.now }
-    ensures within { (n : ℕ) → All (telling.IsWithin n) told.old.items
-        → All (telling.IsWithin (n + result)) told.new.items }
+    ensures within { (n : ℕ) → All (telling.IsToldWithin n) told.old.items
+        → All (telling.IsToldWithin (n + result)) told.new.items }
 {
     let mut count = 0;
     for entry in happened {
@@ -56,8 +57,8 @@ pub(crate) fn tell_all(told: &mut Vec<Told>, places: &Places, happened: &[Happen
     requires keyed { map (λ t. t.number) told.old.items ≡ places.now }
     requires room { telling.HaveRoomFor (length happened.now) told.old.items }
     ensures told { told.new.items ≡ map (telling.told_all end happened.now) told.old.items }
-    ensures within { (n : ℕ) → All (telling.IsWithin n) told.old.items
-        → All (telling.IsWithin (n + length happened.now)) told.new.items }
+    ensures within { (n : ℕ) → All (telling.IsToldWithin n) told.old.items
+        → All (telling.IsToldWithin (n + length happened.now)) told.new.items }
 {
     for entry in happened {
         tell(told, places, entry, end);
@@ -69,8 +70,8 @@ pub(crate) fn tell_switch(told: &mut Vec<Told>, places: &Places, switch: &Switch
     requires keyed { map (λ t. t.number) told.old.items ≡ places.now }
     requires room { All (λ t. t.preempted ≤ 2 ^ 64 - 2) told.old.items }
     ensures told { told.new.items ≡ map (telling.with_preemption switch.now) told.old.items }
-    ensures within { (n : ℕ) → All (telling.IsWithin n) told.old.items
-        → All (telling.IsWithin n) told.new.items }
+    ensures within { (n : ℕ) → All (telling.IsToldWithin n) told.old.items
+        → All (telling.IsToldWithin n) told.new.items }
 {
     let Some(number) = preempted_by(switch) else {
         return;
@@ -84,7 +85,7 @@ pub(crate) fn tell_switch(told: &mut Vec<Told>, places: &Places, switch: &Switch
 }
 
 pub(crate) fn untold_all(alloc: Global, tasks: &[Admitted]) -> Result<Vec<Told>, NoMemory>
-    ensures { IfOk result (λ v. v.items ≡ map (λ t. telling.untold t.number) tasks.now) }
+    ensures { IfOk result (λ v. v.items ≡ map (λ t. telling.nothing_told t.number) tasks.now) }
 {
     match tasks.iter().map(|task| untold(task.number)).collect(alloc) {
         Ok(told) => Ok(told),

@@ -23,7 +23,7 @@ pub(crate) struct Told {
 }
 
 pub(crate) fn untold(number: u32) -> Told
-    ensures { result ≡ telling.untold number }
+    ensures { result ≡ telling.nothing_told number }
 {
     Told {
         number,
@@ -55,9 +55,10 @@ pub(crate) fn with_over(counts: Counts, over: Option<Job>, time: u64) -> Counts
 
 /// What an entry of the task makes of it, where the run ends at this time.
 pub(crate) fn told_after(told: &Told, happened: &Happened, time: u64) -> Told
-    requires room { telling.IsWithin (2 ^ 64 - 2) told.now }
+    requires room { telling.IsToldWithin (2 ^ 64 - 2) told.now }
     ensures told { result ≡ telling.told_after time happened.now told.now }
-    ensures within { (n : ℕ) → telling.IsWithin n told.now → telling.IsWithin (n + 1) result }
+    ensures within { (n : ℕ) → telling.IsToldWithin n told.now
+        → telling.IsToldWithin (n + 1) result }
 {
     // Read, so that its range is known.
     let _time = happened.time;

@@ -35,12 +35,12 @@ abbrev pub part_of : SpanWords → Span
 part_of w = record { from = unwrap_or w.from 0; to = w.to }
 
 -- where it ends at the latest, in microseconds
-abbrev pub last_of : Span → ℕ
-last_of s = unwrap_or s.to (2 ^ 42)
+abbrev pub span_end : Span → ℕ
+span_end s = unwrap_or s.to (2 ^ 42)
 
 -- it begins before it ends
 abbrev pub is_part : Span → Bool
-is_part s = nat_lt s.from (last_of s) && nat_le (last_of s) (2 ^ 42)
+is_part s = nat_lt s.from (span_end s) && nat_le (span_end s) (2 ^ 42)
 
 abbrev pub span_of : SpanWords → Result Span WordsFault
 span_of w = if is_part (part_of w) then Ok (part_of w) else Err faults.Window
@@ -52,8 +52,8 @@ pub record IsAsAsked (s : Span) : Type 0 where
   pub to : (end to : ℕ) → s.to ≡ Some to → (window_of s end).to ≡ to
 
 -- no part is asked for
-abbrev pub uncut : SpanWords → Result (Unit {0}) WordsFault
-uncut w = if is_none w.from && is_none w.to then Ok tt else Err faults.NoChart
+abbrev pub no_part_asked : SpanWords → Result (Unit {0}) WordsFault
+no_part_asked w = if is_none w.from && is_none w.to then Ok tt else Err faults.NoChart
 
 -- the options that the words mean
 pub record AreMeant (w : Words) (o : Options) : Type 0 where

@@ -7,7 +7,7 @@ ghost use Rattle.std.specs.List.{slice_split};
 ghost use Rattle.domain_run.specs.Domain.{IsCpus, IsLimit};
 ghost use Rattle.run_options.specs.Options.{AreOptions};
 ghost use Rattle.run_options.specs.Words.{is_comma, IsList, limit_of};
-ghost use Rattle.run_options.specs.Words.{AreMeant, IsAsAsked, IsWordsFault, span_of, uncut, words_status};
+ghost use Rattle.run_options.specs.Words.{AreMeant, IsAsAsked, IsWordsFault, span_of, no_part_asked, words_status};
 
 use crate::options::{Options, Print};
 use attr_check::to_ratio;
@@ -207,7 +207,7 @@ pub fn read_span(words: SpanWords) -> Result<Span, WordsFault>
 /// # Errors
 /// [`WordsFault::NoChart`]: they ask for one.
 pub fn read_uncut(words: SpanWords) -> Result<(), WordsFault>
-    ensures { result ≡ uncut words }
+    ensures { result ≡ no_part_asked words }
 {
     if words.from.is_none() && words.to.is_none() {
         Ok(())

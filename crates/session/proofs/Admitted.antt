@@ -11,11 +11,11 @@ use Rattle.bw_gate.specs.Pieces.{BlankView}
 use Rattle.calls_text.specs.declared.section.Entry.{Entry}
 use Rattle.session.specs.declared.refusal.Refusal.{Refusal}
 use Rattle.session.specs.SessionId.{SessionId}
-use Rattle.session.specs.Asks.{Answer, IsLawful, Asked, Made, made_in, made_at, call_of, domain_of, entries_from, ClientView, pass_in, followed_by, Asks, IsHandAfterAll}
-use Rattle.session.specs.Admissions.{is_own, own_asked, refusal_of, refused_in}
+use Rattle.session.specs.Asks.{Answer, IsLawful, Asked, Made, made_in, made_at, admit_call, domain_with_cpus, entries_from, ClientView, client_pass_in, followed_by, Asks, IsHandAfterAll}
+use Rattle.session.specs.Admissions.{is_own, own_asked, refused_with, refused_in}
 use Rattle.session.specs.Admissions.{AllAsked}
 use Rattle.session.proofs.Closed.{by_place_more}
-use Rattle.session.specs.private.Admitting.{is_own_task, own_tasks, answered, AreAnswers, AsksOwn, SeatView, AsksSeat, IsSeat, HasRoom, AreSeats, AreAsked, IsUnion}
+use Rattle.session.specs.private.Admitting.{is_own_task, own_tasks, with_answers, AreAnswers, AsksOwn, SeatView, AsksSeat, IsSeat, HasRoom, HaveSeats, AreAsked, IsUnion}
 
 -- ---- one client after another list of tasks
 
@@ -30,13 +30,13 @@ entries_count : (client seq : ℕ) (xs : List Made) → length (entries_from cli
 entries_count client seq [] = refl
 entries_count client seq (x ∷ xs) = ap suc (entries_count client (seq + 1) xs)
 
-pub followed_more : (a b c : ClientView) (d : ℕ) (xs ys : List Made) → b.number ≡ a.number → pass_in b d ≡ followed_by a d xs → pass_in c d ≡ followed_by b d ys → pass_in c d ≡ followed_by a d (xs ++ ys)
+pub followed_more : (a b c : ClientView) (d : ℕ) (xs ys : List Made) → b.number ≡ a.number → client_pass_in b d ≡ followed_by a d xs → client_pass_in c d ≡ followed_by b d ys → client_pass_in c d ≡ followed_by a d (xs ++ ys)
 followed_more a b c d xs ys number first next =
-    let front = pass_in a d in
+    let front = client_pass_in a d in
     let made = entries_from a.number (length front) xs in
     let count : length (front ++ made) ≡ length front + length xs = length-append front made ∙ ap (λ (n : ℕ). length front + n) (entries_count a.number (length front) xs) in
     next
-    ∙ ap (λ (n : ℕ). pass_in b d ++ entries_from n (length (pass_in b d)) ys) number
+    ∙ ap (λ (n : ℕ). client_pass_in b d ++ entries_from n (length (client_pass_in b d)) ys) number
     ∙ ap (λ (l : List Entry). l ++ entries_from a.number (length l) ys) first
     ∙ ap (λ (n : ℕ). (front ++ made) ++ entries_from a.number n ys) count
     ∙ append_assoc front made (entries_from a.number (length front + length xs) ys)
@@ -49,7 +49,7 @@ hand_more id a b c (x ∷ xs) ys first next = (first.0, first.1, hand_more id fi
 pub asks_none : (id : SessionId) (c : ClientView) → Asks id c c []
 asks_none id c = record {
   lawful = All-nil (λ q. IsLawful id q.task q.answer);
-  made = record { number = refl; domains = refl; passes = λ d inside. sym (append-nil (pass_in c d)) };
+  made = record { number = refl; domains = refl; passes = λ d inside. sym (append-nil (client_pass_in c d)) };
   hand = refl;
 }
 
@@ -62,14 +62,14 @@ asks_more id a b c xs ys first next = record {
     passes = λ d inside.
         let there : d < length b.passes = omega (arith, inside, first.made.domains) in
         followed_more a b c d (made_in id d xs) (made_in id d ys) first.made.number (first.made.passes d inside) (next.made.passes d there)
-        ∙ ap (λ (l : List Made). followed_by a d l) (sym (filter_map-append (λ q. made_at d (domain_of id.cpu_sets q.task.cpus) (call_of q.task) q.answer) xs ys));
+        ∙ ap (λ (l : List Made). followed_by a d l) (sym (filter_map-append (λ q. made_at d (domain_with_cpus id.cpu_sets q.task.cpus) (admit_call q.task) q.answer) xs ys));
   };
   hand = hand_more id a.hand b.hand c.hand xs ys first.hand next.hand;
 }
 
 -- ---- the tasks of one client
 
-answered_more : (xs ys : List TaskSpecView) (ans bs : List Answer) → length ans ≡ length xs → answered (xs ++ ys) (ans ++ bs) ≡ answered xs ans ++ answered ys bs
+answered_more : (xs ys : List TaskSpecView) (ans bs : List Answer) → length ans ≡ length xs → with_answers (xs ++ ys) (ans ++ bs) ≡ with_answers xs ans ++ with_answers ys bs
 answered_more [] ys [] bs e = refl
 answered_more [] ys (a ∷ ans) bs e = absurd (omega (arith, e))
 answered_more (x ∷ xs) ys [] bs e = absurd (omega (arith, e))
@@ -92,8 +92,8 @@ own_next id n i ts t c d e ans a is before one =
     record {
       each = length-append ans (a ∷ []) ∙ (ap (λ (k : ℕ). k + 1) before.each ∙ (sym (length-append (own_tasks n i ts) (t ∷ [])) ∙ sym (ap length own)));
       asks = subst (λ (l : List Asked). Asks id c e l)
-          (sym (answered_more (own_tasks n i ts) (t ∷ []) ans (a ∷ []) before.each) ∙ ap (λ (l : List TaskSpecView). answered l (ans ++ a ∷ [])) (sym own))
-          (asks_more id c d e (answered (own_tasks n i ts) ans) (record { task = t; answer = a } ∷ []) before.asks one);
+          (sym (answered_more (own_tasks n i ts) (t ∷ []) ans (a ∷ []) before.each) ∙ ap (λ (l : List TaskSpecView). with_answers l (ans ++ a ∷ [])) (sym own))
+          (asks_more id c d e (with_answers (own_tasks n i ts) ans) (record { task = t; answer = a } ∷ []) before.asks one);
     }
 
 -- a task of another client
@@ -103,7 +103,7 @@ own_same id n i ts t c d ans is before =
     let own : own_tasks n i (ts ++ t ∷ []) ≡ own_tasks n i ts = own_more n i t ts false is ∙ append-nil (own_tasks n i ts) in
     record {
       each = before.each ∙ sym (ap length own);
-      asks = subst (λ (l : List TaskSpecView). Asks id c d (answered l ans)) (sym own) before.asks;
+      asks = subst (λ (l : List TaskSpecView). Asks id c d (with_answers l ans)) (sym own) before.asks;
     }
 
 -- ---- the union
@@ -116,7 +116,7 @@ pub record IsLeft {X : Type 0} (f : X → List Answer) (n : ℕ) (tasks rest : L
   pub count : length left ≡ n
   pub each : (i : ℕ) (x : X) → i < n → AreAnswers n i rest (f (get_or left i x))
   pub own : (i : ℕ) (x : X) → i < n
-      → own_asked n i asked ++ answered (own_tasks n i rest) (f (get_or left i x)) ≡ answered (own_tasks n i tasks) (f (get_or shares i x))
+      → own_asked n i asked ++ with_answers (own_tasks n i rest) (f (get_or left i x)) ≡ with_answers (own_tasks n i tasks) (f (get_or shares i x))
 
 -- before the first task
 pub all_left : {X : Type 0} (f : X → List Answer) (tasks : List TaskSpecView) (shares : List X)
@@ -140,7 +140,7 @@ asked_push n i asked q b e = filter-append (is_own n i) asked (q ∷ []) ∙ ap 
 -- what one share has for the tasks from t on, and for those behind it
 pub record IsShare (n i : ℕ) (rest : List TaskSpecView) (asked : List Asked) (share : List Answer) (whole : List Asked) : Type 0 where
   pub each : AreAnswers n i rest share
-  pub own : own_asked n i asked ++ answered (own_tasks n i rest) share ≡ whole
+  pub own : own_asked n i asked ++ with_answers (own_tasks n i rest) share ≡ whole
 
 share_next : (n i : ℕ) (t : TaskSpecView) (rest : List TaskSpecView) (asked : List Asked) (old new : List Answer) (a : Answer) (whole : List Asked) (b : Bool)
     → is_own_task n i t ≡ b → old ≡ cond b (a ∷ new) new → IsShare n i (t ∷ rest) asked old whole
@@ -151,10 +151,10 @@ share_next n i t rest asked old new a whole true is turn was =
     record {
       each = omega (arith, was.each, ap length tasks, ap length turn);
       own =
-          ap (λ (l : List Asked). l ++ answered (own_tasks n i rest) new) (asked_push n i asked q true is)
-          ∙ (append_assoc (own_asked n i asked) (q ∷ []) (answered (own_tasks n i rest) new)
-          ∙ (ap (λ (l : List TaskSpecView). own_asked n i asked ++ answered l (a ∷ new)) (sym tasks)
-          ∙ (ap (λ (l : List Answer). own_asked n i asked ++ answered (own_tasks n i (t ∷ rest)) l) (sym turn) ∙ was.own)));
+          ap (λ (l : List Asked). l ++ with_answers (own_tasks n i rest) new) (asked_push n i asked q true is)
+          ∙ (append_assoc (own_asked n i asked) (q ∷ []) (with_answers (own_tasks n i rest) new)
+          ∙ (ap (λ (l : List TaskSpecView). own_asked n i asked ++ with_answers l (a ∷ new)) (sym tasks)
+          ∙ (ap (λ (l : List Answer). own_asked n i asked ++ with_answers (own_tasks n i (t ∷ rest)) l) (sym turn) ∙ was.own)));
     }
 share_next n i t rest asked old new a whole false is turn was =
     let tasks : own_tasks n i (t ∷ rest) ≡ own_tasks n i rest = own_cons n i t rest false is in
@@ -162,9 +162,9 @@ share_next n i t rest asked old new a whole false is turn was =
     record {
       each = sym (ap length turn) ∙ (was.each ∙ ap length tasks);
       own =
-          ap (λ (l : List Asked). l ++ answered (own_tasks n i rest) new) (asked_push n i asked q false is ∙ append-nil (own_asked n i asked))
-          ∙ (ap (λ (l : List TaskSpecView). own_asked n i asked ++ answered l new) (sym tasks)
-          ∙ (ap (λ (l : List Answer). own_asked n i asked ++ answered (own_tasks n i (t ∷ rest)) l) (sym turn) ∙ was.own));
+          ap (λ (l : List Asked). l ++ with_answers (own_tasks n i rest) new) (asked_push n i asked q false is ∙ append-nil (own_asked n i asked))
+          ∙ (ap (λ (l : List TaskSpecView). own_asked n i asked ++ with_answers l new) (sym tasks)
+          ∙ (ap (λ (l : List Answer). own_asked n i asked ++ with_answers (own_tasks n i (t ∷ rest)) l) (sym turn) ∙ was.own));
     }
 
 -- the share of the place p gives its first answer, and the others stay
@@ -190,14 +190,14 @@ left_next {X} f n tasks rest t shares left d y a refused more some was first tol
     let p = (t.number - 1) % n in
     let q : Asked = record { task = t; answer = a } in
     let inside : p < length left = omega (arith, mod-lt (t.number - 1) some, was.count) in
-    let next : (i : ℕ) (x : X) → i < n → IsShare n i rest (was.asked ++ q ∷ []) (f (get_or (set left p y) i x)) (answered (own_tasks n i tasks) (f (get_or shares i x))) =
-    λ i x within. share_next n i t rest was.asked (f (get_or left i x)) (f (get_or (set left p y) i x)) a (answered (own_tasks n i tasks) (f (get_or shares i x))) (eqb p i) refl
+    let next : (i : ℕ) (x : X) → i < n → IsShare n i rest (was.asked ++ q ∷ []) (f (get_or (set left p y) i x)) (with_answers (own_tasks n i tasks) (f (get_or shares i x))) =
+    λ i x within. share_next n i t rest was.asked (f (get_or left i x)) (f (get_or (set left p y) i x)) a (with_answers (own_tasks n i tasks) (f (get_or shares i x))) (eqb p i) refl
     (turn_at f left p i x d y a (eqb p i) refl inside first)
     (record { each = was.each i x within; own = was.own i x within }) in
     record {
       asked = was.asked ++ q ∷ [];
       tasks_are = ap (λ (l : List TaskSpecView). l ++ rest) (map-append (λ q. q.task) was.asked (q ∷ [])) ∙ (append_assoc (map (λ q. q.task) was.asked) (t ∷ []) rest ∙ was.tasks_are);
-      refused_are = told ∙ (ap (λ (l : List (ℕ × Refusal)). l ++ refused_in (q ∷ [])) was.refused_are ∙ sym (filter_map-append (λ q. option_map (λ r. (q.task.number, r)) (refusal_of q.answer)) was.asked (q ∷ [])));
+      refused_are = told ∙ (ap (λ (l : List (ℕ × Refusal)). l ++ refused_in (q ∷ [])) was.refused_are ∙ sym (filter_map-append (λ q. option_map (λ r. (q.task.number, r)) (refused_with q.answer)) was.asked (q ∷ [])));
       count = length-set left p y ∙ was.count;
       each = λ i x within. (next i x within).each;
       own = λ i x within. (next i x within).own;
@@ -209,7 +209,7 @@ told_of refused (Some r) = omega (arith, length-append refused (r ∷ []))
 
 -- at most one is refused
 pub told_few : (refused : List (ℕ × Refusal)) (t : TaskSpecView) (a : Answer) → length (refused ++ refused_in (record { task = t; answer = a } ∷ [])) ≤ length refused + 1
-told_few refused t a = told_of refused (option_map (λ r. (t.number, r)) (refusal_of a))
+told_few refused t a = told_of refused (option_map (λ r. (t.number, r)) (refused_with a))
 
 -- there is an answer to the next task
 pub some_left : {X : Type 0} (f : X → List Answer) (n : ℕ) (tasks rest : List TaskSpecView) (t : TaskSpecView) (shares left : List X) (d : X) (refused : List (ℕ × Refusal))
@@ -236,9 +236,9 @@ union_of {X} f tasks shares left refused was =
           let within : i < n = omega (arith, inside, count) in
           let y : X = some_of shares (omega (arith, within)) in
           subst
-          (λ (k : ℕ). own_asked k i was.asked ≡ answered (own_tasks k i tasks) (slice_index_or (map f shares) i x))
+          (λ (k : ℕ). own_asked k i was.asked ≡ with_answers (own_tasks k i tasks) (slice_index_or (map f shares) i x))
           (sym count)
-          (sym (append-nil (own_asked n i was.asked)) ∙ (was.own i y within ∙ ap (λ (l : List Answer). answered (own_tasks n i tasks) l) (sym (get_or-map f shares i y x within))));
+          (sym (append-nil (own_asked n i was.asked)) ∙ (was.own i y within ∙ ap (λ (l : List Answer). with_answers (own_tasks n i tasks) l) (sym (get_or-map f shares i y x within))));
     }
 
 -- ---- all clients
@@ -267,8 +267,8 @@ pub all_asked : (id : SessionId) (tasks : List TaskSpecView) (before after : Lis
     → IsUnion tasks shares refused → AllAsked id tasks before after refused
 all_asked id tasks before after shares refused some places count each union =
     let n = length before in
-    let own : (i : ℕ) → i < n → own_asked n i union.asked ≡ answered (own_tasks n i tasks) (get_or shares i []) =
-    λ i within. subst (λ (k : ℕ). own_asked k i union.asked ≡ answered (own_tasks k i tasks) (get_or shares i [])) count (union.own i [] (omega (arith, within, count))) in
+    let own : (i : ℕ) → i < n → own_asked n i union.asked ≡ with_answers (own_tasks n i tasks) (get_or shares i []) =
+    λ i within. subst (λ (k : ℕ). own_asked k i union.asked ≡ with_answers (own_tasks k i tasks) (get_or shares i [])) count (union.own i [] (omega (arith, within, count))) in
     record {
       asked = union.asked;
       tasks_are = union.tasks_are;
@@ -287,7 +287,7 @@ seated_asks id tasks n i c e s answers seat asks =
 
 -- the clients at their seats
 pub all_seated : (id : SessionId) (tasks : List TaskSpecView) (before : List ClientView) (seats : List SeatView) (after : List ClientView) (shares : List (List Answer)) (refused : List (ℕ × Refusal))
-    → 0 < length before → AreSeats tasks before seats → AreAsked id tasks seats after shares → IsUnion tasks shares refused → AllAsked id tasks before after refused
+    → 0 < length before → HaveSeats tasks before seats → AreAsked id tasks seats after shares → IsUnion tasks shares refused → AllAsked id tasks before after refused
 all_seated id tasks before seats after shares refused some seated asked union =
     all_asked id tasks before after shares refused some (asked.count ∙ seated.count) (asked.shared ∙ seated.count)
     (λ i x inside.
@@ -352,13 +352,13 @@ threads_asked {H} id tasks f handles seats clients shares count at asked =
           subst (λ (t : SeatView). AsksSeat id tasks t (get_or clients i x) (get_or shares i [])) (get_or-map f handles i d s there ∙ at i d s inside) (asked.each i s x (omega (arith, there, all)));
     }
 
-pub have_room : (tasks : List TaskSpecView) (clients : List ClientView) (seats : List SeatView) → AreSeats tasks clients seats
+pub have_room : (tasks : List TaskSpecView) (clients : List ClientView) (seats : List SeatView) → HaveSeats tasks clients seats
     → (k : ℕ) (s : SeatView) → k < length seats → HasRoom tasks (get_or seats k s)
 have_room tasks clients seats seated k s inside = (seated.each k nobody s (omega (arith, inside, seated.count))).room
 
 -- each share has an answer for each of its client's tasks
 pub shares_answer : {S : Type 0} (id : SessionId) (tasks : List TaskSpecView) (g : S → List Answer) (before after : List ClientView) (seats : List SeatView) (shares : List S)
-    → AreSeats tasks before seats → AreAsked id tasks seats after (map g shares)
+    → HaveSeats tasks before seats → AreAsked id tasks seats after (map g shares)
     → (i : ℕ) (x : S) → i < length shares → AreAnswers (length shares) i tasks (g (get_or shares i x))
 shares_answer id tasks g before after seats shares seated asked i x inside =
     let count : length shares ≡ length before = sym (length-map shares g) ∙ asked.shared ∙ seated.count in

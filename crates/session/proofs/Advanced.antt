@@ -7,10 +7,10 @@ use Rattle.std.proofs.lemmas.List.{append-nil, get_or_default, get_or-set_same, 
 use Rattle.std.proofs.lemmas.List.Elements.{All-cons, All-head, All-tail, All-get_or}
 use Rattle.std.proofs.Math.Seq.{take-append_seam}
 use Rattle.pass_seats.specs.Lists.{PassView}
-use Rattle.domain_run.specs.Domain.{Domain, opened}
+use Rattle.domain_run.specs.Domain.{Domain, empty_domain}
 use Rattle.domain_run.specs.declared.happened.Happened.{Happened}
 use Rattle.domain_run.specs.Happened.{told_by_ticks}
-use Rattle.domain_run.specs.Log.{LogView, kept, Tells}
+use Rattle.domain_run.specs.Log.{LogView, if_wanted, Tells}
 use Rattle.domain_run.specs.Run.{run_of}
 use Rattle.domain_run.specs.declared.call.Call.TheVariants.{Advance}
 use Rattle.domain_run.specs.declared.call.Reply.{Reply}
@@ -33,15 +33,15 @@ use Rattle.session.specs.declared.report.Wanted.{Wanted}
 use Rattle.session.specs.declared.report.Wanted.TheVariants.{Switches, Happened as WhatHappened, Figures}
 use Rattle.session.specs.declared.ending_run.Told.{Told}
 use Rattle.session.specs.SessionId.{SessionId}
-use Rattle.session.specs.Asks.{ClientView, Makes, Made, entries_from, pass_in, followed_by}
+use Rattle.session.specs.Asks.{ClientView, Makes, Made, entries_from, client_pass_in, followed_by}
 use Rattle.session.specs.declared.report.Report.{Report}
-use Rattle.session.specs.Report.{IsReport, IsHistoryOf}
+use Rattle.session.specs.Report.{IsSessionReport, IsHistoryOf}
 use Rattle.session.specs.RunEnd.{advance_of, EndsWith}
 use Rattle.session.specs.private.Entering.{IsSessionBook, pass_after}
 use Rattle.session.specs.private.Parts.{AreSessionBooks}
 use Rattle.session.specs.private.Closing.{AreHistories, HaveEnded}
-use Rattle.session.specs.private.Ending.{MakesAll, IsEndBy, AllEnd, AllTellEnds, AreOpenLogs, AreEndLogs, AreAll, AreHeardEnds, AreToldAs, IsFullAmong, IsHeardOf, books_of, unheard}
-use Rattle.session.specs.RunEnd.{HaveAdvanced, AreHeard, AreLogged, IsFinished, IsFullWith, IsLeftAs, IsLogOf, IsStopped, run_in, told_at_end}
+use Rattle.session.specs.private.Ending.{MakesAll, IsEndBy, AllEnd, AllTellEnds, AreOpenLogs, AreEndLogs, AreAllHeard, AreHeardEnds, AreToldAs, IsFullAmong, IsHeardOf, books_of, unheard_ending}
+use Rattle.session.specs.RunEnd.{HaveAdvanced, AreHeard, AreLogged, IsFinished, IsFullWith, IsLeftAs, IsLogOf, IsRunStopped, run_in, told_at_end}
 use Rattle.session.proofs.Asked.{makes_at, makes_nothing}
 
 -- ---- one domain
@@ -65,16 +65,16 @@ makes_all c c' ps d ticks made p q old new reply was is number inside at client 
     (subst (λ (r : PassView Entry). q ≡ pass_after r (Advance ticks) (Ok (replies.Done ticks))) at becomes')
 
 -- what it left there, and elsewhere
-here : (b c : ClientView) (n d ticks : ℕ) → MakesAll b c n ticks → d < length b.passes → eqb n d ≡ true → pass_in c d ≡ followed_by b d (all_ticks ticks)
+here : (b c : ClientView) (n d ticks : ℕ) → MakesAll b c n ticks → d < length b.passes → eqb n d ≡ true → client_pass_in c d ≡ followed_by b d (all_ticks ticks)
 here b c n d ticks m inside is =
-    subst (λ (e : Bool). pass_in c d ≡ pass_in b d ++ entries_from b.number (length (pass_in b d)) (cons_option (cond e (Some (record { call = Advance ticks; reply = replies.Done ticks })) None) []))
+    subst (λ (e : Bool). client_pass_in c d ≡ client_pass_in b d ++ entries_from b.number (length (client_pass_in b d)) (cons_option (cond e (Some (record { call = Advance ticks; reply = replies.Done ticks })) None) []))
     is (m.passes d inside)
 
-elsewhere : (b c : ClientView) (n d ticks : ℕ) → MakesAll b c n ticks → d < length b.passes → eqb n d ≡ false → pass_in c d ≡ pass_in b d
+elsewhere : (b c : ClientView) (n d ticks : ℕ) → MakesAll b c n ticks → d < length b.passes → eqb n d ≡ false → client_pass_in c d ≡ client_pass_in b d
 elsewhere b c n d ticks m inside is =
-    subst (λ (e : Bool). pass_in c d ≡ pass_in b d ++ entries_from b.number (length (pass_in b d)) (cons_option (cond e (Some (record { call = Advance ticks; reply = replies.Done ticks })) None) []))
+    subst (λ (e : Bool). client_pass_in c d ≡ client_pass_in b d ++ entries_from b.number (length (client_pass_in b d)) (cons_option (cond e (Some (record { call = Advance ticks; reply = replies.Done ticks })) None) []))
     is (m.passes d inside)
-    ∙ append-nil (pass_in b d)
+    ∙ append-nil (client_pass_in b d)
 
 -- ---- one domain after the other
 
@@ -82,8 +82,8 @@ elsewhere b c n d ticks m inside is =
 pub record MakesFirst (n : ℕ) (c c' : ClientView) (made : List Made) : Type 0 where
   pub number : c'.number ≡ c.number
   pub domains : length c'.passes ≡ length c.passes
-  pub first : (d : ℕ) → d < n → d < length c.passes → pass_in c' d ≡ followed_by c d made
-  pub rest : (d : ℕ) → n ≤ d → d < length c.passes → pass_in c' d ≡ pass_in c d
+  pub first : (d : ℕ) → d < n → d < length c.passes → client_pass_in c' d ≡ followed_by c d made
+  pub rest : (d : ℕ) → n ≤ d → d < length c.passes → client_pass_in c' d ≡ client_pass_in c d
 
 pub makes_more : (n m ticks : ℕ) (a b c : ClientView) → m ≡ n + 1 → MakesFirst n a b (all_ticks ticks) → MakesAll b c n ticks → MakesFirst m a c (all_ticks ticks)
 makes_more n m ticks a b c more before last = record {
@@ -96,18 +96,18 @@ makes_more n m ticks a b c more before last = record {
     short : (d : ℕ) → d < length a.passes → d < length b.passes
     short d inside = omega (arith, inside, before.domains)
 
-    by : (d : ℕ) → d < m → d < length a.passes → (e : Bool) → eqb n d ≡ e → pass_in c d ≡ followed_by a d (all_ticks ticks)
+    by : (d : ℕ) → d < m → d < length a.passes → (e : Bool) → eqb n d ≡ e → client_pass_in c d ≡ followed_by a d (all_ticks ticks)
     by d upto inside true is =
         let at = eqb-true n d is in
         let same = before.rest d (omega (arith, at)) inside in
         here b c n d ticks last (short d inside) is
-        ∙ ap (λ (k : ℕ). pass_in b d ++ entries_from k (length (pass_in b d)) (all_ticks ticks)) before.number
+        ∙ ap (λ (k : ℕ). client_pass_in b d ++ entries_from k (length (client_pass_in b d)) (all_ticks ticks)) before.number
         ∙ ap (λ (es : List Entry). es ++ entries_from a.number (length es) (all_ticks ticks)) same
     by d upto inside false is =
         let other = eqb-false n d is in
         elsewhere b c n d ticks last (short d inside) is ∙ before.first d (omega (arith, upto, more, other)) inside
 
-    behind_by : (d : ℕ) → m ≤ d → d < length a.passes → (e : Bool) → eqb n d ≡ e → pass_in c d ≡ pass_in a d
+    behind_by : (d : ℕ) → m ≤ d → d < length a.passes → (e : Bool) → eqb n d ≡ e → client_pass_in c d ≡ client_pass_in a d
     behind_by d behind inside true is = let at = eqb-true n d is in absurd (omega (arith, at, behind, more))
     behind_by d behind inside false is = elsewhere b c n d ticks last (short d inside) is ∙ before.rest d (omega (arith, behind, more)) inside
 
@@ -120,7 +120,7 @@ makes_everywhere duration n a c some count m = record {
   number = m.number;
   domains = m.domains;
   passes = λ d inside.
-      subst (λ (ms : List Made). pass_in c d ≡ followed_by a d ms) (sym (advance_is duration some)) (m.first d (omega (arith, inside, count)) inside);
+      subst (λ (ms : List Made). client_pass_in c d ≡ followed_by a d ms) (sym (advance_is duration some)) (m.first d (omega (arith, inside, count)) inside);
 }
 
 -- ---- all clients
@@ -238,7 +238,7 @@ pub heard_as : (r : Result AccountingView EndFault) (P Q : AccountingView → Ty
 heard_as (Ok a) P Q is f = f a is
 heard_as (Err e) P Q is f = tt
 
-pub stopped_as : (r : Result AccountingView EndFault) (Q : Type 0) → IfErr r (IsStopped ⊥) → IfErr r (IsStopped Q)
+pub stopped_as : (r : Result AccountingView EndFault) (Q : Type 0) → IfErr r (IsRunStopped ⊥) → IfErr r (IsRunStopped Q)
 stopped_as (Ok a) Q is = tt
 stopped_as (Err faults.Full) Q is = absurd is
 stopped_as (Err faults.Memory) Q is = tt
@@ -284,7 +284,7 @@ log_of wanted told before after is tells = record {
   alike = tells.wanted ∙ is.alike;
   has = λ yes.
       tells.happened
-      ∙ ap (λ (hs : List Happened). hs ++ kept before told) (is.has yes)
+      ∙ ap (λ (hs : List Happened). hs ++ if_wanted before told) (is.has yes)
       ∙ ap (λ (b : Bool). cond b told []) (is.alike ∙ yes);
 }
 
@@ -309,7 +309,7 @@ open_is_end wanted ticks books logs none is = record {
 -- ---- an advance that was not made
 
 -- what is said of a full book, said otherwise
-pub stopped_so : (P Q : Type 0) (e : EndFault) → (P → Q) → IsStopped P e → IsStopped Q e
+pub stopped_so : (P Q : Type 0) (e : EndFault) → (P → Q) → IsRunStopped P e → IsRunStopped Q e
 stopped_so P Q faults.Full f met = f met
 stopped_so P Q faults.Memory f met = tt
 
@@ -322,7 +322,7 @@ full_among n duration books b a c c' there inside some made full same = record {
   place = omega (arith, there, length-set books n b);
   full = λ x. subst IsFull (sym (get_or-set_same books n b x there)) full;
   number = ap (λ (v : ClientView). v.number) same ∙ made.number;
-  kept = ap (λ (v : ClientView). pass_in v n) same ∙ made.rest n (omega arith) inside;
+  kept = ap (λ (v : ClientView). client_pass_in v n) same ∙ made.rest n (omega arith) inside;
 }
 
 -- ---- what was heard
@@ -411,7 +411,7 @@ record IsBookAt (id : SessionId) (b : BookView) (h : SectionView) : Type 0 where
 book_at : (id : SessionId) (cs : List ClientView) (books : List EndingView) (histories : List SectionView) (states : List Domain) (d : ℕ) (s : SectionView) → HaveEnded books histories states → length books ≡ length histories → AreSessionBooks id (books_of books)
     → d < length histories → IsHistoryOf id d cs (get_or histories d s) → IsBookAt id (get_or (books_of books) d (no_book id)) (get_or histories d s)
 book_at id cs books histories states d s ended count named inside left =
-    let e = unheard (no_book id) in
+    let e = unheard_ending (no_book id) in
     let place : d < length books = omega (arith, inside, count) in
     let there : d < length (books_of books) = omega (arith, place, length-map books (λ (e : EndingView). e.book)) in
     let at : get_or (books_of books) d (no_book id) ≡ (get_or books d e).book = get_or-map (λ (e : EndingView). e.book) books d e (no_book id) place in
@@ -419,7 +419,7 @@ book_at id cs books histories states d s ended count named inside left =
     record {
       cpus = book.cpus ∙ sym left.cpus;
       limit = book.limit ∙ sym left.limit;
-      entries = ap (λ (b : BookView). b.history) at ∙ sym (ended.each d e s (opened 0 0) inside).entries;
+      entries = ap (λ (b : BookView). b.history) at ∙ sym (ended.each d e s (empty_domain 0 0) inside).entries;
       room = book.room;
     }
 
@@ -429,14 +429,14 @@ by_book f id b h is =
     ap (λ (n : ℕ). f n b.limit b.history) is.cpus ∙ ap (λ (n : ℕ). f h.cpus n b.history) is.limit ∙ ap (f h.cpus h.limit) is.entries
 
 -- the runs of the histories, or what is left of them
-runs_left : (heard : Bool) (books : List EndingView) (histories : List SectionView) (states : List Domain) (id : SessionId) → HaveEnded books histories states → length books ≡ length histories → AreAll heard books
+runs_left : (heard : Bool) (books : List EndingView) (histories : List SectionView) (states : List Domain) (id : SessionId) → HaveEnded books histories states → length books ≡ length histories → AreAllHeard heard books
     → (d : ℕ) (s : SectionView) (x : Domain) → d < length histories → get_or states d x ≡ left_of heard (run_in (get_or histories d s))
 runs_left heard books histories states id ended count all d s x inside =
-    let e = unheard (no_book id) in
+    let e = unheard_ending (no_book id) in
     (ended.each d e s x inside).run ∙ ap (λ (b : Bool). left_of b (run_in (get_or histories d s))) (all d e (omega (arith, inside, count)))
 
 logged : (id : SessionId) (cs : List ClientView) (duration : ℕ) (wanted : Bool) (books : List EndingView) (f : Finished) (t : Told) → HaveEnded books f.report.histories.items f.states.items → length books ≡ length f.report.histories.items
-    → AreSessionBooks id (books_of books) → AreHistories id cs f.report.histories.items → f.logs ≡ t.logs → AreAll false books → AreEndLogs wanted duration (books_of books) t.logs.items → AreLogged duration wanted f
+    → AreSessionBooks id (books_of books) → AreHistories id cs f.report.histories.items → f.logs ≡ t.logs → AreAllHeard false books → AreEndLogs wanted duration (books_of books) t.logs.items → AreLogged duration wanted f
 logged id cs duration wanted books f t ended count named left same all logs =
     let histories = f.report.histories.items in
     let items : f.logs.items ≡ t.logs.items = ap (λ v. v.items) same in
@@ -453,7 +453,7 @@ logged id cs duration wanted books f t ended count named left same all logs =
     }
 
 all_heard : (id : SessionId) (cs : List ClientView) (duration : ℕ) (books : List EndingView) (f : Finished) (t : Told) → HaveEnded books f.report.histories.items f.states.items → length books ≡ length f.report.histories.items
-    → AreSessionBooks id (books_of books) → AreHistories id cs f.report.histories.items → f.heard ≡ t.heard → AreAll true books → AreHeardEnds duration (books_of books) t.heard.items → AreHeard duration f
+    → AreSessionBooks id (books_of books) → AreHistories id cs f.report.histories.items → f.heard ≡ t.heard → AreAllHeard true books → AreHeardEnds duration (books_of books) t.heard.items → AreHeard duration f
 all_heard id cs duration books f t ended count named left same all heard =
     let histories = f.report.histories.items in
     let items : f.heard.items ≡ t.heard.items = ap (λ v. v.items) same in
@@ -476,7 +476,7 @@ left_as id cs duration WhatHappened books f t ended count named left logs heard 
 left_as id cs duration Figures books f t ended count named left logs heard told = all_heard id cs duration books f t ended count named left heard told.0 told.1
 
 pub is_finished : (id : SessionId) (duration : ℕ) (wanted : Wanted) (cs es : List ClientView) (books : List EndingView) (f : Finished) (t : Told)
-    → HaveAdvanced duration cs es → IsReport id es f.report → HaveEnded books f.report.histories.items f.states.items → length books ≡ length id.cpu_sets → AreSessionBooks id (books_of books) → AllEnd duration (books_of books)
+    → HaveAdvanced duration cs es → IsSessionReport id es f.report → HaveEnded books f.report.histories.items f.states.items → length books ≡ length id.cpu_sets → AreSessionBooks id (books_of books) → AllEnd duration (books_of books)
     → AreToldAs duration wanted books t → f.logs ≡ t.logs → f.heard ≡ t.heard → IsFinished id duration wanted cs f
 is_finished id duration wanted cs es books f t advanced is ended count named end told logs heard =
     let histories = f.report.histories.items in
@@ -495,18 +495,18 @@ is_finished id duration wanted cs es books f t advanced is ended count named end
     }
 
 -- what the clients have in a domain in which the first of them has entered nothing more
-kept_own : (d : ℕ) (history : List Entry) (cs : List ClientView) (b c : ClientView) → 0 < length cs → b ≡ get_or cs 0 b → c.number ≡ b.number → pass_in c d ≡ pass_in b d
-    → All (λ (v : ClientView). pass_in v d ≡ own_entries v.number history) (set cs 0 c) → All (λ (v : ClientView). pass_in v d ≡ own_entries v.number history) cs
-kept_own d history [] b c some first number kept own = absurd (omega (arith, some))
-kept_own d history (v ∷ cs) b c some first number kept own =
-    let is : pass_in c d ≡ own_entries c.number history = All-head (λ (v : ClientView). pass_in v d ≡ own_entries v.number history) c cs own in
-    All-cons (λ (v : ClientView). pass_in v d ≡ own_entries v.number history) v cs
-    (subst (λ (w : ClientView). pass_in w d ≡ own_entries w.number history) first (sym kept ∙ is ∙ ap (λ (n : ℕ). own_entries n history) number))
-    (All-tail (λ (v : ClientView). pass_in v d ≡ own_entries v.number history) c cs own)
+kept_own : (d : ℕ) (history : List Entry) (cs : List ClientView) (b c : ClientView) → 0 < length cs → b ≡ get_or cs 0 b → c.number ≡ b.number → client_pass_in c d ≡ client_pass_in b d
+    → All (λ (v : ClientView). client_pass_in v d ≡ own_entries v.number history) (set cs 0 c) → All (λ (v : ClientView). client_pass_in v d ≡ own_entries v.number history) cs
+kept_own d history [] b c some first number if_wanted own = absurd (omega (arith, some))
+kept_own d history (v ∷ cs) b c some first number if_wanted own =
+    let is : client_pass_in c d ≡ own_entries c.number history = All-head (λ (v : ClientView). client_pass_in v d ≡ own_entries v.number history) c cs own in
+    All-cons (λ (v : ClientView). client_pass_in v d ≡ own_entries v.number history) v cs
+    (subst (λ (w : ClientView). client_pass_in w d ≡ own_entries w.number history) first (sym if_wanted ∙ is ∙ ap (λ (n : ℕ). own_entries n history) number))
+    (All-tail (λ (v : ClientView). client_pass_in v d ≡ own_entries v.number history) c cs own)
 
 -- a full book is closed as it was found
 pub full_with : (id : SessionId) (duration : ℕ) (cs : List ClientView) (b c : ClientView) (books : List EndingView) (r : Report) (states : List Domain) → 0 < length cs → b ≡ get_or cs 0 b
-    → IsReport id (set cs 0 c) r → HaveEnded books r.histories.items states → length books ≡ length id.cpu_sets → AreSessionBooks id (books_of books)
+    → IsSessionReport id (set cs 0 c) r → HaveEnded books r.histories.items states → length books ≡ length id.cpu_sets → AreSessionBooks id (books_of books)
     → IsFullAmong duration (books_of books) b c → IsFullWith id duration cs
 full_with id duration cs b c books r states some first is ended count named met =
     let d = met.domain in

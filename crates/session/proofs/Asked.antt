@@ -15,19 +15,19 @@ use Rattle.domain_run.specs.declared.call.Reply.TheVariants as replies
 use Rattle.rtapp_scenario.specs.ScenarioView.{TaskSpecView}
 use Rattle.pass_seats.specs.Lists.{PassView}
 use Rattle.bw_gate.specs.Word.{used_of, cap_of, IsCap}
-use Rattle.bw_gate.specs.Pieces.{GateId, BlankView, TicketView, last_of, cpus_of as gate_cpus}
+use Rattle.bw_gate.specs.Pieces.{GateId, BlankView, TicketView, last_word_found, cpus_of as gate_cpus}
 use Rattle.bw_gate.specs.Answers.{IsTake, IsGive, words_of}
 use Rattle.bw_gate.specs.declared.answer.Take.TheVariants as takes
 use Rattle.calls_text.specs.declared.section.Entry.{Entry}
 use Rattle.session.specs.declared.refusal.Refusal.{Refusal}
 use Rattle.session.specs.declared.refusal.Refusal.TheVariants as refusals
-use Rattle.session.specs.SessionId.{SessionId, IsSession, IsDomainIndex, cpus_of}
-use Rattle.session.specs.Asks.{Answer, IsOverCap, IsLawful, Goes, domain_of, same_cpus, call_of, ClientView, Asks, Makes, made_by, made_in, made_of, made_at, Made, entries_from, pass_in, piece_of, IsGateRefusal, IsGivenBackAfter, AsksGate, IsHandAfter, IsLimitReply, IsHandUnasked, MakesLimit}
+use Rattle.session.specs.SessionId.{SessionId, IsSession, IsDomainIndex, cpu_set_of}
+use Rattle.session.specs.Asks.{Answer, IsOverCap, IsLawful, Goes, domain_with_cpus, same_cpus, admit_call, ClientView, Asks, Makes, made_by, made_in, made_of, made_at, Made, entries_from, client_pass_in, blank_or_new, IsGateRefusal, IsGivenBackAfter, AsksGate, IsHandAfter, IsLimitReply, IsHandUnasked, MakesLimit}
 use Rattle.call_book.specs.Book.{admission}
 use Rattle.domain_run.specs.declared.call.Call.TheVariants as calls
 use Rattle.session.specs.declared.locked_book.Ask.{Ask}
 use Rattle.session.specs.declared.locked_book.Ask.TheVariants as asks
-use Rattle.session.specs.private.Entering.{IsVerdict, IsBookVerdict, IsGivenBack, NoneIsKept, pass_after, IsDone, IsDoneFor, MakesLimitWith, IsAdvancedBy, IsAdvancedFor}
+use Rattle.session.specs.private.Entering.{IsEntryVerdict, IsBookVerdict, IsGivenBack, NoneIsKept, pass_after, IsDone, IsDoneFor, MakesLimitWith, IsAdvancedBy, IsAdvancedFor}
 
 -- ---- attributes
 
@@ -44,7 +44,7 @@ placed : (b : Bool) (n d k : ℕ) → cond b (Some n) None ≡ Some d → nat_lt
 placed true n d k e is = let same = same_Some n d e in omega (arith, same, ltb-true n k is)
 placed false n d k e is = absurd cc
 
-pub is_place : (id : SessionId) (cpus : Option (List ℕ)) (d : ℕ) → IsSession id → domain_of id.cpu_sets cpus ≡ Some d → IsDomainIndex id d
+pub is_place : (id : SessionId) (cpus : Option (List ℕ)) (d : ℕ) → IsSession id → domain_with_cpus id.cpu_sets cpus ≡ Some d → IsDomainIndex id d
 is_place id None d s e = let same = same_Some 0 d e in omega (arith, s.some, same)
 is_place id (Some cpus) d s e = placed (nat_lt (position_or_len (same_cpus cpus) id.cpu_sets) (length id.cpu_sets)) (position_or_len (same_cpus cpus) id.cpu_sets) d (length id.cpu_sets) e refl
 
@@ -61,7 +61,7 @@ position_of f p xs =
 
 -- ---- answers
 
-pub lawful_of : (id : SessionId) (t : TaskSpecView) (d : ℕ) (answer : Answer) → Goes id t d → IsVerdict (length (cpus_of id d)) (params_of t.attr).bw answer → IsLawful id t answer
+pub lawful_of : (id : SessionId) (t : TaskSpecView) (d : ℕ) (answer : Answer) → Goes id t d → IsEntryVerdict (length (cpu_set_of id d)) (params_of t.attr).bw answer → IsLawful id t answer
 lawful_of id t d (Ok replies.Admitted) g v = (d, g)
 lawful_of id t d (Ok (replies.Busy seen)) g v = (d, g, v)
 lawful_of id t d (Ok replies.Changed) g v = v
@@ -149,7 +149,7 @@ granted_asks gate d cpus bw b t (Err (refusals.Stale p)) hand taken v given = ab
 granted_asks gate d cpus bw b t (Err refusals.SameDomain) hand taken v given = absurd v
 
 -- a new piece is that of a client that has none
-new_asks : (gate : GateId) (d bw : ℕ) (answer : Answer) (next : Option BlankView) → AsksGate gate d bw (Some (piece_of gate None)) answer next → AsksGate gate d bw None answer next
+new_asks : (gate : GateId) (d bw : ℕ) (answer : Answer) (next : Option BlankView) → AsksGate gate d bw (Some (blank_or_new gate None)) answer next → AsksGate gate d bw None answer next
 new_asks gate d bw (Ok replies.Admitted) next h = h
 new_asks gate d bw (Ok (replies.Busy seen)) next h = h
 new_asks gate d bw (Ok replies.Changed) next h = h
@@ -175,7 +175,7 @@ new_asks gate d bw (Err refusals.SameDomain) next h = h
 
 -- an admission with the piece that was found for it
 pub found_asks : (gate : GateId) (d bw : ℕ) (hand : Option BlankView) (b : BlankView) (answer : Answer) (next : Option BlankView)
-    → b ≡ piece_of gate hand → AsksGate gate d bw (Some b) answer next → AsksGate gate d bw hand answer next
+    → b ≡ blank_or_new gate hand → AsksGate gate d bw (Some b) answer next → AsksGate gate d bw hand answer next
 found_asks gate d bw (Some c) b answer next is h = subst (λ (x : BlankView). AsksGate gate d bw (Some x) answer next) is h
 found_asks gate d bw None b answer next is h = new_asks gate d bw answer next (subst (λ (x : BlankView). AsksGate gate d bw (Some x) answer next) is h)
 
@@ -186,7 +186,7 @@ pub makes_nothing : (c c' : ClientView) → c'.number ≡ c.number → c'.passes
 makes_nothing c c' number passes = record {
   number = number;
   domains = ap length passes;
-  passes = λ d inside. ap (λ (ps : List (List Entry)). slice_index_or ps d []) passes ∙ sym (append-nil (pass_in c d));
+  passes = λ d inside. ap (λ (ps : List (List Entry)). slice_index_or ps d []) passes ∙ sym (append-nil (client_pass_in c d));
 }
 
 neither : (b : Bool) → cond {A = Option Made} b None None ≡ None
@@ -203,9 +203,9 @@ refused_at e None call r = refl
 refused_at e (Some d) call r = neither (eqb d e)
 
 -- what was made for a list of one task
-pub makes_one : (id : SessionId) (c c' : ClientView) (t : TaskSpecView) (d : ℕ) (answer : Answer) → domain_of id.cpu_sets t.cpus ≡ Some d → Makes c c' (made_by d (call_of t) answer) → Makes c c' (λ e. made_in id e (record { task = t; answer = answer } ∷ []))
+pub makes_one : (id : SessionId) (c c' : ClientView) (t : TaskSpecView) (d : ℕ) (answer : Answer) → domain_with_cpus id.cpu_sets t.cpus ≡ Some d → Makes c c' (made_by d (admit_call t) answer) → Makes c c' (λ e. made_in id e (record { task = t; answer = answer } ∷ []))
 makes_one id c c' t d answer is m =
-    subst (λ (o : Option ℕ). Makes c c' (λ e. cons_option (made_at e o (call_of t) answer) [])) (sym is) m
+    subst (λ (o : Option ℕ). Makes c c' (λ e. cons_option (made_at e o (admit_call t) answer) [])) (sym is) m
 
 -- at one place
 entered : (number : ℕ) (p q : PassView Entry) (call : Call) (answer : Answer) → p.client ≡ number → q ≡ pass_after p call answer
@@ -241,8 +241,8 @@ makes_at c c' ps d x q call answer old new number inside client becomes = record
   passes = λ e there.
       let here : e < length ps = omega (arith, there, ap length old, length-map ps (λ (p : PassView Entry). p.entries)) in
       let here' : e < length (set ps d q) = omega (arith, here, length-set ps d q) in
-      let was : pass_in c e ≡ (get_or ps e x).entries = ap (λ (l : List (List Entry)). slice_index_or l e []) old ∙ entries_at ps e x here in
-      let is : pass_in c' e ≡ (get_or (set ps d q) e x).entries = ap (λ (l : List (List Entry)). slice_index_or l e []) new ∙ entries_at (set ps d q) e x here' in
+      let was : client_pass_in c e ≡ (get_or ps e x).entries = ap (λ (l : List (List Entry)). slice_index_or l e []) old ∙ entries_at ps e x here in
+      let is : client_pass_in c' e ≡ (get_or (set ps d q) e x).entries = ap (λ (l : List (List Entry)). slice_index_or l e []) new ∙ entries_at (set ps d q) e x here' in
       is ∙ subst (λ (l : List Entry). (get_or (set ps d q) e x).entries ≡ l ++ entries_from c.number (length l) (cons_option (cond (eqb d e) (made_of call answer) None) [])) (sym was) (at_place (eqb d e) c.number ps d e x q call answer refl inside client becomes);
 }
 
@@ -251,7 +251,7 @@ pub made_nothing : (c c' : ClientView) (d : ℕ) (call : Call) (r : Refusal) →
 made_nothing c c' d call r m = record {
   number = m.number;
   domains = m.domains;
-  passes = λ e inside. subst (λ (o : Option Made). pass_in c' e ≡ pass_in c e ++ entries_from c.number (length (pass_in c e)) (cons_option o [])) (neither (eqb d e)) (m.passes e inside);
+  passes = λ e inside. subst (λ (o : Option Made). client_pass_in c' e ≡ client_pass_in c e ++ entries_from c.number (length (client_pass_in c e)) (cons_option o [])) (neither (eqb d e)) (m.passes e inside);
 }
 
 -- whatever a client asked for under the lock of a domain
@@ -295,17 +295,17 @@ advanced_for d c e p q n (Err (refusals.Busy seen)) m done = absurd done
 
 -- ---- a change of the limit
 
-hand_unasked : (gate : GateId) (hand next : Option BlankView) (piece : BlankView) (answer : Answer) → piece ≡ piece_of gate hand → IfErr answer (λ _. next ≡ Some piece) → IfErr answer (λ _. IsHandUnasked gate hand next)
+hand_unasked : (gate : GateId) (hand next : Option BlankView) (piece : BlankView) (answer : Answer) → piece ≡ blank_or_new gate hand → IfErr answer (λ _. next ≡ Some piece) → IfErr answer (λ _. IsHandUnasked gate hand next)
 hand_unasked gate hand next piece (Ok reply) is same = tt
 hand_unasked gate hand next piece (Err refusal) is same = subst (λ (h : Option BlankView). IsHandUnasked gate hand h) (sym same) is
 
 -- by a piece that was found for it
-pub limit_made : (id : SessionId) (c e : ClientView) (d limit : ℕ) (piece : BlankView) (answer : Answer) → piece ≡ piece_of id.gate c.hand
+pub limit_made : (id : SessionId) (c e : ClientView) (d limit : ℕ) (piece : BlankView) (answer : Answer) → piece ≡ blank_or_new id.gate c.hand
     → MakesLimitWith id (record c { hand = None }) e d limit piece answer → MakesLimit id c e d limit answer
 limit_made id c e d limit piece answer is m = record {
   word = m.word;
   made = record { number = m.made.number; domains = m.made.domains; passes = m.made.passes };
-  reply = subst (λ (b : BlankView). IfOk answer (IsLimitReply d (length (cpus_of id d)) id.limit limit b m.word e.hand)) is m.reply;
+  reply = subst (λ (b : BlankView). IfOk answer (IsLimitReply d (length (cpu_set_of id d)) id.limit limit b m.word e.hand)) is m.reply;
   unasked = hand_unasked id.gate c.hand e.hand piece answer is m.unasked;
 }
 
@@ -328,18 +328,18 @@ refused_asks id c t r lawful same = record {
   made = record {
     number = refl;
     domains = refl;
-    passes = λ e inside. rw (refused_at e (domain_of id.cpu_sets t.cpus) (call_of t) r) (sym (append-nil (pass_in c e)));
+    passes = λ e inside. rw (refused_at e (domain_with_cpus id.cpu_sets t.cpus) (admit_call t) r) (sym (append-nil (client_pass_in c e)));
   };
   hand = (c.hand, same, refl);
 }
 
 -- the domain to which a task goes
-pub goes_to : (id : SessionId) (t : TaskSpecView) (p : ParamsView) (d : ℕ) → accepted t.attr ≡ Ok p → domain_of id.cpu_sets t.cpus ≡ Some d → Goes id t d
+pub goes_to : (id : SessionId) (t : TaskSpecView) (p : ParamsView) (d : ℕ) → accepted t.attr ≡ Ok p → domain_with_cpus id.cpu_sets t.cpus ≡ Some d → Goes id t d
 goes_to id t p d checked is = record { checked = subst (λ (q : ParamsView). accepted t.attr ≡ Ok q) (accepted_is t.attr p checked) checked; domain = is }
 
 -- what is in hand after the answer to a task that goes to a domain
 pub hand_after : (id : SessionId) (t : TaskSpecView) (d : ℕ) (hand : Option BlankView) (answer : Answer) (next : Option BlankView) → Goes id t d
-    → IsVerdict (length (cpus_of id d)) (params_of t.attr).bw answer → AsksGate id.gate d (params_of t.attr).bw hand answer next → IsHandAfter id t hand answer next
+    → IsEntryVerdict (length (cpu_set_of id d)) (params_of t.attr).bw answer → AsksGate id.gate d (params_of t.attr).bw hand answer next → IsHandAfter id t hand answer next
 hand_after id t d hand (Ok reply) next g v h = (d, g, h)
 hand_after id t d hand (Err refusals.Full) next g v h = (d, g, h)
 hand_after id t d hand (Err refusals.Twice) next g v h = (d, g, h)
@@ -353,7 +353,7 @@ hand_after id t d hand (Err refusals.SameDomain) next g v h = absurd v
 
 -- the answer to a task that goes to a domain
 pub asks_one : (id : SessionId) (c c' : ClientView) (t : TaskSpecView) (d : ℕ) (answer : Answer) → Goes id t d
-    → Makes c c' (made_by d (call_of t) answer) → IsVerdict (length (cpus_of id d)) (params_of t.attr).bw answer → AsksGate id.gate d (params_of t.attr).bw c.hand answer c'.hand
+    → Makes c c' (made_by d (admit_call t) answer) → IsEntryVerdict (length (cpu_set_of id d)) (params_of t.attr).bw answer → AsksGate id.gate d (params_of t.attr).bw c.hand answer c'.hand
     → Asks id c c' (record { task = t; answer = answer } ∷ [])
 asks_one id c c' t d answer goes m verdict asks = record {
   lawful = All-cons (λ q. IsLawful id q.task q.answer) _ [] (lawful_of id t d answer goes verdict) (All-nil (λ q. IsLawful id q.task q.answer));
@@ -361,14 +361,14 @@ asks_one id c c' t d answer goes m verdict asks = record {
   hand = (c'.hand, hand_after id t d c.hand answer c'.hand goes verdict asks, refl);
 }
 
-last_of_more : (found : List ℕ) (n : ℕ) → last_of (found ++ n ∷ []) ≡ n
+last_of_more : (found : List ℕ) (n : ℕ) → last_word_found (found ++ n ∷ []) ≡ n
 last_of_more [] n = refl
 last_of_more (x ∷ []) n = refl
 last_of_more (x ∷ y ∷ found) n = last_of_more (y ∷ found) n
 
 -- a refused try found its word last
-pub last_seen : (b : BlankView) (d bw : ℕ) (back : BlankView) (word seen : ℕ) → IsTake b d bw (takes.Refused back word) → seen ≡ used_of word → used_of (last_of back.found) ≡ seen
-last_seen b d bw back word seen t is = ap (λ (v : BlankView). used_of (last_of v.found)) t.last.blank ∙ ap used_of (last_of_more (b.found ++ words_of t.races) word) ∙ sym is
+pub last_seen : (b : BlankView) (d bw : ℕ) (back : BlankView) (word seen : ℕ) → IsTake b d bw (takes.Refused back word) → seen ≡ used_of word → used_of (last_word_found back.found) ≡ seen
+last_seen b d bw back word seen t is = ap (λ (v : BlankView). used_of (last_word_found v.found)) t.last.blank ∙ ap used_of (last_of_more (b.found ++ words_of t.races) word) ∙ sym is
 
 -- and the cap that this word carries leaves no room
 pub gate_over : (cpus : ℕ) (b : BlankView) (d bw : ℕ) (back : BlankView) (word seen : ℕ) → gate_cpus b.gate d ≡ cpus → IsTake b d bw (takes.Refused back word) → seen ≡ used_of word → IsOverCap cpus bw seen

@@ -3,7 +3,7 @@ use Rattle.std.proofs.Common.{◌≡◌, ◌≢◌, ℕ, zero, suc, ◌+◌, ◌
 use Rattle.std.proofs.lemmas.Bool.{ne_eqb, eqb-true, eqb-false}
 use Rattle.std.proofs.lemmas.List.{get_or_push, get_or_append_left, length_push}
 use Rattle.std.proofs.lemmas.List.Sums.{sum_by-le}
-use Rattle.bw_gate.specs.Pieces.{GateId, TicketView, share_of, sum_of}
+use Rattle.bw_gate.specs.Pieces.{GateId, TicketView, bw_in, bw_of_tickets}
 use Rattle.call_book.specs.Pieces.{IsTicketOf}
 use Rattle.domain_run.specs.Domain.{Domain}
 use Rattle.call_book.specs.Book.{BookView}
@@ -13,7 +13,7 @@ use Rattle.session.specs.SessionId.{SessionId}
 use Rattle.session.specs.private.Entering.{IsSessionBook}
 use Rattle.session.specs.private.Parts.{AreSessionBooks}
 use Rattle.session.specs.private.Closing.{IsEnded, HaveEnded}
-use Rattle.session.specs.private.Ending.{AreAll, books_of, unheard}
+use Rattle.session.specs.private.Ending.{AreAllHeard, books_of, unheard_ending}
 
 -- by the place in a list with one element more
 pub by_place_more : {X : Type 0} (P : ℕ → X → Type 0) (xs : List X) (y : X)
@@ -34,14 +34,14 @@ pub named_more : (id : SessionId) (books : List BookView) (b : BookView) → Are
 named_more id books b named last = by_place_more (IsSessionBook id) books b named last
 
 -- tickets of one domain have nothing of another
-share_apart : (gate : GateId) (e d : ℕ) (t : TicketView) → IsTicketOf gate e t → d ≢ e → share_of d t ≤ 0
+share_apart : (gate : GateId) (e d : ℕ) (t : TicketView) → IsTicketOf gate e t → d ≢ e → bw_in d t ≤ 0
 share_apart gate e d t is other =
     let no : eqb t.domain d ≡ false = ne_eqb _ _ (λ same. other (sym same ∙ is.inside)) in
     rw no (omega arith)
 
-pub apart : (gate : GateId) (e d : ℕ) (ts : List TicketView) → All (IsTicketOf gate e) ts → d ≢ e → sum_of d ts ≡ 0
+pub apart : (gate : GateId) (e d : ℕ) (ts : List TicketView) → All (IsTicketOf gate e) ts → d ≢ e → bw_of_tickets d ts ≡ 0
 apart gate e d ts own other =
-    omega (arith, sum_by-le (share_of d) 0 ts (λ k x inside. share_apart gate e d (get_or ts k x) (own k x inside) other))
+    omega (arith, sum_by-le (bw_in d) 0 ts (λ k x inside. share_apart gate e d (get_or ts k x) (own k x inside) other))
 
 -- the books that are left when one more was taken
 pub left_next : {X : Type 0} (bs all rest : List X) (b : X) (n m k l : ℕ) → all ≡ b ∷ rest → m ≡ n + 1 → k ≡ l + 1
@@ -87,17 +87,17 @@ ended_more books histories states b s x ended at last = record {
 
 -- ---- books that are ended, and not heard
 
-books_back : (books : List BookView) → books_of (map unheard books) ≡ books
+books_back : (books : List BookView) → books_of (map unheard_ending books) ≡ books
 books_back [] = refl
 books_back (b ∷ books) = ap (λ (bs : List BookView). b ∷ bs) (books_back books)
 
-pub books_ended : (ending : List EndingView) (books : List BookView) → ending ≡ map unheard books → books_of ending ≡ books
+pub books_ended : (ending : List EndingView) (books : List BookView) → ending ≡ map unheard_ending books → books_of ending ≡ books
 books_ended ending books is = ap books_of is ∙ books_back books
 
-none_heard : (books : List BookView) → AreAll false (map unheard books)
+none_heard : (books : List BookView) → AreAllHeard false (map unheard_ending books)
 none_heard [] d e inside = absurd (omega (arith, inside))
 none_heard (b ∷ books) zero e inside = refl
 none_heard (b ∷ books) (suc d) e inside = none_heard books d e (omega (arith, inside))
 
-pub all_unheard : (ending : List EndingView) (books : List BookView) → ending ≡ map unheard books → AreAll false ending
-all_unheard ending books is = subst (AreAll false) (sym is) (none_heard books)
+pub all_unheard : (ending : List EndingView) (books : List BookView) → ending ≡ map unheard_ending books → AreAllHeard false ending
+all_unheard ending books is = subst (AreAllHeard false) (sym is) (none_heard books)

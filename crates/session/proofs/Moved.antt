@@ -22,11 +22,11 @@ use Rattle.call_book.specs.Book.{BookView, AdmissionView, Enters, Stays, state_o
 use Rattle.calls_text.specs.Histories.{calls_of}
 use Rattle.call_book.specs.MoveAnswers.{Sides, moving_as, arrival, IsStale, ComeBack, IsMoved, LacksRoom}
 use Rattle.session.specs.declared.refusal.Refusal.{Refusal}
-use Rattle.session.specs.SessionId.{SessionId, cpus_of}
+use Rattle.session.specs.SessionId.{SessionId, cpu_set_of}
 use Rattle.session.specs.Asks.{IsOverCap, ClientView, Made, made_by, Makes}
 use Rattle.session.specs.Moves.{state_after, WasListed, WouldReply, WasChanged}
 use Rattle.session.specs.private.Entering.{IsSessionBook, IsClientOf, pass_after}
-use Rattle.session.specs.private.Moving.{PassPair, IsMovedBy, IsWhyRefused, IsRefusedBy, IsBooksAnswer, PassesMove, IsMoveFor}
+use Rattle.session.specs.private.Moving.{PassPair, IsMovedBy, IsWhyRefused, IsMoveRefusedBy, IsBooksAnswer, PassesMove, IsMoveFor}
 use Rattle.session.proofs.Asked.{makes_at, made_nothing}
 use Rattle.session.proofs.Admitted.{followed_more}
 use Rattle.session.proofs.Passes.{kept, still_client}
@@ -35,14 +35,14 @@ use Rattle.session.proofs.Passes.{kept, still_client}
 
 same_state : (id : SessionId) (d : ℕ) (b : BookView) → IsSessionBook id d b → state_of b ≡ state_after id d (calls_of b.history)
 same_state id d b named =
-    ap (λ (n : ℕ). run_of n b.limit (calls_of b.history)) named.cpus ∙ ap (λ (l : ℕ). run_of (length (cpus_of id d)) l (calls_of b.history)) named.limit
+    ap (λ (n : ℕ). run_of n b.limit (calls_of b.history)) named.cpus ∙ ap (λ (l : ℕ). run_of (length (cpu_set_of id d)) l (calls_of b.history)) named.limit
 
 pub would_reply : (id : SessionId) (d : ℕ) (b : BookView) (call : Call) (reply : Reply) → IsSessionBook id d b → reply_to (state_of b) call ≡ reply → WouldReply id d call reply
 would_reply id d b call reply named is =
     record { before = calls_of b.history; replied = subst (λ (s : Domain). reply_to s call ≡ reply) (same_state id d b named) is }
 
 pub no_room : (id : SessionId) (d : ℕ) (b : BookView) (a : AdmissionView) (seen : ℕ) → IsSessionBook id d b → LacksRoom b a seen
-    → WouldReply id d (arrival a) (replies.Busy seen) × IsOverCap (length (cpus_of id d)) a.params.bw seen
+    → WouldReply id d (arrival a) (replies.Busy seen) × IsOverCap (length (cpu_set_of id d)) a.params.bw seen
 no_room id d b a seen named lacks = (
   would_reply id d b (arrival a) (replies.Busy seen) named lacks.reply,
   subst (λ (n : ℕ). IsOverCap n a.params.bw seen) named.cpus
@@ -86,7 +86,7 @@ moved_by id from to old new a ticket back blank named m given = record {
 
 pub refused_by : (id : SessionId) (from to : ℕ) (old new : Sides) (a b : AdmissionView) (ticket back : TicketView) (blank : BlankView) (refusal : Refusal)
     → ComeBack old new a b ticket back → IsGive back blank → IsWhyRefused id from to a refusal
-    → IsRefusedBy id from to (record { out = old.out; into = old.into }) (record { out = new.out; into = new.into }) a ticket blank refusal
+    → IsMoveRefusedBy id from to (record { out = old.out; into = old.into }) (record { out = new.out; into = new.into }) a ticket blank refusal
 refused_by id from to old new a b ticket back blank refusal c given why = record {
   same = ap (λ (p : PassView Entry). record { out = p; into = new.into }) c.from.pass ∙ ap (λ (p : PassView Entry). record { out = old.out; into = p }) c.to.pass;
   given = subst (λ (t : TicketView). IsGive t blank) c.ticket_back given;

@@ -21,7 +21,7 @@ use Rattle.call_book.specs.Book.{BookView, IsMember}
 use Rattle.run_options.specs.declared.options.Options.{Options}
 use Rattle.session.specs.declared.parts.Hand.{Hand}
 use Rattle.run_options.specs.Options.{AreOptions}
-use Rattle.session.specs.Options.{terms_of}
+use Rattle.session.specs.Options.{gate_terms_of}
 use Rattle.session.specs.SessionId.{SessionId, IsSession, cpu_sets_from, spine_of}
 use Rattle.session.specs.Asks.{ClientView}
 use Rattle.session.specs.Clients.{IsNew, IsNotThere, IsGivenOut}
@@ -77,7 +77,7 @@ cpus_are limit (cpus ∷ domains) = ap (λ (ns : List ℕ). cpus ∷ ns) (cpus_a
 abbrev terms_with : List ℕ → ℕ → TermsView
 terms_with cpus pieces = record { cpus = cpus; pieces = pieces }
 
-pub terms_are : (o : Options) (rooms : List Room) (n : ℕ) → rooms ≡ map (room_of o.limit) o.domains.items → n ≡ length o.domains.items → gate_terms rooms (n * 256 + o.clients) ≡ terms_of o
+pub terms_are : (o : Options) (rooms : List Room) (n : ℕ) → rooms ≡ map (room_of o.limit) o.domains.items → n ≡ length o.domains.items → gate_terms rooms (n * 256 + o.clients) ≡ gate_terms_of o
 terms_are o rooms n are count =
     ap (λ (rs : List Room). gate_terms rs (n * 256 + o.clients)) are
     ∙ ap (λ (ns : List ℕ). terms_with ns (n * 256 + o.clients)) (cpus_are o.limit o.domains.items)
@@ -265,7 +265,7 @@ new_passes_are spine clients passes count are k x inside =
 
 -- ---- the session
 
-pub is_session : (o : Options) (gate : GateId) (books : List BookView) (sets : List (List ℕ)) (clients : ℕ) → AreOptions o → gate.terms ≡ terms_of o
+pub is_session : (o : Options) (gate : GateId) (books : List BookView) (sets : List (List ℕ)) (clients : ℕ) → AreOptions o → gate.terms ≡ gate_terms_of o
     → sets ≡ cpu_sets_from 0 o.domains.items → length books ≡ length o.domains.items → clients ≡ o.clients → IsSession (id_of gate books sets o.limit clients o.history o.workers)
 is_session o gate books sets clients are terms is count number =
     let domains = o.domains.items in

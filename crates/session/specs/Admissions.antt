@@ -18,15 +18,15 @@ abbrev pub own_asked : ℕ → ℕ → List Asked → List Asked
 own_asked n i asked = filter (is_own n i) asked
 
 -- a refusal, and EBUSY of the book too
-abbrev pub refusal_of : Answer → Option Refusal
-refusal_of (Err refusal) = Some refusal
-refusal_of (Ok (replies.Busy seen)) = Some (refusals.Busy seen)
-refusal_of (Ok _) = None
+abbrev pub refused_with : Answer → Option Refusal
+refused_with (Err refusal) = Some refusal
+refused_with (Ok (replies.Busy seen)) = Some (refusals.Busy seen)
+refused_with (Ok _) = None
 
 -- the refused tasks by number, in the order of tasks
 abbrev pub refused_in : List Asked → List (ℕ × Refusal)
 refused_in asked =
-    filter_map (λ q. option_map (λ r. (q.task.number, r)) (refusal_of q.answer)) asked
+    filter_map (λ q. option_map (λ r. (q.task.number, r)) (refused_with q.answer)) asked
 
 -- the clients 1, 2, .., which have entered nothing
 pub record AreNew (id : SessionId) (clients : List ClientView) : Type 0 where

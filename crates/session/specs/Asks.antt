@@ -4,7 +4,7 @@ use Rattle.std.specs.List.{list_all, list_any, cons_option}
 use Rattle.attr_check.specs.ParamsView.{ParamsView}
 use Rattle.attr_check.specs.Accepted.{accepted, params_of}
 use Rattle.bw_gate.specs.Word.{used_of, IsCap}
-use Rattle.bw_gate.specs.Pieces.{GateId, BlankView, TicketView, last_of}
+use Rattle.bw_gate.specs.Pieces.{GateId, BlankView, TicketView, last_word_found}
 use Rattle.bw_gate.specs.Answers.{IsTake, IsGive}
 use Rattle.bw_gate.specs.declared.answer.Take.TheVariants as takes
 use Rattle.domain_run.specs.declared.call.Call.{Call}
@@ -15,11 +15,11 @@ use Rattle.domain_run.specs.Calls.{reply_to}
 use Rattle.domain_run.specs.Run.{run_of}
 use Rattle.rtapp_scenario.specs.ScenarioView.{TaskSpecView}
 use Rattle.calls_text.specs.declared.section.Entry.{Entry}
-use Rattle.call_book.specs.Pieces.{IsTicketOf, IsAnswered}
+use Rattle.call_book.specs.Pieces.{IsTicketOf, IsTicketAnswered}
 use Rattle.call_book.specs.LimitAnswers.{AsksForLimit}
 use Rattle.session.specs.declared.refusal.Refusal.{Refusal}
 use Rattle.session.specs.declared.refusal.Refusal.TheVariants as refusals
-use Rattle.session.specs.SessionId.{SessionId, cpus_of}
+use Rattle.session.specs.SessionId.{SessionId, cpu_set_of}
 
 -- ---- a task: its domain and its call
 
@@ -30,13 +30,13 @@ same_cpus xs ys =
 
 -- the domain that has exactly the task's CPUs; the first where the task names none
 -- (sched_setattr(2), EPERM)
-abbrev pub domain_of : List (List ℕ) → Option (List ℕ) → Option ℕ
-domain_of sets None = Some 0
-domain_of sets (Some cpus) = position (same_cpus cpus) sets
+abbrev pub domain_with_cpus : List (List ℕ) → Option (List ℕ) → Option ℕ
+domain_with_cpus sets None = Some 0
+domain_with_cpus sets (Some cpus) = position (same_cpus cpus) sets
 
 -- the call that admits it, with the parameters of its attributes
-abbrev pub call_of : TaskSpecView → Call
-call_of t = Admit t.number t.name (params_of t.attr) t.delay t.script
+abbrev pub admit_call : TaskSpecView → Call
+admit_call t = Admit t.number t.name (params_of t.attr) t.delay t.script
 
 -- ---- answers
 
@@ -47,7 +47,7 @@ Answer = Result Reply Refusal
 -- the attributes are accepted, and the CPUs are those of this domain
 pub record Goes (id : SessionId) (t : TaskSpecView) (d : ℕ) : Type 0 where
   pub checked : accepted t.attr ≡ Ok (params_of t.attr)
-  pub domain : domain_of id.cpu_sets t.cpus ≡ Some d
+  pub domain : domain_with_cpus id.cpu_sets t.cpus ≡ Some d
 
 -- EBUSY: what was seen, as used of a word or as a sum, is at most a cap that so many CPUs can have,
 -- and leaves no room for so much more below it
@@ -60,7 +60,7 @@ pub record IsOverCap (cpus bw seen : ℕ) : Type 0 where
 -- the same of a task and a domain. Of a word it is the cap that this word carried; of a sum, that
 -- of the limit that the domain's state had
 abbrev pub IsOver : SessionId → TaskSpecView → ℕ → ℕ → Type 0
-IsOver id t d seen = IsOverCap (length (cpus_of id d)) (params_of t.attr).bw seen
+IsOver id t d seen = IsOverCap (length (cpu_set_of id d)) (params_of t.attr).bw seen
 
 -- what an admission may be answered: EINVAL and EPERM exactly where the task is not to be admitted
 -- anywhere, and else any of the others, EBUSY only with a lawful number; never what a move alone is
@@ -68,7 +68,7 @@ IsOver id t d seen = IsOverCap (length (cpus_of id d)) (params_of t.attr).bw see
 abbrev pub IsLawful : SessionId → TaskSpecView → Answer → Type 0
 IsLawful id t (Err (refusals.Einval kind)) = accepted t.attr ≡ Err kind
 IsLawful id t (Err refusals.Eperm) =
-    (accepted t.attr ≡ Ok (params_of t.attr)) × (domain_of id.cpu_sets t.cpus ≡ None)
+    (accepted t.attr ≡ Ok (params_of t.attr)) × (domain_with_cpus id.cpu_sets t.cpus ≡ None)
 IsLawful id t (Err refusals.Full) = (d : ℕ) × Goes id t d
 IsLawful id t (Err refusals.Twice) = (d : ℕ) × Goes id t d
 IsLawful id t (Err refusals.Enomem) = (d : ℕ) × Goes id t d
@@ -87,9 +87,9 @@ pub record Asked : Type 0 where
 
 -- the piece that an admission asks the gate with: the one in the client's hand, or else a new one,
 -- which has found nothing
-abbrev pub piece_of : GateId → Option BlankView → BlankView
-piece_of gate (Some piece) = piece
-piece_of gate None = record { gate = gate; found = [] }
+abbrev pub blank_or_new : GateId → Option BlankView → BlankView
+blank_or_new gate (Some piece) = piece
+blank_or_new gate None = record { gate = gate; found = [] }
 
 -- the gate granted the piece so much in a domain
 abbrev pub IsGranted : BlankView → ℕ → ℕ → Type 0
@@ -113,13 +113,15 @@ pub record IsGivenBackAfter (piece : BlankView) (d bw : ℕ) (back : BlankView) 
 -- piece too, where there was none; and whatever else the domain refused, the gate had granted, and
 -- it was given back
 abbrev pub AsksGate : GateId → ℕ → ℕ → Option BlankView → Answer → Option BlankView → Type 0
-AsksGate gate d bw hand (Ok replies.Admitted) next = IsGranted (piece_of gate hand) d bw
-AsksGate gate d bw hand (Ok _) next = IsSomeAnd next (IsGivenBackAfter (piece_of gate hand) d bw)
+AsksGate gate d bw hand (Ok replies.Admitted) next = IsGranted (blank_or_new gate hand) d bw
+AsksGate gate d bw hand (Ok _) next =
+    IsSomeAnd next (IsGivenBackAfter (blank_or_new gate hand) d bw)
 AsksGate gate d bw hand (Err (refusals.Busy seen)) next =
-    IsSomeAnd next (IsGateRefusal (piece_of gate hand) d bw seen)
-AsksGate gate d bw hand (Err refusals.Enomem) next = next ≡ Some (piece_of gate hand)
+    IsSomeAnd next (IsGateRefusal (blank_or_new gate hand) d bw seen)
+AsksGate gate d bw hand (Err refusals.Enomem) next = next ≡ Some (blank_or_new gate hand)
 AsksGate gate d bw hand (Err refusals.Full) None = hand ≡ None
-AsksGate gate d bw hand (Err _) next = IsSomeAnd next (IsGivenBackAfter (piece_of gate hand) d bw)
+AsksGate gate d bw hand (Err _) next =
+    IsSomeAnd next (IsGivenBackAfter (blank_or_new gate hand) d bw)
 
 -- the same of a task: EINVAL and EPERM leave what was in hand
 abbrev pub IsHandAfter : SessionId → TaskSpecView → Option BlankView → Answer → Option BlankView
@@ -155,7 +157,9 @@ made_at d (Some place) call answer = if place == d then made_of call answer else
 
 abbrev pub made_in : SessionId → ℕ → List Asked → List Made
 made_in id d asked =
-    filter_map (λ q. made_at d (domain_of id.cpu_sets q.task.cpus) (call_of q.task) q.answer) asked
+    filter_map
+    (λ q. made_at d (domain_with_cpus id.cpu_sets q.task.cpus) (admit_call q.task) q.answer)
+    asked
 
 -- the entries of calls that a client makes, after so many earlier ones
 abbrev pub entries_from : ℕ → ℕ → List Made → List Entry
@@ -172,19 +176,20 @@ pub record ClientView : Type 0 where
   pub passes : List (List Entry)
   pub hand : Option BlankView
 
-abbrev pub pass_in : ClientView → ℕ → List Entry
-pass_in c d = slice_index_or c.passes d []
+abbrev pub client_pass_in : ClientView → ℕ → List Entry
+client_pass_in c d = slice_index_or c.passes d []
 
 -- behind its entries in a domain stand those of these calls
 abbrev pub followed_by : ClientView → ℕ → List Made → List Entry
-followed_by c d made = pass_in c d ++ entries_from c.number (length (pass_in c d)) made
+followed_by c d made =
+    client_pass_in c d ++ entries_from c.number (length (client_pass_in c d)) made
 
 -- in each domain these calls stand behind what the client had entered, in their order, and nothing
 -- else does
 pub record Makes (c c' : ClientView) (made : ℕ → List Made) : Type 0 where
   pub number : c'.number ≡ c.number
   pub domains : length c'.passes ≡ length c.passes
-  pub passes : (d : ℕ) → d < length c.passes → pass_in c' d ≡ followed_by c d (made d)
+  pub passes : (d : ℕ) → d < length c.passes → client_pass_in c' d ≡ followed_by c d (made d)
 
 -- a client asked for these tasks and got these answers: each is lawful, in each domain the calls
 -- that were answered there are what it made, and each EBUSY of the gate is by the piece that was in
@@ -204,7 +209,7 @@ made_by place call answer d = cons_option (made_at d (Some place) call answer) [
 -- was used of it
 abbrev pub IsLastFound : Option BlankView → Answer → Type 0
 IsLastFound hand (Err (refusals.Busy seen)) =
-    IfSome hand (λ b. used_of (last_of b.found) ≡ seen) × IsSome hand
+    IfSome hand (λ b. used_of (last_word_found b.found) ≡ seen) × IsSome hand
 IsLastFound hand _ = Unit {0}
 
 -- why a call other than an admission stands in no book: it is full, or a growth was refused
@@ -226,7 +231,7 @@ pub record AsksWord (gate : GateId) (d bw : ℕ) (word : Option ℕ) : Type 0 wh
   pub was : TicketView
   pub becomes : TicketView
   pub own : IsTicketOf gate d was
-  pub answered : IsAnswered was bw becomes word
+  pub answered : IsTicketAnswered was bw becomes word
 
 -- what the word has to do with the reply to a regrade: where it refused, the reply is EBUSY with
 -- its number; where it did not, a change is one that it granted; and no other reply asked it
@@ -248,7 +253,7 @@ pub record MakesRegrade (id : SessionId) (c c' : ClientView) (d number : ℕ) (p
   pub word : Option ℕ
   pub made : Makes c c' (made_by d (Regrade number params word) answer)
   pub reply : IfOk answer
-      (IsRegradeReply id.gate d (length (cpus_of id d)) id.limit number params word)
+      (IsRegradeReply id.gate d (length (cpu_set_of id d)) id.limit number params word)
 
 -- what the word has to do with the reply to a change of the limit: where it refused, the reply is
 -- EBUSY with its number; where it did not, the limit is set by it; and no other reply asked it. It
@@ -273,7 +278,7 @@ pub record IsLimitReply (d cpus limit wanted : ℕ) (piece : BlankView) (word : 
 -- Full: there was no piece, or the book is full, and the piece is in hand as it was found
 abbrev pub IsHandUnasked : GateId → Option BlankView → Option BlankView → Type 0
 IsHandUnasked gate hand None = hand ≡ None
-IsHandUnasked gate hand (Some back) = back ≡ piece_of gate hand
+IsHandUnasked gate hand (Some back) = back ≡ blank_or_new gate hand
 
 -- a change of a domain's limit: with the word, which is the gate's answer in this very call to the
 -- client's own piece, or none
@@ -282,7 +287,8 @@ pub record MakesLimit (id : SessionId) (c c' : ClientView) (d limit : ℕ)
   pub word : Option ℕ
   pub made : Makes c c' (made_by d (Limit limit word) answer)
   pub reply : IfOk answer
-      (IsLimitReply d (length (cpus_of id d)) id.limit limit (piece_of id.gate c.hand) word c'.hand)
+      (IsLimitReply d (length (cpu_set_of id d)) id.limit limit
+      (blank_or_new id.gate c.hand) word c'.hand)
   pub unasked : IfErr answer (λ _. IsHandUnasked id.gate c.hand c'.hand)
 
 -- an advance: the entry tells how many ticks were made, at least one and at most as many as were

@@ -16,8 +16,8 @@ use Rattle.domain_run.specs.Views.{Moving, moving_in}
 use Rattle.call_book.specs.Pieces.{IsTicketOf}
 use Rattle.session.specs.declared.refusal.Refusal.{Refusal}
 use Rattle.session.specs.declared.refusal.Refusal.TheVariants as refusals
-use Rattle.session.specs.SessionId.{SessionId, cpus_of}
-use Rattle.session.specs.Asks.{IsOverCap, piece_of, IsGranted, IsGateRefusal, IsGivenBackAfter, Made, made_by, ClientView, Makes}
+use Rattle.session.specs.SessionId.{SessionId, cpu_set_of}
+use Rattle.session.specs.Asks.{IsOverCap, blank_or_new, IsGranted, IsGateRefusal, IsGivenBackAfter, Made, made_by, ClientView, Makes}
 
 -- ---- what a move leaves in the books
 
@@ -26,8 +26,8 @@ abbrev pub arrival_of : ℕ → Moving → Call
 arrival_of number task = Arrive number task.name task.params task.script
 
 -- in each domain: the departure in the one, the arrival in the other
-abbrev pub moved : ℕ → Moving → ℕ → ℕ → ℕ → List Made
-moved number task from to d =
+abbrev pub calls_of_move : ℕ → Moving → ℕ → ℕ → ℕ → List Made
+calls_of_move number task from to d =
     made_by from (Depart number) (Ok replies.Departed) d
     ++ made_by to (arrival_of number task) (Ok replies.Admitted) d
 
@@ -35,7 +35,7 @@ moved number task from to d =
 
 -- a state to which some calls lead
 abbrev pub state_after : SessionId → ℕ → List Call → Domain
-state_after id d before = run_of (length (cpus_of id d)) id.limit before
+state_after id d before = run_of (length (cpu_set_of id d)) id.limit before
 
 -- in one of them the task is listed, has not ended, and would take this along
 pub record WasListed (id : SessionId) (d number : ℕ) (task : Moving) : Type 0 where
@@ -65,7 +65,7 @@ pub record HasMoved (id : SessionId) (number from to : ℕ) (piece : BlankView) 
   pub task : Moving
   pub listed : WasListed id from number task
   pub granted : IsGranted piece to task.params.bw
-  pub made : Makes c c' (moved number task from to)
+  pub made : Makes c c' (calls_of_move number task from to)
   pub ticket : TicketView
   pub own : IsTicketOf id.gate from ticket
   pub bw : ticket.bw ≡ task.params.bw
@@ -83,7 +83,7 @@ pub record WasRefusedByGate (id : SessionId) (number from to : ℕ) (piece : Bla
     (next : Option BlankView) : Type 0 where
   pub task : Moving
   pub listed : WasListed id from number task
-  pub over : IsOverCap (length (cpus_of id to)) task.params.bw seen
+  pub over : IsOverCap (length (cpu_set_of id to)) task.params.bw seen
   pub refused : IsSomeAnd next (IsGateRefusal piece to task.params.bw seen)
 
 -- the gate granted it, and the sum of bandwidths where it comes to had no room for it
@@ -91,7 +91,7 @@ pub record WasRefusedByBook (id : SessionId) (number from to : ℕ) (piece : Bla
     (next : Option BlankView) : Type 0 where
   pub task : Moving
   pub given : WasGivenBack id number from to piece task next
-  pub over : IsOverCap (length (cpus_of id to)) task.params.bw seen
+  pub over : IsOverCap (length (cpu_set_of id to)) task.params.bw seen
   pub reply : WouldReply id to (arrival_of number task) (replies.Busy seen)
 
 -- Why a task does not move, by the piece that was in hand before and what is there after. ESRCH and
@@ -101,21 +101,21 @@ abbrev pub IsWhyUnmoved : SessionId → ℕ → ℕ → ℕ → Option BlankView
 IsWhyUnmoved id number from to hand next refusals.SameDomain = (from ≡ to) × (next ≡ hand)
 IsWhyUnmoved id number from to hand None refusals.Full = hand ≡ None
 IsWhyUnmoved id number from to hand (Some back) refusals.Full =
-    (task : Moving) × WasGivenBack id number from to (piece_of id.gate hand) task (Some back)
+    (task : Moving) × WasGivenBack id number from to (blank_or_new id.gate hand) task (Some back)
 IsWhyUnmoved id number from to hand next refusals.Esrch =
     WouldReply id from (Depart number) replies.NotListed
-    × ((next ≡ Some (piece_of id.gate hand))
-    ⊎ ((task : Moving) × WasGivenBack id number from to (piece_of id.gate hand) task next))
+    × ((next ≡ Some (blank_or_new id.gate hand))
+    ⊎ ((task : Moving) × WasGivenBack id number from to (blank_or_new id.gate hand) task next))
 IsWhyUnmoved id number from to hand next refusals.Enomem =
-    WouldReply id from (Depart number) replies.Departed × (next ≡ Some (piece_of id.gate hand))
+    WouldReply id from (Depart number) replies.Departed × (next ≡ Some (blank_or_new id.gate hand))
 IsWhyUnmoved id number from to hand next (refusals.Busy seen) =
-    WasRefusedByGate id number from to (piece_of id.gate hand) seen next
-    ⊎ WasRefusedByBook id number from to (piece_of id.gate hand) seen next
+    WasRefusedByGate id number from to (blank_or_new id.gate hand) seen next
+    ⊎ WasRefusedByBook id number from to (blank_or_new id.gate hand) seen next
 IsWhyUnmoved id number from to hand next (refusals.Stale now) =
-    (task : Moving) × WasGivenBack id number from to (piece_of id.gate hand) task next
+    (task : Moving) × WasGivenBack id number from to (blank_or_new id.gate hand) task next
     × WasChanged id from number task now
 IsWhyUnmoved id number from to hand next refusals.Twice =
-    (task : Moving) × WasGivenBack id number from to (piece_of id.gate hand) task next
+    (task : Moving) × WasGivenBack id number from to (blank_or_new id.gate hand) task next
     × WouldReply id to (arrival_of number task) replies.Twice
 IsWhyUnmoved id number from to hand next (refusals.Einval kind) = ⊥
 IsWhyUnmoved id number from to hand next refusals.Eperm = ⊥

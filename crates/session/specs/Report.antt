@@ -9,21 +9,21 @@ use Rattle.calls_text.specs.Limits.{IsSection}
 use Rattle.call_book.specs.Book.{IsMember, own_entries}
 use Rattle.calls_text.specs.Histories.{IsLegal, calls_of}
 use Rattle.session.specs.declared.report.Report.{Report}
-use Rattle.session.specs.SessionId.{SessionId, IsDomainIndex, cpus_of}
-use Rattle.session.specs.Asks.{ClientView, pass_in}
+use Rattle.session.specs.SessionId.{SessionId, IsDomainIndex, cpu_set_of}
+use Rattle.session.specs.Asks.{ClientView, client_pass_in}
 
 -- the history of a domain: it is legal, each client's entries are numbered in their order, no
 -- stranger made one, it has a spelling, and the entries of each of these clients are the list of
 -- its pass
 pub record IsHistoryOf (id : SessionId) (d : ℕ) (clients : List ClientView)
     (s : SectionView) : Type 0 where
-  pub cpus : s.cpus ≡ length (cpus_of id d)
+  pub cpus : s.cpus ≡ length (cpu_set_of id d)
   pub limit : s.limit ≡ id.limit
   pub legal : IsLegal s.cpus s.limit s.entries
   pub numbered : IsNumbered s.entries
   pub members : All (λ e. IsMember id.clients e.client) s.entries
   pub spelled : IsSection s
-  pub own : All (λ c. pass_in c d ≡ own_entries c.number s.entries) clients
+  pub own : All (λ c. client_pass_in c d ≡ own_entries c.number s.entries) clients
 
 -- the sum of bandwidths of the tasks that a history leaves
 abbrev pub sum_left : SectionView → ℕ
@@ -41,7 +41,7 @@ pub record IsLeft (id : SessionId) (clients : List ClientView) (r : Report) : Ty
       → sum_left (slice_index_or r.histories.items d x) ≤ slice_index r.words.items d
   pub caps : length r.caps.items ≡ length id.cpu_sets
   pub a_cap : (d : ℕ) → IsDomainIndex id d
-      → IsCap (length (cpus_of id d)) (slice_index r.caps.items d)
+      → IsCap (length (cpu_set_of id d)) (slice_index r.caps.items d)
   pub capped : (d : ℕ) → IsDomainIndex id d
       → slice_index r.words.items d ≤ slice_index r.caps.items d
   pub exact : r.home ≡ id.gate.terms.pieces
@@ -49,6 +49,6 @@ pub record IsLeft (id : SessionId) (clients : List ClientView) (r : Report) : Ty
       → slice_index r.words.items d ≡ sum_left (slice_index_or r.histories.items d x)
 
 -- what the end of a session leaves: nobody stands among the refused
-pub record IsReport (id : SessionId) (clients : List ClientView) (r : Report) : Type 0 where
+pub record IsSessionReport (id : SessionId) (clients : List ClientView) (r : Report) : Type 0 where
   pub left : IsLeft id clients r
   pub refused : r.refused.items ≡ []

@@ -22,7 +22,7 @@ use Rattle.session.specs.declared.report.Wanted.{Wanted}
 use Rattle.session.specs.declared.report.Wanted.TheVariants.{Switches, Happened as WhatHappened, Figures}
 use Rattle.session.specs.SessionId.{SessionId, IsDomainIndex}
 use Rattle.session.specs.Asks.{ClientView, Made, Makes}
-use Rattle.session.specs.Report.{IsHistoryOf, IsReport}
+use Rattle.session.specs.Report.{IsHistoryOf, IsSessionReport}
 
 -- ---- the advance
 
@@ -59,8 +59,8 @@ pub record IsLogOf (wanted : Bool) (told : List Happened) (log : LogView) : Type
 -- ---- what it leaves
 
 -- the first of these clients is client 1
-abbrev pub IsFirst : List ClientView → Type 0
-IsFirst clients = (x : ClientView) → (slice_index_or clients 0 x).number ≡ 1
+abbrev pub FirstIsOne : List ClientView → Type 0
+FirstIsOne clients = (x : ClientView) → (slice_index_or clients 0 x).number ≡ 1
 
 -- each client has entered its advance of each domain, and nothing else: client 1 one of the whole
 -- duration, the others none
@@ -107,7 +107,7 @@ pub record IsFinished (id : SessionId) (duration : ℕ) (wanted : Wanted) (clien
     (f : Finished) : Type 0 where
   pub after : List ClientView
   pub advanced : HaveAdvanced duration clients after
-  pub report : IsReport id after f.report
+  pub report : IsSessionReport id after f.report
   pub ends : (d : ℕ) (x : SectionView) → d < length id.cpu_sets
       → EndsWith duration (slice_index_or f.report.histories.items d x).entries
   pub count : length f.states.items ≡ length id.cpu_sets
@@ -126,6 +126,6 @@ pub record IsFullWith (id : SessionId) (duration : ℕ) (clients : List ClientVi
   pub full : length history.entries ≡ id.max_calls
 
 -- a book was full, of which this is said; or memory was refused
-abbrev pub IsStopped : Type 0 → EndFault → Type 0
-IsStopped full Full = full
-IsStopped full Memory = Unit {0}
+abbrev pub IsRunStopped : Type 0 → EndFault → Type 0
+IsRunStopped full Full = full
+IsRunStopped full Memory = Unit {0}

@@ -51,12 +51,12 @@ abbrev pub spine_of : SessionId → ℕ → TableId
 spine_of id d = slice_index_or id.spines d id.gate.table
 
 -- the CPUs of a domain
-abbrev pub cpus_of : SessionId → ℕ → List ℕ
-cpus_of id d = slice_index_or id.cpu_sets d []
+abbrev pub cpu_set_of : SessionId → ℕ → List ℕ
+cpu_set_of id d = slice_index_or id.cpu_sets d []
 
 -- the cap that a domain is opened with
 abbrev pub cap_in : SessionId → ℕ → ℕ
-cap_in id d = cap (length (cpus_of id d)) id.limit
+cap_in id d = cap (length (cpu_set_of id d)) id.limit
 
 -- a domain of the session
 abbrev pub IsDomainIndex : SessionId → ℕ → Type 0
@@ -78,4 +78,4 @@ pub record IsSession (id : SessionId) : Type 0 where
   pub clients : id.clients ≤ 64
   pub books : length id.spines ≡ length id.cpu_sets
   pub words : length id.gate.terms.cpus ≡ length id.cpu_sets
-  pub machines : (d : ℕ) → IsDomainIndex id d → cpus_in id.gate.terms d ≡ length (cpus_of id d)
+  pub machines : (d : ℕ) → IsDomainIndex id d → cpus_in id.gate.terms d ≡ length (cpu_set_of id d)

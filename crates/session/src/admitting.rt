@@ -5,7 +5,7 @@ ghost use Rattle.std.specs.Prelude.{◌≡◌, ◌<◌, ◌≤◌, ◌-◌, ◌%
 ghost use Rattle.session.specs.Admissions.{refused_in};
 ghost use Rattle.session.specs.Admissions.{AllAsked};
 ghost use Rattle.rtapp_scenario.specs.ScenarioView.{TaskSpecView};
-ghost use Rattle.session.specs.private.Admitting.{SeatView, own_tasks, HasRoom, AreSeats, AsksSeat, AreAsked, AreAnswers, IsUnion};
+ghost use Rattle.session.specs.private.Admitting.{SeatView, own_tasks, HasRoom, HaveSeats, AsksSeat, AreAsked, AreAnswers, IsUnion};
 
 use crate::client::Client;
 use crate::fault::{AdmitFault, NotStarted};
@@ -147,7 +147,7 @@ fn seat_all<N: Names>(
     tasks: &[TaskSpec],
 ) -> Result<Vec<Seat<N>>, NoMemory>
     requires { 0 < length clients.items }
-    ensures { IfOk result (λ v. AreSeats tasks.now clients.items v.items) }
+    ensures { IfOk result (λ v. HaveSeats tasks.now clients.items v.items) }
 {
     let many = clients.len();
     let mut seats = Vec::with_capacity(alloc, many)?;

@@ -7,12 +7,12 @@ ghost use Rattle.domain_run.specs.Domain.{IsLimit};
 ghost use Rattle.domain_run.specs.Log.{Tells};
 ghost use Rattle.calls_text.specs.Limits.{IsCall};
 ghost use Rattle.call_book.specs.Book.{IsMember, IsFull, admission, own_entries};
-ghost use Rattle.session.specs.SessionId.{IsSession, IsDomainIndex, cpus_of, spine_of};
-ghost use Rattle.session.specs.Asks.{Asks, call_of, pass_in, Makes, made_by, MakesRegrade, MakesLimit, MakesAdvance, RefusesOnlyFull, RefusesOnlyFullOrMemory, IsLastFound, piece_of, AsksGate, IsHandAfter};
+ghost use Rattle.session.specs.SessionId.{IsSession, IsDomainIndex, cpu_set_of, spine_of};
+ghost use Rattle.session.specs.Asks.{Asks, admit_call, client_pass_in, Makes, made_by, MakesRegrade, MakesLimit, MakesAdvance, RefusesOnlyFull, RefusesOnlyFullOrMemory, IsLastFound, blank_or_new, AsksGate, IsHandAfter};
 ghost use Rattle.session.specs.Clients.{IsNew};
 ghost use Rattle.session.specs.private.Parts.{IsHand};
-ghost use Rattle.session.specs.private.Entering.{IsAdvancedFor, IsAsk, IsDoneFor, IsVerdict, IsSessionBook};
-ghost use Rattle.session.specs.RunEnd.{IsStopped, told_at_end};
+ghost use Rattle.session.specs.private.Entering.{IsAdvancedFor, IsAsk, IsDoneFor, IsEntryVerdict, IsSessionBook};
+ghost use Rattle.session.specs.RunEnd.{IsRunStopped, told_at_end};
 ghost use Rattle.session.specs.private.Ending.{MakesAll, IsEndBy, IsHeardOf};
 
 use crate::books::at_place;
@@ -38,7 +38,7 @@ use std::thread::Threads;
 /// What was heard, where all ticks were made.
 fn all_heard(heard: HeardAdvance, ticks: u64) -> Result<Accounting, EndFault>
     ensures ok { IfOk result (λ a. (heard.ticks ≡ ticks) × (a ≡ heard.accounting)) }
-    ensures err { IfErr result (IsStopped ⊥) }
+    ensures err { IfErr result (IsRunStopped ⊥) }
 {
     if heard.ticks == ticks {
         Ok(heard.accounting)
@@ -151,7 +151,8 @@ impl<N: Names> Client<N> {
         requires spine { book.old.book.spine ≡ spine_of N.id place }
         ensures book { book.new ≡ book.old }
         ensures same { self.new ≡ self.old }
-        ensures own { pass_in self.new place ≡ own_entries self.new.number book.new.book.history }
+        ensures own { client_pass_in self.new place
+            ≡ own_entries self.new.number book.new.book.history }
     {
         book.agree(&mut self.passes[place]);
     }
@@ -179,7 +180,7 @@ impl<N: Names> Client<N> {
         ensures told { let told = told_at_end ticks domain.new.cpus domain.new.limit
             domain.new.history in
             OnOk result (Tells log.old told log.new) }
-        ensures err { IfErr result (IsStopped (IsFull domain.new × (self.new ≡ self.old))) }
+        ensures err { IfErr result (IsRunStopped (IsFull domain.new × (self.new ≡ self.old))) }
     {
         match domain.advance_told(rt, &mut self.passes[place], gate, ticks, log) {
             Ok(Reply::Done { ticks: made }) if made == ticks => Ok(()),
@@ -207,7 +208,7 @@ impl<N: Names> Client<N> {
         ensures ends { OnOk result (IsEndBy self.old.number ticks book.new.book.history) }
         ensures forgotten { OnOk result (book.new.heard ≡ true) }
         ensures heard { IfOk result (λ a. IsHeardOf ticks book.new.book a) }
-        ensures err { IfErr result (IsStopped (IsFull book.new.book × (self.new ≡ self.old))) }
+        ensures err { IfErr result (IsRunStopped (IsFull book.new.book × (self.new ≡ self.old))) }
     {
         match book.advance_heard(&mut self.passes[place], gate, ticks) {
             Ok(heard) => all_heard(heard, ticks),
@@ -258,7 +259,7 @@ impl<N: Names> Client<N> {
         requires place { IsDomainIndex N.id place }
         ensures same { self.new ≡ record self.old { hand = None } }
         ensures own { IfSome result (λ b. b.gate ≡ N.id.gate) }
-        ensures found { IfSome result (λ b. b ≡ piece_of N.id.gate self.old.hand) }
+        ensures found { IfSome result (λ b. b ≡ blank_or_new N.id.gate self.old.hand) }
         ensures none { IfNone result (self.old.hand ≡ None) }
     {
         match self.hand.take() {
@@ -279,7 +280,8 @@ impl<N: Names> Client<N> {
         requires place { IsDomainIndex N.id place }
         requires own { blank.gate ≡ N.id.gate }
         ensures made { Makes self.old self.new (made_by place (admission prepared) result) }
-        ensures verdict { IsVerdict (length (cpus_of N.id place)) prepared.params.bw result }
+        ensures verdict { IsEntryVerdict (length (cpu_set_of N.id place)) prepared.params.bw
+            result }
         ensures last { IsLastFound self.new.hand result }
         ensures gate { AsksGate N.id.gate place prepared.params.bw
             (Some blank) result self.new.hand }
@@ -315,8 +317,8 @@ impl<N: Names> Client<N> {
         requires place { IsDomainIndex N.id place }
         requires checked { accepted task.now.attr ≡ Ok params }
         requires own { blank.gate ≡ N.id.gate }
-        ensures made { Makes self.old self.new (made_by place (call_of task.now) result) }
-        ensures verdict { IsVerdict (length (cpus_of N.id place))
+        ensures made { Makes self.old self.new (made_by place (admit_call task.now) result) }
+        ensures verdict { IsEntryVerdict (length (cpu_set_of N.id place))
             (params_of task.now.attr).bw result }
         ensures last { IsLastFound self.new.hand result }
         ensures gate { AsksGate N.id.gate place (params_of task.now.attr).bw
@@ -350,8 +352,8 @@ impl<N: Names> Client<N> {
     ) -> Answer
         requires place { IsDomainIndex N.id place }
         requires checked { accepted task.now.attr ≡ Ok params }
-        ensures made { Makes self.old self.new (made_by place (call_of task.now) result) }
-        ensures verdict { IsVerdict (length (cpus_of N.id place))
+        ensures made { Makes self.old self.new (made_by place (admit_call task.now) result) }
+        ensures verdict { IsEntryVerdict (length (cpu_set_of N.id place))
             (params_of task.now.attr).bw result }
         ensures last { IsLastFound self.new.hand result }
         ensures gate { AsksGate N.id.gate place (params_of task.now.attr).bw

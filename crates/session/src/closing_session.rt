@@ -2,14 +2,14 @@
 
 ghost use Rattle.std.specs.Prelude.{◌≡◌, ◌≢◌, ◌+◌, ◌*◌, ◌≤◌, ◌<◌, ℕ, [], length, map, All, IfOk, IfSome, vec_capacity, slice_index};
 ghost use Rattle.call_book.specs.Book.{own_entries};
-ghost use Rattle.bw_gate.specs.Pieces.{sum_of};
+ghost use Rattle.bw_gate.specs.Pieces.{bw_of_tickets};
 ghost use Rattle.session.specs.SessionId.{IsSession};
-ghost use Rattle.session.specs.Asks.{pass_in};
-ghost use Rattle.session.specs.Report.{IsHistoryOf, IsReport, sum_left};
+ghost use Rattle.session.specs.Asks.{client_pass_in};
+ghost use Rattle.session.specs.Report.{IsHistoryOf, IsSessionReport, sum_left};
 ghost use Rattle.session.specs.private.Entering.{IsSessionBook};
 ghost use Rattle.session.specs.private.Parts.{AreSessionBooks, AreBlanksOf, AreHands};
-ghost use Rattle.session.specs.private.Ending.{books_of, unheard};
-ghost use Rattle.session.specs.private.Closing.{AreTicketsOf, AreHistories, AreSums, IsRoom, IsEnded, HaveEnded};
+ghost use Rattle.session.specs.private.Ending.{books_of, unheard_ending};
+ghost use Rattle.session.specs.private.Closing.{AreTicketsOf, AreHistories, AreSums, IsClosingRoom, IsEnded, HaveEnded};
 
 use crate::client::Client;
 use crate::names::Names;
@@ -52,7 +52,8 @@ fn pour_tickets<N: Names>(home: &mut Vec<Ticket>, mut tickets: Vec<Ticket>)
     ensures count { length home.new.items ≡ length home.old.items + length tickets.items }
     ensures room { vec_capacity home.new ≡ vec_capacity home.old }
     ensures sums { (d : ℕ) →
-        sum_of d home.new.items ≡ sum_of d home.old.items + sum_of d tickets.items }
+        bw_of_tickets d home.new.items
+        ≡ bw_of_tickets d home.old.items + bw_of_tickets d tickets.items }
 {
     while let Some(ticket) = tickets.pop() {
         home.push_reserved(ticket);
@@ -66,7 +67,7 @@ fn agree_all<N: Names>(book: &mut EndingBook, clients: &mut Vec<Client<N>>, plac
     ensures book { book.new ≡ book.old }
     ensures clients { clients.new.items ≡ clients.old.items }
     ensures own { let history = book.new.book.history in
-        All (λ c. pass_in c place ≡ own_entries c.number history) clients.new.items }
+        All (λ c. client_pass_in c place ≡ own_entries c.number history) clients.new.items }
 {
     for k in 0..clients.len() {
         clients[k].agree(book, place);
@@ -96,10 +97,10 @@ fn close_book<N: Names>(
     ensures history { IsHistoryOf N.id place clients.new.items result.history }
     ensures ended { IsEnded book result.history result.state }
     ensures clients { clients.new.items ≡ clients.old.items }
-    ensures here { sum_of place home.new.tickets.items
-        ≡ sum_of place home.old.tickets.items + sum_left result.history }
+    ensures here { bw_of_tickets place home.new.tickets.items
+        ≡ bw_of_tickets place home.old.tickets.items + sum_left result.history }
     ensures elsewhere { (d : ℕ) → d ≢ place →
-        sum_of d home.new.tickets.items ≡ sum_of d home.old.tickets.items }
+        bw_of_tickets d home.new.tickets.items ≡ bw_of_tickets d home.old.tickets.items }
     ensures count { length home.new.tickets.items ≤ length home.old.tickets.items + 256 }
     ensures room { vec_capacity home.new.tickets ≡ vec_capacity home.old.tickets }
 {
@@ -169,7 +170,7 @@ impl Room {
     /// Room for the end of so many domains.
     pub(crate) fn open(alloc: Global, domains: usize) -> Result<Room, NoMemory>
         requires { domains ≤ 8 }
-        ensures { IfOk result (IsRoom domains) }
+        ensures { IfOk result (IsClosingRoom domains) }
     {
         let histories = Vec::with_capacity(alloc, domains)?;
         let states = Vec::with_capacity(alloc, domains)?;
@@ -201,7 +202,7 @@ impl Rooms {
         requires { domains ≤ 8 }
         ensures none { IfOk result (λ r. r.books.items ≡ []) }
         ensures books { IfOk result (λ r. domains ≤ vec_capacity r.books) }
-        ensures room { IfOk result (λ r. IsRoom domains r.room) }
+        ensures room { IfOk result (λ r. IsClosingRoom domains r.room) }
     {
         let Ok(books) = Vec::with_capacity(alloc, domains) else {
             return Err(NoMemory);
@@ -275,7 +276,7 @@ pub(crate) struct Remains {
 fn end_all(books: Vec<Domain>, ending: &mut Vec<EndingBook>)
     requires empty { ending.old.items ≡ [] }
     requires room { length books.items ≤ vec_capacity ending.old }
-    ensures { ending.new.items ≡ map unheard books.items }
+    ensures { ending.new.items ≡ map unheard_ending books.items }
 {
     let mut rest = books.into_iter();
     while let Some(book) = rest.next() {
@@ -302,7 +303,7 @@ pub(crate) struct Unlocked<N: Names> {
     ghost blanks_own: { AreBlanksOf N.id.gate blanks.items },
     ghost none_ended: { ending.items ≡ [] },
     ghost for_all: { length N.id.cpu_sets ≤ vec_capacity ending },
-    ghost enough: { IsRoom (length N.id.cpu_sets) room },
+    ghost enough: { IsClosingRoom (length N.id.cpu_sets) room },
 }
 
 impl<N: Names> Unlocked<N> {
@@ -322,7 +323,7 @@ impl<N: Names> Unlocked<N> {
         requires blanks { AreBlanksOf N.id.gate blanks.items }
         requires ending { ending.items ≡ [] }
         requires for_all { length N.id.cpu_sets ≤ vec_capacity ending }
-        requires room { IsRoom (length N.id.cpu_sets) room }
+        requires room { IsClosingRoom (length N.id.cpu_sets) room }
     {
         Unlocked {
             gate,
@@ -337,7 +338,7 @@ impl<N: Names> Unlocked<N> {
 
     /// No call is made on any book any more, but one last advance of each that is heard.
     pub(crate) fn end(self) -> Ending<N>
-        ensures { result.books.items ≡ map unheard self.books.items }
+        ensures { result.books.items ≡ map unheard_ending self.books.items }
     {
         let Unlocked {
             gate,
@@ -374,13 +375,13 @@ pub(crate) struct Ending<N: Names> {
     ghost count: { length books.items ≡ length N.id.cpu_sets },
     ghost named: { AreSessionBooks N.id (books_of books.items) },
     ghost blanks_own: { AreBlanksOf N.id.gate blanks.items },
-    ghost enough: { IsRoom (length N.id.cpu_sets) room },
+    ghost enough: { IsClosingRoom (length N.id.cpu_sets) room },
 }
 
 impl<N: Names> Ending<N> {
     /// Closes all books and then the gate.
     pub(crate) fn close(self, alloc: Global, mut clients: Vec<Client<N>>) -> Remains
-        ensures report { IsReport N.id clients.items result.report }
+        ensures report { IsSessionReport N.id clients.items result.report }
         ensures ended { HaveEnded self.books.items result.report.histories.items
             result.states.items }
     {

@@ -3,8 +3,8 @@
 ghost use Rattle.std.specs.Prelude.{◌≡◌, ◌<◌, ◌≤◌, true, false, [], length, vec_capacity, IfOk, IfErr, OnOk};
 ghost use Rattle.session.specs.Asks.{Makes};
 ghost use Rattle.session.specs.private.Parts.{AreSessionBooks};
-ghost use Rattle.session.specs.private.Ending.{AllEnd, AllTellEnds, AreAll, AreEndLogs, AreHeardEnds, AreOpenLogs, AreToldAs, IsFullAmong, books_of};
-ghost use Rattle.session.specs.RunEnd.{advance_of, IsFirst, IsFinished, IsFullWith, IsLogOf, IsStopped};
+ghost use Rattle.session.specs.private.Ending.{AllEnd, AllTellEnds, AreAllHeard, AreEndLogs, AreHeardEnds, AreOpenLogs, AreToldAs, IsFullAmong, books_of};
+ghost use Rattle.session.specs.RunEnd.{advance_of, FirstIsOne, IsFinished, IsFullWith, IsLogOf, IsRunStopped};
 
 use crate::client::Client;
 use crate::closing_session::{Ending, Remains, Unlocked};
@@ -75,7 +75,7 @@ fn advance_all<N: Names, R: Threads + Wait>(
     ensures logs { length logs.new.items ≡ length logs.old.items }
     ensures told { OnOk result (AllTellEnds duration books.new.items logs.old.items
         logs.new.items) }
-    ensures err { IfErr result (IsStopped
+    ensures err { IfErr result (IsRunStopped
         (IsFullAmong duration books.new.items client.old client.new)) }
 {
     for place in 0..books.len() {
@@ -102,7 +102,7 @@ fn advance<N: Names, R: Threads + Wait>(
     ensures logs { let books = unlocked.new.books.items in
         IfOk result (λ t. AreEndLogs wanted duration books t.logs.items) }
     ensures err { let books = unlocked.new.books.items in
-        IfErr result (IsStopped (IsFullAmong duration books client.old client.new)) }
+        IfErr result (IsRunStopped (IsFullAmong duration books client.old client.new)) }
 {
     let mut logs = open_logs(alloc, unlocked.books.len(), wanted)?;
     if duration == 0 {
@@ -136,7 +136,7 @@ fn hear_all<N: Names>(
     requires gate { gate.now ≡ N.id.gate }
     requires named { AreSessionBooks N.id (books_of books.old.items) }
     requires count { length books.old.items ≡ length N.id.cpu_sets }
-    requires unheard { AreAll false books.old.items }
+    requires unheard { AreAllHeard false books.old.items }
     requires domains { 0 < length N.id.cpu_sets }
     requires first { client.old.number ≡ 1 }
     requires some { 0 < duration }
@@ -147,11 +147,11 @@ fn hear_all<N: Names>(
     ensures count { length books.new.items ≡ length books.old.items }
     ensures made { OnOk result (Makes client.old client.new (λ d. advance_of duration 1)) }
     ensures ends { OnOk result (AllEnd duration (books_of books.new.items)) }
-    ensures forgotten { OnOk result (AreAll true books.new.items) }
+    ensures forgotten { OnOk result (AreAllHeard true books.new.items) }
     ensures heard { OnOk result
         (AreHeardEnds duration (books_of books.new.items) heard.new.items) }
     ensures err { IfErr result
-        (IsStopped (IsFullAmong duration (books_of books.new.items) client.old client.new)) }
+        (IsRunStopped (IsFullAmong duration (books_of books.new.items) client.old client.new)) }
 {
     for place in 0..books.len() {
         let accounting = client.hear_book(gate, &mut books[place], place, duration)?;
@@ -162,11 +162,11 @@ fn hear_all<N: Names>(
 
 /// Lets an accounting of each domain hear the switches of its run. No call is made.
 fn hear_still(books: &mut Vec<EndingBook>, heard: &mut Vec<Accounting>) -> Result<(), NoMemory>
-    requires unheard { AreAll false books.old.items }
+    requires unheard { AreAllHeard false books.old.items }
     requires empty { heard.old.items ≡ [] }
     requires room { length books.old.items ≤ vec_capacity heard.old }
     ensures books { books_of books.new.items ≡ books_of books.old.items }
-    ensures forgotten { OnOk result (AreAll true books.new.items) }
+    ensures forgotten { OnOk result (AreAllHeard true books.new.items) }
     ensures heard { OnOk result (AreHeardEnds 0 (books_of books.new.items) heard.new.items) }
 {
     for place in 0..books.len() {
@@ -182,16 +182,16 @@ fn hear<N: Names>(
     client: &mut Client<N>,
     duration: u64,
 ) -> Result<Told, EndFault>
-    requires unheard { AreAll false ending.old.books.items }
+    requires unheard { AreAllHeard false ending.old.books.items }
     requires first { client.old.number ≡ 1 }
     requires most { duration ≤ 60000000 }
     ensures made { OnOk result (Makes client.old client.new (λ d. advance_of duration 1)) }
     ensures ends { OnOk result (AllEnd duration (books_of ending.new.books.items)) }
-    ensures forgotten { OnOk result (AreAll true ending.new.books.items) }
+    ensures forgotten { OnOk result (AreAllHeard true ending.new.books.items) }
     ensures heard { let books = books_of ending.new.books.items in
         IfOk result (λ t. AreHeardEnds duration books t.heard.items) }
     ensures err { let books = books_of ending.new.books.items in
-        IfErr result (IsStopped (IsFullAmong duration books client.old client.new)) }
+        IfErr result (IsRunStopped (IsFullAmong duration books client.old client.new)) }
 {
     let Ok(mut heard) = Vec::with_capacity(alloc, ending.books.len()) else {
         return Err(EndFault::Memory);
@@ -235,11 +235,11 @@ fn advance_told<N: Names, R: Threads + Wait>(
     requires most { duration ≤ 60000000 }
     ensures made { OnOk result.told (Makes client.old client.new (λ d. advance_of duration 1)) }
     ensures ends { OnOk result.told (AllEnd duration (books_of result.ending.books.items)) }
-    ensures unheard { AreAll false result.ending.books.items }
+    ensures unheard { AreAllHeard false result.ending.books.items }
     ensures logs { let books = books_of result.ending.books.items in
         IfOk result.told (λ t. AreEndLogs wanted duration books t.logs.items) }
     ensures err { let books = books_of result.ending.books.items in
-        IfErr result.told (IsStopped (IsFullAmong duration books client.old client.new)) }
+        IfErr result.told (IsRunStopped (IsFullAmong duration books client.old client.new)) }
 {
     let told = advance(rt, alloc, &mut unlocked, client, duration, wanted);
     let ending = unlocked.end();
@@ -257,11 +257,11 @@ fn advance_heard<N: Names>(
     requires most { duration ≤ 60000000 }
     ensures made { OnOk result.told (Makes client.old client.new (λ d. advance_of duration 1)) }
     ensures ends { OnOk result.told (AllEnd duration (books_of result.ending.books.items)) }
-    ensures heard { OnOk result.told (AreAll true result.ending.books.items) }
+    ensures heard { OnOk result.told (AreAllHeard true result.ending.books.items) }
     ensures all { let books = books_of result.ending.books.items in
         IfOk result.told (λ t. AreHeardEnds duration books t.heard.items) }
     ensures err { let books = books_of result.ending.books.items in
-        IfErr result.told (IsStopped (IsFullAmong duration books client.old client.new)) }
+        IfErr result.told (IsRunStopped (IsFullAmong duration books client.old client.new)) }
 {
     let mut ending = unlocked.end();
     let told = hear(alloc, &mut ending, client, duration);
@@ -284,7 +284,7 @@ fn advance_as<N: Names, R: Threads + Wait>(
     ensures told { let books = result.ending.books.items in
         IfOk result.told (AreToldAs duration wanted books) }
     ensures err { let books = books_of result.ending.books.items in
-        IfErr result.told (IsStopped (IsFullAmong duration books client.old client.new)) }
+        IfErr result.told (IsRunStopped (IsFullAmong duration books client.old client.new)) }
 {
     match wanted {
         Wanted::Switches => advance_told(rt, alloc, unlocked, client, duration, false),
@@ -314,10 +314,10 @@ pub fn end_run<N: Names, R: Threads + Wait>(
     wanted: Wanted,
 ) -> Result<Finished, EndFault>
     requires some { 0 < length clients.items }
-    requires first { IsFirst clients.items }
+    requires first { FirstIsOne clients.items }
     requires duration { duration ≤ 60000000 }
     ensures ok { IfOk result (IsFinished N.id duration wanted clients.items) }
-    ensures err { IfErr result (IsStopped (IsFullWith N.id duration clients.items)) }
+    ensures err { IfErr result (IsRunStopped (IsFullWith N.id duration clients.items)) }
 {
     let unlocked = session.unlock(alloc)?;
     let Advanced { ending, told } = advance_as(

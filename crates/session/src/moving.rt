@@ -6,7 +6,7 @@ ghost use Rattle.calls_text.specs.Limits.{IsCall};
 ghost use Rattle.call_book.specs.MoveAnswers.{moving_as};
 ghost use Rattle.session.specs.declared.refusal.Refusal.TheVariants as refusals;
 ghost use Rattle.session.specs.SessionId.{IsDomainIndex};
-ghost use Rattle.session.specs.Asks.{Makes, piece_of};
+ghost use Rattle.session.specs.Asks.{Makes, blank_or_new};
 ghost use Rattle.session.specs.Moves.{WasListed, HasMoved, IsWhyUnmoved};
 ghost use Rattle.session.specs.private.Moving.{IsMoveAsk, AreOfOne, PassesMove, IsMoveFor, IsUnpreparedAt, refusal_by};
 
@@ -289,7 +289,8 @@ impl<N: Names> Client<N> {
         requires call { IsCall (calls.Depart number) }
         ensures same { (result ≡ Err refusals.SameDomain) ↔ (from ≡ to) }
         ensures moved { OnOk result
-            (HasMoved N.id number from to (piece_of N.id.gate self.old.hand) self.old self.new) }
+            (HasMoved N.id number from to (blank_or_new N.id.gate self.old.hand) self.old
+            self.new) }
         ensures unmoved { IfErr result (λ _. Makes self.old self.new (λ d. [])) }
         ensures why { IfErr result
             (IsWhyUnmoved N.id number from to self.old.hand self.new.hand) }

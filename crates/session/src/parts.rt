@@ -6,7 +6,7 @@ ghost use Rattle.atomic_table.specs.Seated.{TableId};
 ghost use Rattle.bw_gate.specs.Pieces.{GateId};
 ghost use Rattle.domain_run.specs.Domain.{IsCpus};
 ghost use Rattle.run_options.specs.Options.{AreOptions};
-ghost use Rattle.session.specs.Options.{IsSessionOf, terms_of};
+ghost use Rattle.session.specs.Options.{IsSessionOf, gate_terms_of};
 ghost use Rattle.session.specs.SessionId.{cpu_sets_from};
 ghost use Rattle.session.specs.private.Parts.{AreHands, HaveRoom, HaveRoomForOne, AreNewPasses, IsBookOf, AreBooks, AreBlanksOf};
 
@@ -104,7 +104,7 @@ fn cpu_sets_of(alloc: Global, domains: &Vec<u32>) -> Result<Vec<Vec<u32>>, NoMem
 /// A gate for these domains, with 256 pieces a domain and one a client.
 fn gate_of(alloc: Global, options: &Options) -> Result<(Gate, Vec<Blank>), NoMemory>
     requires { AreOptions options.now }
-    ensures terms { IfOk result (λ r. r.0.terms ≡ terms_of options.now) }
+    ensures terms { IfOk result (λ r. r.0.terms ≡ gate_terms_of options.now) }
     ensures blanks { IfOk result (λ r. AreBlanksOf r.0 r.1.items) }
 {
     let count = options.domains.len();
@@ -173,7 +173,7 @@ fn book_of(
     d: usize,
 ) -> Result<(BoxedDomain, Vec<Pass>), NoMemory>
     requires options { AreOptions options.now }
-    requires gate { gate.now.terms ≡ terms_of options.now }
+    requires gate { gate.now.terms ≡ gate_terms_of options.now }
     requires place { d < length options.now.domains.items }
     ensures book { let o = options.now in
         IfOk result (λ r. IsBookOf gate.now d (slice_index o.domains.items d) o.limit o.clients
@@ -209,7 +209,7 @@ fn books_of(
     hands: &mut Vec<Option<Hand>>,
 ) -> Result<Vec<BoxedDomain>, NoMemory>
     requires options { AreOptions options.now }
-    requires gate { gate.now.terms ≡ terms_of options.now }
+    requires gate { gate.now.terms ≡ gate_terms_of options.now }
     requires hands { AreHands gate.now [] hands.old.items }
     requires some { map is_some hands.old.items ≡ replicate options.now.clients true }
     requires room { HaveRoom (length options.now.domains.items) hands.old.items }

@@ -2,7 +2,7 @@
 
 ghost use Rattle.std.specs.Prelude.{◌≡◌, ◌≤◌, ◌<◌, length, replicate, true, [], IfOk, vec_capacity};
 ghost use Rattle.session.specs.Clients.{IsHandedOut};
-ghost use Rattle.session.specs.Report.{IsReport};
+ghost use Rattle.session.specs.Report.{IsSessionReport};
 
 use crate::books::{Books, unlock_all};
 use crate::client::Client;
@@ -124,7 +124,7 @@ impl<N: Names> Session<N> {
     /// (ENOMEM 12) where a growth was refused: the session is gone, and no clause says what it
     /// left. Its tickets were given back.
     pub fn close(self, alloc: Global, clients: Vec<Client<N>>) -> Result<Report, NoMemory>
-        ensures { IfOk result (IsReport N.id clients.items) }
+        ensures { IfOk result (IsSessionReport N.id clients.items) }
     {
         let Remains { report, states: _ } = self.unlock(alloc)?.end().close(alloc, clients);
         Ok(report)

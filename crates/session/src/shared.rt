@@ -7,7 +7,7 @@ ghost use Rattle.std.specs.Option.{option_map};
 ghost use Rattle.attr_check.specs.Accepted.{accepted};
 ghost use Rattle.bw_gate.specs.Pieces.{BlankView};
 ghost use Rattle.session.specs.SessionId.{IsDomainIndex};
-ghost use Rattle.session.specs.Asks.{domain_of, same_cpus, piece_of, IsLawful, IsLastFound, IsHandAfter};
+ghost use Rattle.session.specs.Asks.{domain_with_cpus, same_cpus, blank_or_new, IsLawful, IsLastFound, IsHandAfter};
 
 use crate::books::Books;
 use crate::names::Names;
@@ -60,7 +60,8 @@ impl<N: Names> Shared<N> {
     /// The parameters and the domain of a task, or why it is admitted nowhere.
     pub(crate) fn goal_of(&self, task: &TaskSpec) -> Result<(Params, usize), Refusal>
         ensures checked { IfOk result (λ r. accepted task.now.attr ≡ Ok r.0) }
-        ensures domain { IfOk result (λ r. domain_of N.id.cpu_sets task.now.cpus ≡ Some r.1) }
+        ensures domain { IfOk result
+            (λ r. domain_with_cpus N.id.cpu_sets task.now.cpus ≡ Some r.1) }
         ensures place { IfOk result (λ r. IsDomainIndex N.id r.1) }
         ensures refused { IfErr result (λ r. IsLawful N.id task.now (Err r)) }
         ensures unasked { (hand : Option BlankView) → IfErr result (λ r. IsLastFound hand (Err r)) }
@@ -80,7 +81,7 @@ impl<N: Names> Shared<N> {
     /// A piece of the pool, or else one that the domain of a place keeps. It is new to the client:
     /// it has found nothing.
     pub(crate) fn find_blank<R: Wait>(&self, rt: &R, place: usize) -> Option<Blank>
-        ensures { IfSome result (λ b. b ≡ piece_of N.id.gate None) }
+        ensures { IfSome result (λ b. b ≡ blank_or_new N.id.gate None) }
     {
         let blank = match self.pool.take(rt) {
             Some(blank) => blank,
@@ -93,7 +94,7 @@ impl<N: Names> Shared<N> {
 /// The domain that has exactly the CPUs of a task, the first where it names none.
 fn place_of(cpu_sets: &Vec<Vec<u32>>, cpus: &Option<Vec<u32>>) -> Option<usize>
     ensures { let sets = map (λ v. v.items) cpu_sets.now.items in
-        result ≡ domain_of sets (option_map (λ v. v.items) cpus.now) }
+        result ≡ domain_with_cpus sets (option_map (λ v. v.items) cpus.now) }
 {
     match cpus {
         None => Some(0),

@@ -8,10 +8,10 @@ use Rattle.std.proofs.lemmas.List.Elements.{recursion_from_All}
 use Rattle.domain_run.specs.Switch.{Switch}
 use Rattle.domain_run.specs.declared.switch.PrevState.{PrevState}
 use Rattle.switch_text.specs.Names.{SameNames}
-use Rattle.switch_text.specs.Line.{title_of, comm_of, task_part, prev_part, next_part, line_of}
-use Rattle.switch_text.specs.Trace.{RunView, Entry, entry_of, entries_of, is_earlier, placed_in, in_order, header, lines_of, trace_of}
+use Rattle.switch_text.specs.Line.{title_of, comm_of, task_part, prev_part, next_part, switch_line}
+use Rattle.switch_text.specs.Trace.{SwitchesView, Entry, entry_of, entries_of, is_earlier, placed_in, entries_in_order, header, text_of_entries, trace_of}
 use Rattle.switch_text.specs.SlicedTrace.{sliced_trace}
-use Rattle.domain_run.specs.Switches.{is_before}
+use Rattle.domain_run.specs.Switches.{is_switch_before}
 use Rattle.switch_text.proofs.Order.{AllByRecursion-weaker, AllByRecursion-placed_in, placed_in-first, not_later-from_earlier, not_later_twice}
 
 -- ---- the trace of one run
@@ -21,44 +21,44 @@ abbrev pub IsRising : List Entry → Type 0
 IsRising [] = Unit {0}
 IsRising (e ∷ es) = AllByRecursion (λ x. is_earlier e x ≡ true) es × IsRising es
 
-in_order-rising : (es : List Entry) → IsRising es → in_order es ≡ es
-unfolding in_order
+in_order-rising : (es : List Entry) → IsRising es → entries_in_order es ≡ es
+unfolding entries_in_order
 in_order-rising [] h = refl
 in_order-rising (e ∷ es) h =
     ap (placed_in e) (in_order-rising es h.1) ∙ placed_in-first e es (AllByRecursion-weaker (λ x. is_earlier e x ≡ true) (λ x. is_earlier x e ≡ false) es (λ x q. not_later-from_earlier e x q) h.0)
 
-pub is_earlier-entry : (r : RunView) (a b : Switch) → IsTrue (is_before a b) → is_earlier (entry_of r a) (entry_of r b) ≡ true
+pub is_earlier-entry : (r : SwitchesView) (a b : Switch) → IsTrue (is_switch_before a b) → is_earlier (entry_of r a) (entry_of r b) ≡ true
 is_earlier-entry r a b h = grind (arith, nat_tests)
 
-all_earlier : (r : RunView) (s : Switch) (ss : List Switch) → AllByRecursion (λ x. IsTrue (is_before s x)) ss → AllByRecursion (λ x. is_earlier (entry_of r s) x ≡ true) (map (entry_of r) ss)
+all_earlier : (r : SwitchesView) (s : Switch) (ss : List Switch) → AllByRecursion (λ x. IsTrue (is_switch_before s x)) ss → AllByRecursion (λ x. is_earlier (entry_of r s) x ≡ true) (map (entry_of r) ss)
 all_earlier r s [] h = tt
 all_earlier r s (x ∷ xs) h = (is_earlier-entry r s x h.0, all_earlier r s xs h.1)
 
-pub IsRising-map : (r : RunView) (ss : List Switch) → AllPairs (λ a b. IsTrue (is_before a b)) ss → IsRising (map (entry_of r) ss)
+pub IsRising-map : (r : SwitchesView) (ss : List Switch) → AllPairs (λ a b. IsTrue (is_switch_before a b)) ss → IsRising (map (entry_of r) ss)
 IsRising-map r [] h = tt
 IsRising-map r (s ∷ ss) h =
-    let first : All (λ x. IsTrue (is_before s x)) ss = λ k d lt. h 0 (suc k) d (omega arith) (omega arith) in
-    let rest : AllPairs (λ a b. IsTrue (is_before a b)) ss = λ i j d lt in'. h (suc i) (suc j) d (omega arith) (omega arith) in
-    (all_earlier r s ss (recursion_from_All (λ x. IsTrue (is_before s x)) ss first), IsRising-map r ss rest)
+    let first : All (λ x. IsTrue (is_switch_before s x)) ss = λ k d lt. h 0 (suc k) d (omega arith) (omega arith) in
+    let rest : AllPairs (λ a b. IsTrue (is_switch_before a b)) ss = λ i j d lt in'. h (suc i) (suc j) d (omega arith) (omega arith) in
+    (all_earlier r s ss (recursion_from_All (λ x. IsTrue (is_switch_before s x)) ss first), IsRising-map r ss rest)
 
-lines_of-map : (r : RunView) (ss : List Switch) → lines_of (map (entry_of r) ss) ≡ flat_map (line_of r.names r.base) ss
-unfolding lines_of
+lines_of-map : (r : SwitchesView) (ss : List Switch) → text_of_entries (map (entry_of r) ss) ≡ flat_map (switch_line r.names r.base) ss
+unfolding text_of_entries
 lines_of-map r [] = refl
-lines_of-map r (s ∷ ss) = ap (λ (xs : List ℕ). line_of r.names r.base s ++ xs) (lines_of-map r ss)
+lines_of-map r (s ∷ ss) = ap (λ (xs : List ℕ). switch_line r.names r.base s ++ xs) (lines_of-map r ss)
 
 -- the lines of one run in order are its lines as they stand
-pub lines_of-one_run : (r : RunView) → AllPairs (λ a b. IsTrue (is_before a b)) r.switches → lines_of (in_order (entries_of r ++ [])) ≡ flat_map (line_of r.names r.base) r.switches
+pub lines_of-one_run : (r : SwitchesView) → AllPairs (λ a b. IsTrue (is_switch_before a b)) r.switches → text_of_entries (entries_in_order (entries_of r ++ [])) ≡ flat_map (switch_line r.names r.base) r.switches
 lines_of-one_run r h =
-    let one : in_order (entries_of r ++ []) ≡ entries_of r = ap in_order (append-nil (entries_of r)) ∙ in_order-rising (entries_of r) (IsRising-map r r.switches h) in
-    ap lines_of one ∙ lines_of-map r r.switches
+    let one : entries_in_order (entries_of r ++ []) ≡ entries_of r = ap entries_in_order (append-nil (entries_of r)) ∙ in_order-rising (entries_of r) (IsRising-map r r.switches h) in
+    ap text_of_entries one ∙ lines_of-map r r.switches
 
 -- the trace of one run is the header and its lines as they stand
-pub trace_of-one_run : (r : RunView) → AllPairs (λ a b. IsTrue (is_before a b)) r.switches → trace_of (r ∷ []) ≡ header ++ flat_map (line_of r.names r.base) r.switches
+pub trace_of-one_run : (r : SwitchesView) → AllPairs (λ a b. IsTrue (is_switch_before a b)) r.switches → trace_of (r ∷ []) ≡ header ++ flat_map (switch_line r.names r.base) r.switches
 unfolding trace_of
 trace_of-one_run r h = ap (λ (xs : List ℕ). header ++ xs) (lines_of-one_run r h)
 
 -- what is written while a run is made is its trace
-pub sliced_trace-is : (r : RunView) → AllPairs (λ a b. IsTrue (is_before a b)) r.switches → sliced_trace r.base r.names r.switches ≡ trace_of (r ∷ [])
+pub sliced_trace-is : (r : SwitchesView) → AllPairs (λ a b. IsTrue (is_switch_before a b)) r.switches → sliced_trace r.base r.names r.switches ≡ trace_of (r ∷ [])
 sliced_trace-is r h = sym (trace_of-one_run r h)
 
 -- ---- the names that occur
@@ -84,16 +84,16 @@ unfolding next_part
 next_part-same f g cpu task h = rw (comm_of-same f g cpu task h) refl
 
 -- a line depends only on the names that occur in it
-pub line_of-same_names : (f g : ℕ → List ℕ) (base : ℕ) (s : Switch) → SameNames f g s → line_of f base s ≡ line_of g base s
-unfolding line_of
+pub line_of-same_names : (f g : ℕ → List ℕ) (base : ℕ) (s : Switch) → SameNames f g s → switch_line f base s ≡ switch_line g base s
+unfolding switch_line
 line_of-same_names f g base s h = rw (task_part-same f g s.prev h.prev, prev_part-same f g (base + s.cpu) s.prev s.state h.prev, next_part-same f g (base + s.cpu) s.next h.next) refl
 
-lines_by-recursion : (f g : ℕ → List ℕ) (base : ℕ) (ss : List Switch) → AllByRecursion (SameNames f g) ss → flat_map (line_of f base) ss ≡ flat_map (line_of g base) ss
+lines_by-recursion : (f g : ℕ → List ℕ) (base : ℕ) (ss : List Switch) → AllByRecursion (SameNames f g) ss → flat_map (switch_line f base) ss ≡ flat_map (switch_line g base) ss
 lines_by-recursion f g base [] h = refl
-lines_by-recursion f g base (s ∷ ss) h = ap (λ (xs : List ℕ). xs ++ flat_map (line_of f base) ss) (line_of-same_names f g base s h.0) ∙ ap (λ (xs : List ℕ). line_of g base s ++ xs) (lines_by-recursion f g base ss h.1)
+lines_by-recursion f g base (s ∷ ss) h = ap (λ (xs : List ℕ). xs ++ flat_map (switch_line f base) ss) (line_of-same_names f g base s h.0) ∙ ap (λ (xs : List ℕ). switch_line g base s ++ xs) (lines_by-recursion f g base ss h.1)
 
 -- so do lines
-pub lines_of-same_names : (f g : ℕ → List ℕ) (base : ℕ) (ss : List Switch) → All (SameNames f g) ss → flat_map (line_of f base) ss ≡ flat_map (line_of g base) ss
+pub lines_of-same_names : (f g : ℕ → List ℕ) (base : ℕ) (ss : List Switch) → All (SameNames f g) ss → flat_map (switch_line f base) ss ≡ flat_map (switch_line g base) ss
 lines_of-same_names f g base ss h = lines_by-recursion f g base ss (recursion_from_All (SameNames f g) ss h)
 
 named_alike : (f g : ℕ → List ℕ) (task : Option ℕ) → ((number : ℕ) → f number ≡ g number) → IfSome task (λ n. f n ≡ g n)
@@ -105,7 +105,7 @@ pub SameNames-everywhere : (f g : ℕ → List ℕ) (ss : List Switch) → ((num
 SameNames-everywhere f g ss h = λ k d lt. record { prev = named_alike f g (get_or ss k d).prev h; next = named_alike f g (get_or ss k d).next h }
 
 -- two runs with one base and one list of switches, whose names agree where they occur
-pub record SameRun (r q : RunView) : Type 0 where
+pub record SameRun (r q : SwitchesView) : Type 0 where
   pub base : r.base ≡ q.base
   pub switches : r.switches ≡ q.switches
   pub names : All (SameNames r.names q.names) r.switches
@@ -118,22 +118,22 @@ map_entry-same f g base all (s ∷ ss) h =
     let more = map_entry-same f g base all ss h.1 in
     cc
 
-entries_of-same : (r q : RunView) → SameRun r q → entries_of r ≡ entries_of q
+entries_of-same : (r q : SwitchesView) → SameRun r q → entries_of r ≡ entries_of q
 entries_of-same r q h =
     let names = map_entry-same r.names q.names r.base r.switches r.switches (recursion_from_All (SameNames r.names q.names) r.switches h.names) in
     names ∙ ap (λ (b : ℕ). entries_of (record { base = b; names = q.names; switches = r.switches })) h.base
     ∙ ap (λ (ss : List Switch). entries_of (record { base = q.base; names = q.names; switches = ss })) h.switches
 
-all_entries-same : (rs qs : List RunView) → AllZip SameRun rs qs → flat_map entries_of rs ≡ flat_map entries_of qs
+all_entries-same : (rs qs : List SwitchesView) → AllZip SameRun rs qs → flat_map entries_of rs ≡ flat_map entries_of qs
 all_entries-same [] [] h = refl
 all_entries-same [] (q ∷ qs) h = absurd h
 all_entries-same (r ∷ rs) [] h = absurd h
 all_entries-same (r ∷ rs) (q ∷ qs) h = ap (λ (es : List Entry). es ++ flat_map entries_of rs) (entries_of-same r q h.0) ∙ ap (λ (es : List Entry). entries_of q ++ es) (all_entries-same rs qs h.1)
 
 -- a trace depends only on the names that occur in it
-pub trace_of-same_names : (rs qs : List RunView) → AllZip SameRun rs qs → trace_of rs ≡ trace_of qs
+pub trace_of-same_names : (rs qs : List SwitchesView) → AllZip SameRun rs qs → trace_of rs ≡ trace_of qs
 unfolding trace_of
-trace_of-same_names rs qs h = ap (λ (es : List Entry). header ++ lines_of (in_order es)) (all_entries-same rs qs h)
+trace_of-same_names rs qs h = ap (λ (es : List Entry). header ++ text_of_entries (entries_in_order es)) (all_entries-same rs qs h)
 
 -- ---- what it means to be in order
 
@@ -152,10 +152,10 @@ IsInOrder-placed_in : (e : Entry) (es : List Entry) → IsInOrder es → IsInOrd
 IsInOrder-placed_in e [] h = (tt, tt)
 IsInOrder-placed_in e (f ∷ fs) h = IsInOrder-placed_at e f fs (is_earlier f e) refl h (IsInOrder-placed_in e fs h.1)
 
-pub IsInOrder-in_order : (es : List Entry) → IsInOrder (in_order es)
-unfolding in_order
+pub IsInOrder-in_order : (es : List Entry) → IsInOrder (entries_in_order es)
+unfolding entries_in_order
 IsInOrder-in_order [] = tt
-IsInOrder-in_order (e ∷ es) = IsInOrder-placed_in e (in_order es) (IsInOrder-in_order es)
+IsInOrder-in_order (e ∷ es) = IsInOrder-placed_in e (entries_in_order es) (IsInOrder-in_order es)
 
 -- an entry of this time and CPU
 abbrev pub is_at : ℕ → ℕ → Entry → Bool
@@ -184,8 +184,8 @@ filter-placed_in time cpu e [] = refl
 filter-placed_in time cpu e (f ∷ fs) = filter-placed_at time cpu e f fs (is_earlier f e) refl (filter-placed_in time cpu e fs)
 
 -- at each time and CPU the same entries stand as before, in the order in which they stood
-pub filter-in_order : (time cpu : ℕ) (es : List Entry) → filter (is_at time cpu) (in_order es) ≡ filter (is_at time cpu) es
-unfolding in_order
+pub filter-in_order : (time cpu : ℕ) (es : List Entry) → filter (is_at time cpu) (entries_in_order es) ≡ filter (is_at time cpu) es
+unfolding entries_in_order
 filter-in_order time cpu [] = refl
 filter-in_order time cpu (e ∷ es) =
-    filter-placed_in time cpu e (in_order es) ∙ ap (λ (fs : List Entry). cond (is_at time cpu e) (e ∷ fs) fs) (filter-in_order time cpu es)
+    filter-placed_in time cpu e (entries_in_order es) ∙ ap (λ (fs : List Entry). cond (is_at time cpu e) (e ∷ fs) fs) (filter-in_order time cpu es)

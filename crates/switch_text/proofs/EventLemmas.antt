@@ -7,10 +7,10 @@ use Rattle.std.proofs.lemmas.Bool.Decides.{nat_tests}
 use Rattle.domain_run.specs.declared.happened.What.{What}
 use Rattle.domain_run.specs.declared.happened.What.TheVariants.{JobEnds, NextReleased, Spent, Cut, Replenished, Released, WokenSpent}
 use Rattle.domain_run.specs.declared.happened.Happened.{Happened}
-use Rattle.domain_run.specs.Happened.{rank}
-use Rattle.switch_text.specs.Trace.{RunView, Entry, entries_of, is_earlier, placed_in, in_order, header, lines_of, trace_of}
+use Rattle.domain_run.specs.Happened.{kind_rank}
+use Rattle.switch_text.specs.Trace.{SwitchesView, Entry, entries_of, is_earlier, placed_in, entries_in_order, header, text_of_entries, trace_of}
 use Rattle.switch_text.specs.Events.{ToldView, Event, told_event, told_events, switch_events, all_events, comes_before, with_event, in_sequence, lines_of_events, events_of}
-use Rattle.switch_text.specs.private.ToldMerging.{is_shown}
+use Rattle.switch_text.specs.private.ToldMerging.{is_line_told}
 use Rattle.switch_text.specs.private.EventMerging.{of_entry}
 use Rattle.switch_text.proofs.Order.{AllByRecursion-append}
 use Rattle.switch_text.proofs.EventsUnderWay.{all_switches-are}
@@ -29,23 +29,23 @@ with_event-of_entry e (f ∷ fs) =
     ]
 
 -- the switches alone stand in the order of the trace
-in_sequence-of_entry : (es : List Entry) → in_sequence (map of_entry es) ≡ map of_entry (in_order es)
-unfolding in_sequence in_order
+in_sequence-of_entry : (es : List Entry) → in_sequence (map of_entry es) ≡ map of_entry (entries_in_order es)
+unfolding in_sequence entries_in_order
 in_sequence-of_entry [] = refl
-in_sequence-of_entry (e ∷ es) = ap (with_event (of_entry e)) (in_sequence-of_entry es) ∙ with_event-of_entry e (in_order es)
+in_sequence-of_entry (e ∷ es) = ap (with_event (of_entry e)) (in_sequence-of_entry es) ∙ with_event-of_entry e (entries_in_order es)
 
-lines_of_events-of_entry : (es : List Entry) → lines_of_events (map of_entry es) ≡ lines_of es
-unfolding lines_of_events lines_of
+lines_of_events-of_entry : (es : List Entry) → lines_of_events (map of_entry es) ≡ text_of_entries es
+unfolding lines_of_events text_of_entries
 lines_of_events-of_entry [] = refl
 lines_of_events-of_entry (e ∷ es) = ap (λ (more : _). e.line ++ more) (lines_of_events-of_entry es)
 
 -- where nothing happens the events are the trace
-pub events_of-nothing : (runs : List RunView) → events_of runs [] ≡ trace_of runs
+pub events_of-nothing : (runs : List SwitchesView) → events_of runs [] ≡ trace_of runs
 unfolding events_of trace_of
 events_of-nothing runs =
     ap (λ (es : List Event). header ++ lines_of_events (in_sequence es)) (sym (all_switches-are runs))
     ∙ ap (λ (es : List Event). header ++ lines_of_events es) (in_sequence-of_entry (flat_map entries_of runs))
-    ∙ ap (λ (text : _). header ++ text) (lines_of_events-of_entry (in_order (flat_map entries_of runs)))
+    ∙ ap (λ (text : _). header ++ text) (lines_of_events-of_entry (entries_in_order (flat_map entries_of runs)))
 
 abbrev pub is_switch : Event → Bool
 is_switch e = e.rank == 7
@@ -63,7 +63,7 @@ unfolding in_sequence
 filter-among [] es none = refl
 filter-among (t ∷ ts) es none = filter-with_other t (in_sequence (ts ++ es)) none.0 ∙ filter-among ts es none.1
 
-not_seven : (what : What) → (rank what == 7) ≡ false
+not_seven : (what : What) → (kind_rank what == 7) ≡ false
 not_seven JobEnds = refl
 not_seven (NextReleased d) = refl
 not_seven (Spent d) = refl
@@ -78,15 +78,15 @@ no_switch_in t (h ∷ hs) = (not_seven h.what, no_switch_in t hs)
 
 no_switch : (told : List ToldView) → AllByRecursion (λ e. is_switch e ≡ false) (flat_map told_events told)
 no_switch [] = tt
-no_switch (t ∷ ts) = AllByRecursion-append (λ e. is_switch e ≡ false) (told_events t) (flat_map told_events ts) (no_switch_in t (filter is_shown t.happened)) (no_switch ts)
+no_switch (t ∷ ts) = AllByRecursion-append (λ e. is_switch e ≡ false) (told_events t) (flat_map told_events ts) (no_switch_in t (filter is_line_told t.happened)) (no_switch ts)
 
 filter-of_entry : (es : List Entry) → filter is_switch (map of_entry es) ≡ map of_entry es
 filter-of_entry [] = refl
 filter-of_entry (e ∷ es) = ap (λ (more : List Event). of_entry e ∷ more) (filter-of_entry es)
 
 -- the switches among the events stand as they do where nothing happens, which is in the order of the trace
-pub filter-all_events : (runs : List RunView) (told : List ToldView) → filter is_switch (in_sequence (all_events runs told)) ≡ in_sequence (all_events runs [])
+pub filter-all_events : (runs : List SwitchesView) (told : List ToldView) → filter is_switch (in_sequence (all_events runs told)) ≡ in_sequence (all_events runs [])
 filter-all_events runs told =
     let switches = flat_map entries_of runs in
-    let alone : in_sequence (flat_map switch_events runs) ≡ map of_entry (in_order switches) = ap in_sequence (sym (all_switches-are runs)) ∙ in_sequence-of_entry switches in
-    filter-among (flat_map told_events told) (flat_map switch_events runs) (no_switch told) ∙ ap (filter is_switch) alone ∙ filter-of_entry (in_order switches) ∙ sym alone
+    let alone : in_sequence (flat_map switch_events runs) ≡ map of_entry (entries_in_order switches) = ap in_sequence (sym (all_switches-are runs)) ∙ in_sequence-of_entry switches in
+    filter-among (flat_map told_events told) (flat_map switch_events runs) (no_switch told) ∙ ap (filter is_switch) alone ∙ filter-of_entry (entries_in_order switches) ∙ sym alone

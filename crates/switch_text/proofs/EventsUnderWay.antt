@@ -12,14 +12,14 @@ use Rattle.domain_run.specs.Switch.{Switch}
 use Rattle.counted_io.specs.Faults.{TakesFront}
 use Rattle.switch_text.specs.declared.run.Run.{Run}
 use Rattle.switch_text.specs.declared.told.Told.{Told}
-use Rattle.switch_text.specs.Trace.{RunView, entry_of, entries_of, header}
-use Rattle.switch_text.specs.Runs.{view_of, views, IsRun}
+use Rattle.switch_text.specs.Trace.{SwitchesView, entry_of, entries_of, header}
+use Rattle.switch_text.specs.Runs.{switches_view_of, views, IsPrintable}
 use Rattle.switch_text.specs.Events.{ToldView, Event, told_event, told_events, switch_event, switch_events, all_events, in_sequence, lines_of_events, events_of}
 use Rattle.switch_text.specs.Telling.{told_view, told_views, IsTold}
-use Rattle.switch_text.specs.private.Merging.{left_of}
+use Rattle.switch_text.specs.private.Merging.{entries_left}
 use Rattle.switch_text.specs.private.Sending.{Sends}
-use Rattle.switch_text.specs.private.ToldMerging.{is_shown, left_told}
-use Rattle.switch_text.specs.private.EventMerging.{of_entry, left_events, IsStep}
+use Rattle.switch_text.specs.private.ToldMerging.{is_line_told, left_told}
+use Rattle.switch_text.specs.private.EventMerging.{of_entry, left_events, IsEventStep}
 use Rattle.switch_text.proofs.Few.{few}
 use Rattle.switch_text.proofs.UnderWay.{sends_on, length-sent, left_of-start, length-header}
 
@@ -29,7 +29,7 @@ pub record AreUnderWay (before after : Option (List ℕ)) (text : List ℕ) (tot
   pub bound : sent + length waiting + 512 * length left ≤ 14 + 512 * total
 
 pub AreUnderWay-next : (before mid after : Option (List ℕ)) (text : List ℕ) (total : ℕ) (left left' : List Event) (sent n : ℕ) (waiting rest line : List ℕ) → AreUnderWay before mid text total left sent waiting
-    → IsStep left left' line → Sends mid after (waiting ++ line) n rest → length line ≤ 512 → AreUnderWay before after text total left' (sent + n) rest
+    → IsEventStep left left' line → Sends mid after (waiting ++ line) n rest → length line ≤ 512 → AreUnderWay before after text total left' (sent + n) rest
 AreUnderWay-next before mid after text total left left' sent n waiting rest line u step s short =
     let sends = subst (λ (xs : List ℕ). Sends before mid text sent (waiting ++ xs)) step.lines u.sends in
     let bound = u.bound in
@@ -73,11 +73,11 @@ left_told-start [] n h = refl
 left_told-start (t ∷ ts) zero h = absurd (omega arith)
 left_told-start (t ∷ ts) (suc n) h = ap (λ (es : List Event). told_events t ++ es) (left_told-start ts n (omega arith))
 
-switch_events-is : (r : RunView) (ss : List Switch) → map of_entry (map (entry_of r) ss) ≡ map (switch_event r) ss
+switch_events-is : (r : SwitchesView) (ss : List Switch) → map of_entry (map (entry_of r) ss) ≡ map (switch_event r) ss
 switch_events-is r [] = refl
 switch_events-is r (s ∷ ss) = ap (λ (es : List Event). switch_event r s ∷ es) (switch_events-is r ss)
 
-pub all_switches-are : (runs : List RunView) → map of_entry (flat_map entries_of runs) ≡ flat_map switch_events runs
+pub all_switches-are : (runs : List SwitchesView) → map of_entry (flat_map entries_of runs) ≡ flat_map switch_events runs
 all_switches-are [] = refl
 all_switches-are (r ∷ rs) =
     map-append of_entry (entries_of r) (flat_map entries_of rs) ∙ ap (λ (es : List Event). es ++ map of_entry (flat_map entries_of rs)) (switch_events-is r r.switches)
@@ -86,10 +86,10 @@ all_switches-are (r ∷ rs) =
 pub left_events-start : (runs : List Run) (told : List Told) → length runs ≤ 8 → length told ≤ 8
     → left_events runs told (record { switches = replicate 8 0; told = replicate 8 0 }) ≡ all_events (views runs) (told_views told)
 left_events-start runs told few_runs few_told =
-    ap (λ (es : List Event). es ++ map of_entry (left_of (views runs) (replicate 8 0))) (left_told-start (told_views told) 8 (omega (arith, length-map told told_view)))
-    ∙ ap (λ (es : List Event). flat_map told_events (told_views told) ++ es) (ap (map of_entry) (left_of-start (views runs) 8 (omega (arith, length-map runs view_of))) ∙ all_switches-are (views runs))
+    ap (λ (es : List Event). es ++ map of_entry (entries_left (views runs) (replicate 8 0))) (left_told-start (told_views told) 8 (omega (arith, length-map told told_view)))
+    ∙ ap (λ (es : List Event). flat_map told_events (told_views told) ++ es) (ap (map of_entry) (left_of-start (views runs) 8 (omega (arith, length-map runs switches_view_of))) ∙ all_switches-are (views runs))
 
-pub AreUnderWay-start : (before : Option (List ℕ)) (runs : List RunView) (told : List ToldView) (left : List Event) → left ≡ all_events runs told
+pub AreUnderWay-start : (before : Option (List ℕ)) (runs : List SwitchesView) (told : List ToldView) (left : List Event) → left ≡ all_events runs told
     → AreUnderWay before before (events_of runs told) (length (all_events runs told)) left 0 header
 unfolding events_of
 AreUnderWay-start before runs told left start =
@@ -105,16 +105,16 @@ AreUnderWay-start before runs told left start =
 
 -- ---- they are few enough to be counted
 
-length-shown : (hs : List Happened) → length (filter is_shown hs) ≤ length hs
+length-shown : (hs : List Happened) → length (filter is_line_told hs) ≤ length hs
 length-shown [] = omega arith
 length-shown (h ∷ hs) =
     let more = length-shown hs in
-    elim (is_shown h) as (λ b. length (cond b (h ∷ filter is_shown hs) (filter is_shown hs)) ≤ length (h ∷ hs)) [ true ↦ omega arith | false ↦ omega arith ]
+    elim (is_line_told h) as (λ b. length (cond b (h ∷ filter is_line_told hs) (filter is_line_told hs)) ≤ length (h ∷ hs)) [ true ↦ omega arith | false ↦ omega arith ]
 
 few_told : (t : Told) → IsTold t → length (told_events (told_view t)) ≤ 2 ^ 50
 few_told t good =
     let few : length t.happened.now ≤ 2 ^ 50 = good.few in
-    omega (arith, length-map (filter is_shown t.happened.now) (told_event (told_view t)), length-shown t.happened.now, few)
+    omega (arith, length-map (filter is_line_told t.happened.now) (told_event (told_view t)), length-shown t.happened.now, few)
 
 told_in : (told : List Told) → AllByRecursion IsTold told → length (flat_map told_events (told_views told)) ≤ length told * 2 ^ 50
 told_in [] all = omega arith
@@ -123,7 +123,7 @@ told_in (t ∷ ts) all =
     let here = few_told t all.0 in
     omega (arith, length-append (told_events (told_view t)) (flat_map told_events (told_views ts)), more, here)
 
-pub few_events : (runs : List Run) (told : List Told) → length runs ≤ 8 → length told ≤ 8 → All IsRun runs → All IsTold told → length (all_events (views runs) (told_views told)) ≤ 2 ^ 53 + 2 ^ 54
+pub few_events : (runs : List Run) (told : List Told) → length runs ≤ 8 → length told ≤ 8 → All IsPrintable runs → All IsTold told → length (all_events (views runs) (told_views told)) ≤ 2 ^ 53 + 2 ^ 54
 few_events runs told few_runs few_tolds are_runs are_told =
     let told_bound = told_in told (recursion_from_All IsTold told are_told) in
     let run_bound = few runs few_runs are_runs in

@@ -11,17 +11,17 @@ use Rattle.switch_text.specs.declared.merge.Next.{Next}
 use Rattle.switch_text.specs.declared.ready.Who.{Who}
 use Rattle.switch_text.specs.declared.ready.Who.TheVariants.{Nobody, Idle, Task}
 use Rattle.switch_text.specs.declared.ready.Slot.{Slot}
-use Rattle.switch_text.specs.Names.{named, SameNames}
-use Rattle.switch_text.specs.Line.{digits_in, pid_of, prio_of, comm_of, letters_of, task_part, cpu_part, time_part, prev_part, next_part, line_of}
+use Rattle.switch_text.specs.Names.{name_of_task, SameNames}
+use Rattle.switch_text.specs.Line.{digits_in, pid_of, prio_of, comm_of, letters_of, task_part, cpu_part, time_part, prev_part, next_part, switch_line}
 use Rattle.switch_text.specs.private.Parts.{second_part, event_part, leaving_part, state_part, coming_part}
-use Rattle.switch_text.specs.private.Pieces.{text_of, short_text_of}
-use Rattle.switch_text.specs.private.Merging.{IsRunAt, IsAmong, IsNamed}
-use Rattle.switch_text.specs.private.Ready.{IsReady, names_at, who_of, AreNamed, AreNobodys, IsFor, IsSlot, nth_state}
+use Rattle.switch_text.specs.private.Pieces.{piece_text, short_text_of}
+use Rattle.switch_text.specs.private.Merging.{IsRunAt, IsAmong, IsNextNamed}
+use Rattle.switch_text.specs.private.Ready.{IsSlotReady, names_at, who_of, RunsHaveNames, AreNobodys, IsFor, IsSlot, nth_state}
 use Rattle.switch_text.proofs.CallerLemmas.{task_part-same, line_of-same_names, SameNames-everywhere}
 
-pub names_at-is : (runs : List Run) (i : ℕ) (r : Run) → i < length runs → r ≡ get_or runs i r → names_at runs i ≡ named r.names.now
+pub names_at-is : (runs : List Run) (i : ℕ) (r : Run) → i < length runs → r ≡ get_or runs i r → names_at runs i ≡ name_of_task r.names.now
 names_at-is [] i r inside is = absurd (omega arith)
-names_at-is (x ∷ runs) zero r inside is = ap (λ (q : Run). named q.names.now) (sym is)
+names_at-is (x ∷ runs) zero r inside is = ap (λ (q : Run). name_of_task q.names.now) (sym is)
 names_at-is (x ∷ runs) (suc i) r inside is = names_at-is runs i r (omega arith) is
 
 -- ---- how tasks are named
@@ -30,22 +30,22 @@ SameNames-itself : (f : ℕ → List ℕ) (s : Switch) → SameNames f f s
 SameNames-itself f s = SameNames-everywhere f f (s ∷ []) (λ n. refl) 0 s (omega arith)
 
 -- runs name their tasks as they name them
-pub AreNamed-at : (runs : List Run) → AreNamed (names_at runs) runs
+pub AreNamed-at : (runs : List Run) → RunsHaveNames (names_at runs) runs
 AreNamed-at runs = λ i r inside is.
-    subst (λ (f : ℕ → List ℕ). All (SameNames (named r.names.now) f) r.switches.now) (sym (names_at-is runs i r inside is)) (SameNames-everywhere (named r.names.now) (named r.names.now) r.switches.now (λ n. refl))
+    subst (λ (f : ℕ → List ℕ). All (SameNames (name_of_task r.names.now) f) r.switches.now) (sym (names_at-is runs i r inside is)) (SameNames-everywhere (name_of_task r.names.now) (name_of_task r.names.now) r.switches.now (λ n. refl))
 
-pub IsNamed-at : (runs : List Run) (n : Next) → IsRunAt runs n → IsNamed (names_at runs) n
+pub IsNamed-at : (runs : List Run) (n : Next) → IsRunAt runs n → IsNextNamed (names_at runs) n
 IsNamed-at runs n at =
-    subst (λ (f : ℕ → List ℕ). SameNames (named n.run.now.names.now) f n.switch.now) (sym (names_at-is runs n.index n.run.now at.inside at.is)) (SameNames-itself (named n.run.now.names.now) n.switch.now)
+    subst (λ (f : ℕ → List ℕ). SameNames (name_of_task n.run.now.names.now) f n.switch.now) (sym (names_at-is runs n.index n.run.now at.inside at.is)) (SameNames-itself (name_of_task n.run.now.names.now) n.switch.now)
 
 -- where all switches of the runs are named so, one of them is
-pub IsNamed-among : (names : ℕ → ℕ → List ℕ) (runs : List Run) (n : Next) → AreNamed names runs → IsRunAt runs n → IsAmong n → IsNamed names n
+pub IsNamed-among : (names : ℕ → ℕ → List ℕ) (runs : List Run) (n : Next) → RunsHaveNames names runs → IsRunAt runs n → IsAmong n → IsNextNamed names n
 IsNamed-among names runs n are at among =
-    subst (λ (s : Switch). SameNames (named n.run.now.names.now) (names n.index) s) (sym among.is) (are n.index n.run.now at.inside at.is among.place n.switch.now among.inside)
+    subst (λ (s : Switch). SameNames (name_of_task n.run.now.names.now) (names n.index) s) (sym among.is) (are n.index n.run.now at.inside at.is among.place n.switch.now among.inside)
 
 -- one run alone
-pub AreNamed-one : (names : ℕ → List ℕ) (r : Run) → All (SameNames (named r.names.now) names) r.switches.now → AreNamed (λ run. names) (r ∷ [])
-AreNamed-one names r h zero q inside is = subst (λ (x : Run). All (SameNames (named x.names.now) names) x.switches.now) (sym is) h
+pub AreNamed-one : (names : ℕ → List ℕ) (r : Run) → All (SameNames (name_of_task r.names.now) names) r.switches.now → RunsHaveNames (λ run. names) (r ∷ [])
+AreNamed-one names r h zero q inside is = subst (λ (x : Run). All (SameNames (name_of_task x.names.now) names) x.switches.now) (sym is) h
 AreNamed-one names r h (suc i) q inside is = absurd (omega arith)
 
 -- ---- texts of tasks and idle CPUs
@@ -61,18 +61,18 @@ coming_part-same f g cpu None h = refl
 coming_part-same f g cpu (Some n) h = rw h refl
 
 -- texts serve under all names that give the same name to their task, and those of a task on all CPUs
-pub IsReady-same : (f g : ℕ → List ℕ) (cpu : ℕ) (task : Option ℕ) (s : Slot) → IfSome task (λ n. f n ≡ g n) → IsReady f cpu task s → IsReady g cpu task s
+pub IsReady-same : (f g : ℕ → List ℕ) (cpu : ℕ) (task : Option ℕ) (s : Slot) → IfSome task (λ n. f n ≡ g n) → IsSlotReady f cpu task s → IsSlotReady g cpu task s
 IsReady-same f g cpu task s same h = record {
   head = h.head ∙ task_part-same f g task same;
   leaving = h.leaving ∙ leaving_part-same f g cpu task same;
   coming = h.coming ∙ coming_part-same f g cpu task same;
 }
 
-task_anywhere : (f : ℕ → List ℕ) (a b number : ℕ) (s : Slot) → IsReady f a (Some number) s → IsReady f b (Some number) s
+task_anywhere : (f : ℕ → List ℕ) (a b number : ℕ) (s : Slot) → IsSlotReady f a (Some number) s → IsSlotReady f b (Some number) s
 unfolding leaving_part coming_part
 task_anywhere f a b number s h = record { head = h.head; leaving = h.leaving; coming = h.coming }
 
-pub IsSlot-made : (names : ℕ → ℕ → List ℕ) (run cpu : ℕ) (task : Option ℕ) (s : Slot) → s.who ≡ who_of run cpu task → IsReady (names run) cpu task s → IsSlot names s
+pub IsSlot-made : (names : ℕ → ℕ → List ℕ) (run cpu : ℕ) (task : Option ℕ) (s : Slot) → s.who ≡ who_of run cpu task → IsSlotReady (names run) cpu task s → IsSlot names s
 IsSlot-made names run cpu None s is h = subst (λ (w : Who). IsFor names w s) (sym is) (λ others. IsReady-same (names run) others cpu None s tt h)
 IsSlot-made names run cpu (Some number) s is h = subst (λ (w : Who). IsFor names w s) (sym is) (λ b. task_anywhere (names run) cpu b number s h)
 
@@ -80,7 +80,7 @@ IsSlot-made names run cpu (Some number) s is h = subst (λ (w : Who). IsFor name
 pub nobody_is_slot : (names : ℕ → ℕ → List ℕ) (slots : List Slot) → AreNobodys slots → All (IsSlot names) slots
 nobody_is_slot names slots h = All-weaker (λ s. s.who ≡ Nobody) (IsSlot names) (λ s e. subst (λ (w : Who). IsFor names w s) (sym e) tt) slots h
 
-pub IsReady-kept : (names : ℕ → ℕ → List ℕ) (run cpu : ℕ) (task : Option ℕ) (s : Slot) → s.who ≡ who_of run cpu task → IsSlot names s → IsReady (names run) cpu task s
+pub IsReady-kept : (names : ℕ → ℕ → List ℕ) (run cpu : ℕ) (task : Option ℕ) (s : Slot) → s.who ≡ who_of run cpu task → IsSlot names s → IsSlotReady (names run) cpu task s
 IsReady-kept names run cpu None s is h = let all = subst (λ (w : Who). IsFor names w s) is h in all (names run)
 IsReady-kept names run cpu (Some number) s is h = let all = subst (λ (w : Who). IsFor names w s) is h in all cpu
 
@@ -120,8 +120,8 @@ time_part-is time = refl
 -- a line, of the parts that are kept ready
 pub line_of-by_parts : (names : ℕ → List ℕ) (base : ℕ) (s : Switch) (cpu : ℕ) → cpu ≡ base + s.cpu
     → (task_part names s.prev ++ cpu_part cpu ++ second_part (s.time / 1000000) ++ digits_in 6 (s.time % 1000000) ++ event_part ++ leaving_part names cpu s.prev ++ state_part s.state) ++ coming_part names cpu s.next
-    ≡ line_of names base s
-unfolding line_of
+    ≡ switch_line names base s
+unfolding switch_line
 line_of-by_parts names base s cpu e =
     rw (sym e, prev_part-is names s cpu, next_part-is names s cpu, time_part-is s.time)
     (sym (regrouped (task_part names s.prev) (cpu_part cpu) (second_part (s.time / 1000000)) (digits_in 6 (s.time % 1000000)) event_part (leaving_part names cpu s.prev) (letters_of s.state) (codes " ==> next_comm=") (coming_part names cpu s.next)))
@@ -131,15 +131,15 @@ with_lane : (a b c d e f g h : List ℕ) → (a ++ (b ++ c) ++ d ++ e ++ f ++ g)
 with_lane a b c d e f g h = simp append_assoc
 
 -- behind what waited, the line of a switch
-pub line_made : (run : Run) (names : ℕ → List ℕ) (s : Switch) (cpu : ℕ) (a b : Slot) (lane state batch mid after : List ℕ) → SameNames (named run.names.now) names s → cpu ≡ run.base + s.cpu
-    → IsReady names cpu s.prev a → IsReady names cpu s.next b → lane ≡ cpu_part cpu ++ second_part (s.time / 1000000) → state ≡ state_part s.state
-    → mid ≡ batch ++ (short_text_of a.head ++ lane ++ digits_in 6 (s.time % 1000000) ++ event_part ++ text_of a.leaving ++ state) → after ≡ mid ++ text_of b.coming
-    → after ≡ batch ++ line_of (named run.names.now) run.base s
+pub line_made : (run : Run) (names : ℕ → List ℕ) (s : Switch) (cpu : ℕ) (a b : Slot) (lane state batch mid after : List ℕ) → SameNames (name_of_task run.names.now) names s → cpu ≡ run.base + s.cpu
+    → IsSlotReady names cpu s.prev a → IsSlotReady names cpu s.next b → lane ≡ cpu_part cpu ++ second_part (s.time / 1000000) → state ≡ state_part s.state
+    → mid ≡ batch ++ (short_text_of a.head ++ lane ++ digits_in 6 (s.time % 1000000) ++ event_part ++ piece_text a.leaving ++ state) → after ≡ mid ++ piece_text b.coming
+    → after ≡ batch ++ switch_line (name_of_task run.names.now) run.base s
 line_made run names s cpu a b lane state batch mid after alike at pa pb el et em ea =
-    let front = short_text_of a.head ++ lane ++ digits_in 6 (s.time % 1000000) ++ event_part ++ text_of a.leaving ++ state in
-    let same : front ++ text_of b.coming ≡ (task_part names s.prev ++ cpu_part cpu ++ second_part (s.time / 1000000) ++ digits_in 6 (s.time % 1000000) ++ event_part ++ leaving_part names cpu s.prev ++ state_part s.state) ++ coming_part names cpu s.next
+    let front = short_text_of a.head ++ lane ++ digits_in 6 (s.time % 1000000) ++ event_part ++ piece_text a.leaving ++ state in
+    let same : front ++ piece_text b.coming ≡ (task_part names s.prev ++ cpu_part cpu ++ second_part (s.time / 1000000) ++ digits_in 6 (s.time % 1000000) ++ event_part ++ leaving_part names cpu s.prev ++ state_part s.state) ++ coming_part names cpu s.next
     = rw (pa.head, pa.leaving, pb.coming, el, et) (with_lane (task_part names s.prev) (cpu_part cpu) (second_part (s.time / 1000000)) (digits_in 6 (s.time % 1000000)) event_part (leaving_part names cpu s.prev) (state_part s.state) (coming_part names cpu s.next)) in
-    ea ∙ ap (λ (xs : List ℕ). xs ++ text_of b.coming) em ∙ append_assoc batch front (text_of b.coming) ∙ ap (λ (xs : List ℕ). batch ++ xs) (same ∙ line_of-by_parts names run.base s cpu at ∙ sym (line_of-same_names (named run.names.now) names run.base s alike))
+    ea ∙ ap (λ (xs : List ℕ). xs ++ piece_text b.coming) em ∙ append_assoc batch front (piece_text b.coming) ∙ ap (λ (xs : List ℕ). batch ++ xs) (same ∙ line_of-by_parts names run.base s cpu at ∙ sym (line_of-same_names (name_of_task run.names.now) names run.base s alike))
 
 -- the texts of the states, in the order of their places
 pub middles_made : (a b c d : ShortPiece) → short_text_of a ≡ state_part Running → short_text_of b ≡ state_part Preempted → short_text_of c ≡ state_part Sleeping → short_text_of d ≡ state_part Dead

@@ -2,7 +2,7 @@
 use Rattle.std.proofs.Common.{◌≡◌, ◌+◌, true, false, cond, List, [], ◌∷◌, ◌++◌, length, refl, ap, ◌∙◌, arith}
 use Rattle.std.specs.List.{AllByRecursion}
 use Rattle.std.proofs.lemmas.Bool.Decides.{nat_tests}
-use Rattle.switch_text.specs.Trace.{Entry, is_earlier, placed_in, in_order}
+use Rattle.switch_text.specs.Trace.{Entry, is_earlier, placed_in, entries_in_order}
 
 pub earlier_trans : (a b c : Entry) → is_earlier a b ≡ true → is_earlier b c ≡ true → is_earlier a c ≡ true
 earlier_trans a b c p q = grind (arith, nat_tests)
@@ -36,10 +36,10 @@ AllByRecursion-placed_in P e (f ∷ fs) h all =
     let more = AllByRecursion-placed_in P e fs h all.1 in
     elim (is_earlier f e) as (λ b. AllByRecursion P (cond b (f ∷ placed_in e fs) (e ∷ f ∷ fs))) [ true ↦ (all.0, more) | false ↦ (h, all) ]
 
-pub AllByRecursion-in_order : (P : Entry → Type 0) (es : List Entry) → AllByRecursion P es → AllByRecursion P (in_order es)
-unfolding in_order
+pub AllByRecursion-in_order : (P : Entry → Type 0) (es : List Entry) → AllByRecursion P es → AllByRecursion P (entries_in_order es)
+unfolding entries_in_order
 AllByRecursion-in_order P [] all = tt
-AllByRecursion-in_order P (e ∷ es) all = AllByRecursion-placed_in P e (in_order es) all.0 (AllByRecursion-in_order P es all.1)
+AllByRecursion-in_order P (e ∷ es) all = AllByRecursion-placed_in P e (entries_in_order es) all.0 (AllByRecursion-in_order P es all.1)
 
 -- what is later than no other goes first
 pub placed_in-first : (e : Entry) (es : List Entry) → AllByRecursion (λ x. is_earlier x e ≡ false) es → placed_in e es ≡ e ∷ es
@@ -47,9 +47,9 @@ placed_in-first e [] all = refl
 placed_in-first e (f ∷ fs) all = rw all.0 refl
 
 pub in_order-first : (before : List Entry) (e : Entry) (after : List Entry) → AllByRecursion (λ x. is_earlier e x ≡ true) before → AllByRecursion (λ x. is_earlier x e ≡ false) after
-    → in_order (before ++ e ∷ after) ≡ e ∷ in_order (before ++ after)
-unfolding in_order
-in_order-first [] e after earlier not_later = placed_in-first e (in_order after) (AllByRecursion-in_order (λ x. is_earlier x e ≡ false) after not_later)
+    → entries_in_order (before ++ e ∷ after) ≡ e ∷ entries_in_order (before ++ after)
+unfolding entries_in_order
+in_order-first [] e after earlier not_later = placed_in-first e (entries_in_order after) (AllByRecursion-in_order (λ x. is_earlier x e ≡ false) after not_later)
 in_order-first (x ∷ xs) e after earlier not_later =
     let others = in_order-first xs e after earlier.1 not_later in
     ap (placed_in x) others ∙ rw earlier.0 refl
@@ -60,7 +60,7 @@ length-placed_in e (f ∷ fs) =
     let more = length-placed_in e fs in
     elim (is_earlier f e) as (λ b. length (cond b (f ∷ placed_in e fs) (e ∷ f ∷ fs)) ≡ length (f ∷ fs) + 1) [ true ↦ omega arith | false ↦ omega arith ]
 
-pub length-in_order : (es : List Entry) → length (in_order es) ≡ length es
-unfolding in_order
+pub length-in_order : (es : List Entry) → length (entries_in_order es) ≡ length es
+unfolding entries_in_order
 length-in_order [] = refl
-length-in_order (e ∷ es) = omega (arith, length-placed_in e (in_order es), length-in_order es)
+length-in_order (e ∷ es) = omega (arith, length-placed_in e (entries_in_order es), length-in_order es)

@@ -5,8 +5,8 @@ use Rattle.std.proofs.lemmas.Fmt.{length-decimal-le}
 use Rattle.std.proofs.lemmas.List.{length-append, length-replicate}
 use Rattle.domain_run.specs.declared.switch.PrevState.{PrevState}
 use Rattle.domain_run.specs.declared.switch.PrevState.TheVariants.{Running, Preempted, Sleeping, Dead}
-use Rattle.switch_text.specs.Names.{Names, named, HasName}
-use Rattle.switch_text.specs.Line.{right_in, left_in, digits_in, pid_of, prio_of, title_of, comm_of, letters_of, task_part, cpu_part}
+use Rattle.switch_text.specs.Names.{Names, name_of_task, HasName}
+use Rattle.switch_text.specs.Line.{right_in, padded_right, digits_in, pid_of, prio_of, title_of, comm_of, letters_of, task_part, cpu_part}
 use Rattle.switch_text.proofs.Digits.{digits_three, length-digits_three}
 use Rattle.switch_text.specs.private.Parts.{second_part, leaving_part, state_part, coming_part}
 
@@ -14,14 +14,14 @@ use Rattle.switch_text.specs.private.Parts.{second_part, leaving_part, state_par
 abbrev pub IsShort : (ℕ → List ℕ) → Option ℕ → Type 0
 IsShort names task = IfSome task (λ n. length (names n) ≤ 15)
 
-pub IsShort-from_name : (names : Names) (task : Option ℕ) → IfSome task (HasName names) → IsShort (named names) task
+pub IsShort-from_name : (names : Names) (task : Option ℕ) → IfSome task (HasName names) → IsShort (name_of_task names) task
 IsShort-from_name names None h = tt
 IsShort-from_name names (Some n) h = h.most
 
 length-right_in : (width most : ℕ) (text : List ℕ) → width ≤ most → length text ≤ most → length (right_in width text) ≤ most
 length-right_in width most text h k = omega (arith, length-append (replicate (width - length text) 32) text, length-replicate {A = ℕ} (width - length text) 32)
 
-length-left_in : (width most : ℕ) (text : List ℕ) → width ≤ most → length text ≤ most → length (left_in width text) ≤ most
+length-left_in : (width most : ℕ) (text : List ℕ) → width ≤ most → length text ≤ most → length (padded_right width text) ≤ most
 length-left_in width most text h k = omega (arith, length-append text (replicate (width - length text) 32), length-replicate {A = ℕ} (width - length text) 32)
 
 length-pid : (task : Option ℕ) → pid_of task < 2 ^ 33 → length (decimal (pid_of task)) ≤ 10
@@ -49,7 +49,7 @@ pub length-task_part : (names : ℕ → List ℕ) (prev : Option ℕ) → IsShor
 unfolding task_part
 length-task_part names prev h small =
     let title = right_in 16 (title_of names prev) in
-    let number = left_in 7 (decimal (pid_of prev)) in
+    let number = padded_right 7 (decimal (pid_of prev)) in
     omega (arith, length-append (title ++ codes "-") number, length-append title (codes "-"), length-right_in 16 16 (title_of names prev) (omega arith) (length-title names prev h), length-left_in 7 10 (decimal (pid_of prev)) (omega arith) (length-pid prev small))
 
 pub length-cpu_part : (cpu : ℕ) → cpu < 512 → length (cpu_part cpu) ≡ 13

@@ -5,15 +5,15 @@ use Rattle.std.specs.Io.KnownBytes.{Appends}
 use Rattle.std.proofs.KnownBytes.{Appends-nil, Appends-trans}
 use Rattle.std.proofs.lemmas.List.{length-append, take-append-le}
 use Rattle.std.proofs.Math.Seq.{take-append-add}
-use Rattle.switch_text.specs.Trace.{RunView, Entry, entries_of, in_order, header, lines_of, trace_of}
-use Rattle.switch_text.specs.private.Merging.{left_of}
+use Rattle.switch_text.specs.Trace.{SwitchesView, Entry, entries_of, entries_in_order, header, text_of_entries, trace_of}
+use Rattle.switch_text.specs.private.Merging.{entries_left}
 use Rattle.counted_io.specs.Faults.{TakesFront}
 use Rattle.switch_text.specs.private.Sending.{Sends}
 use Rattle.switch_text.specs.private.Sliced.{lines_in, lines_from, IsSending}
 use Rattle.switch_text.proofs.Order.{length-in_order}
 use Rattle.switch_text.proofs.UnderWay.{sends_on, length-sent, left_of-start}
 
-pub IsSending-start : (before : Option (List ℕ)) (first : List ℕ) (runs : List RunView) → length runs ≤ 8 → IsSending before before first runs (replicate 8 0) 0 first
+pub IsSending-start : (before : Option (List ℕ)) (first : List ℕ) (runs : List SwitchesView) → length runs ≤ 8 → IsSending before before first runs (replicate 8 0) 0 first
 IsSending-start before first runs h =
     let start = left_of-start runs 8 h in
     record {
@@ -21,21 +21,21 @@ IsSending-start before first runs h =
         gone = [];
         taken = Appends-nil before;
         count = refl;
-        whole = ap (λ (es : List Entry). first ++ lines_of (in_order es)) (sym start);
+        whole = ap (λ (es : List Entry). first ++ text_of_entries (entries_in_order es)) (sym start);
       };
       bound = omega (arith, ap length start);
     }
 
-pub IsSending-next : (before mid after : Option (List ℕ)) (first : List ℕ) (runs : List RunView) (places places' : List ℕ) (sent n : ℕ) (waiting left : List ℕ) (e : Entry) → IsSending before mid first runs places sent waiting
-    → in_order (left_of runs places) ≡ e ∷ in_order (left_of runs places') → Sends mid after (waiting ++ e.line) n left → length e.line ≤ 512
+pub IsSending-next : (before mid after : Option (List ℕ)) (first : List ℕ) (runs : List SwitchesView) (places places' : List ℕ) (sent n : ℕ) (waiting left : List ℕ) (e : Entry) → IsSending before mid first runs places sent waiting
+    → entries_in_order (entries_left runs places) ≡ e ∷ entries_in_order (entries_left runs places') → Sends mid after (waiting ++ e.line) n left → length e.line ≤ 512
     → IsSending before after first runs places' (sent + n) left
-unfolding lines_of
+unfolding text_of_entries
 IsSending-next before mid after first runs places places' sent n waiting left e u next s short =
     let text = first ++ lines_in runs in
     let rest = lines_from runs places' in
-    let made : lines_from runs places ≡ e.line ++ rest = ap lines_of next in
+    let made : lines_from runs places ≡ e.line ++ rest = ap text_of_entries next in
     let sends = subst (λ (xs : List ℕ). Sends before mid text sent (waiting ++ xs)) made u.sends in
-    let count : length (left_of runs places) ≡ 1 + length (left_of runs places') = sym (length-in_order (left_of runs places)) ∙ ap length next ∙ omega (arith, length-in_order (left_of runs places')) in
+    let count : length (entries_left runs places) ≡ 1 + length (entries_left runs places') = sym (length-in_order (entries_left runs places)) ∙ ap length next ∙ omega (arith, length-in_order (entries_left runs places')) in
     let bound = u.bound in
     record {
       sends = sends_on before mid after text waiting e.line rest left sent n sends s;
@@ -61,21 +61,21 @@ front_more before after text more n t =
       some_left = omega (arith, length-append text more, some_left);
     }
 
-pub IsSending-stops : (before mid after : Option (List ℕ)) (first : List ℕ) (runs : List RunView) (places : List ℕ) (sent n : ℕ) (waiting : List ℕ) → IsSending before mid first runs places sent waiting → TakesFront mid after waiting n
+pub IsSending-stops : (before mid after : Option (List ℕ)) (first : List ℕ) (runs : List SwitchesView) (places : List ℕ) (sent n : ℕ) (waiting : List ℕ) → IsSending before mid first runs places sent waiting → TakesFront mid after waiting n
     → TakesFront before after (first ++ lines_in runs) (sent + n)
 IsSending-stops before mid after first runs places sent n waiting u t =
     stops_all before mid after (first ++ lines_in runs) (waiting ++ lines_from runs places) sent n u.sends (front_more mid after waiting (lines_from runs places) n t)
 
 -- nothing is left: all that did not go out waits
-pub IsSending-ends : (before after : Option (List ℕ)) (first : List ℕ) (runs : List RunView) (places : List ℕ) (sent : ℕ) (waiting : List ℕ) → IsSending before after first runs places sent waiting → left_of runs places ≡ []
+pub IsSending-ends : (before after : Option (List ℕ)) (first : List ℕ) (runs : List SwitchesView) (places : List ℕ) (sent : ℕ) (waiting : List ℕ) → IsSending before after first runs places sent waiting → entries_left runs places ≡ []
     → Sends before after (first ++ lines_in runs) sent waiting
-unfolding lines_of in_order
+unfolding text_of_entries entries_in_order
 IsSending-ends before after first runs places sent waiting u none =
-    let made : lines_from runs places ≡ [] = ap (λ (es : List Entry). lines_of (in_order es)) none in
+    let made : lines_from runs places ≡ [] = ap (λ (es : List Entry). text_of_entries (entries_in_order es)) none in
     subst (λ (xs : List ℕ). Sends before after (first ++ lines_in runs) sent xs) (ap (λ (xs : List ℕ). waiting ++ xs) made ∙ append-nil waiting) u.sends
 
 -- what is counted stays below 2^64
-pub sent_fits : (before after : Option (List ℕ)) (first : List ℕ) (runs : List RunView) (places : List ℕ) (sent n : ℕ) (waiting : List ℕ) → IsSending before after first runs places sent waiting
+pub sent_fits : (before after : Option (List ℕ)) (first : List ℕ) (runs : List SwitchesView) (places : List ℕ) (sent n : ℕ) (waiting : List ℕ) → IsSending before after first runs places sent waiting
     → length first ≤ 65536 → length (flat_map entries_of runs) ≤ 2 ^ 54 → n ≤ length waiting → sent + n < 2 ^ 64
 sent_fits before after first runs places sent n waiting u short few le = let bound = u.bound in omega (arith, bound, short, few, le)
 
@@ -86,6 +86,6 @@ ends_all before mid after text left rest sent n s t empty =
     subst (λ (xs : List ℕ). Appends before after xs) (sym whole) (Appends-trans before mid after s.gone t.gone s.taken t.taken)
 
 -- the trace is the header, and then the lines
-pub trace_is : (first : List ℕ) (runs : List RunView) → first ≡ header → first ++ lines_in runs ≡ trace_of runs
+pub trace_is : (first : List ℕ) (runs : List SwitchesView) → first ≡ header → first ++ lines_in runs ≡ trace_of runs
 unfolding trace_of
 trace_is first runs is = ap (λ (xs : List ℕ). xs ++ lines_in runs) is

@@ -7,10 +7,10 @@ use Rattle.std.proofs.lemmas.Grind.{flat_map-append}
 use Rattle.domain_run.specs.Switch.{Switch}
 use Rattle.counted_io.specs.Faults.{TakesFront}
 use Rattle.switch_text.specs.declared.run.Run.{Run}
-use Rattle.switch_text.specs.Names.{named, SameNames}
-use Rattle.switch_text.specs.Line.{line_of}
+use Rattle.switch_text.specs.Names.{name_of_task, SameNames}
+use Rattle.switch_text.specs.Line.{switch_line}
 use Rattle.switch_text.specs.Trace.{header}
-use Rattle.switch_text.specs.Runs.{view_of, views, IsRun}
+use Rattle.switch_text.specs.Runs.{switches_view_of, views, IsPrintable}
 use Rattle.switch_text.specs.SlicedTrace.{sliced_trace, IsEndOf, IsStopped}
 use Rattle.switch_text.specs.private.Sending.{Sends}
 use Rattle.switch_text.specs.private.Sliced.{lines_in, lines_by, IsSlicing}
@@ -21,9 +21,9 @@ use Rattle.switch_text.proofs.Sliced.{front_more, stops_all}
 -- ---- one slice
 
 -- a slice goes out as its lines by the names of the whole run
-pub lines_in-slice : (r : Run) (base : ℕ) (names : ℕ → List ℕ) (ss : List Switch) → IsRun r → r.base ≡ base → r.switches.now ≡ ss → All (SameNames (named r.names.now) names) r.switches.now → lines_in (views (r ∷ [])) ≡ lines_by base names ss
+pub lines_in-slice : (r : Run) (base : ℕ) (names : ℕ → List ℕ) (ss : List Switch) → IsPrintable r → r.base ≡ base → r.switches.now ≡ ss → All (SameNames (name_of_task r.names.now) names) r.switches.now → lines_in (views (r ∷ [])) ≡ lines_by base names ss
 lines_in-slice r base names ss run is_base are same =
-    lines_of-one_run (view_of r) run.rising ∙ lines_of-same_names (named r.names.now) names r.base r.switches.now same
+    lines_of-one_run (switches_view_of r) run.rising ∙ lines_of-same_names (name_of_task r.names.now) names r.base r.switches.now same
     ∙ ap (λ (b : ℕ). lines_by b names r.switches.now) is_base ∙ ap (lines_by base names) are
 
 -- ---- all slices
@@ -33,7 +33,7 @@ lines_by-split : (base base' : ℕ) (names names' : ℕ → List ℕ) (rest hand
 lines_by-split base base' names names' rest hand rest' split is_base same =
     let here : lines_by base' names' hand ≡ lines_by base names hand
     = ap (λ (b : ℕ). lines_by b names' hand) is_base ∙ lines_of-same_names names' names base hand (SameNames-everywhere names' names hand same) in
-    ap (lines_by base names) split ∙ flat_map-append (line_of names base) hand rest' ∙ ap (λ (xs : List ℕ). xs ++ lines_by base names rest') (sym here)
+    ap (lines_by base names) split ∙ flat_map-append (switch_line names base) hand rest' ∙ ap (λ (xs : List ℕ). xs ++ lines_by base names rest') (sym here)
 
 -- at first the header waits
 pub IsSlicing-start : (before : Option (List ℕ)) (base : ℕ) (names : ℕ → List ℕ) (all : List Switch) (waiting : List ℕ) → waiting ≡ header → IsSlicing before before base names all all 0 waiting
@@ -93,7 +93,7 @@ length-made : (before after : Option (List ℕ)) (base : ℕ) (names : ℕ → L
 length-made before after base names all earlier rest sent waiting u split =
     let lines = lines_by base names in
     let whole = length-sent before after (sliced_trace base names all) (waiting ++ lines rest) sent u.sends in
-    let parts : lines all ≡ lines earlier ++ lines rest = ap lines split ∙ flat_map-append (line_of names base) earlier rest in
+    let parts : lines all ≡ lines earlier ++ lines rest = ap lines split ∙ flat_map-append (switch_line names base) earlier rest in
     omega (arith, whole, length-append header (lines all), length-append header (lines earlier), ap length parts, length-append (lines earlier) (lines rest), length-append waiting (lines rest))
 
 -- at a fault the run is made no further

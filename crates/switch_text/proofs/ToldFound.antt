@@ -10,8 +10,8 @@ use Rattle.switch_text.specs.declared.told.Told.{Told}
 use Rattle.switch_text.specs.declared.told_merge.NextTold.{NextTold}
 use Rattle.switch_text.specs.Events.{ToldView, Event, told_event, comes_before}
 use Rattle.switch_text.specs.Telling.{told_view, told_views, IsTold, HasToldLine, is_sooner_unless_cut}
-use Rattle.switch_text.specs.private.Merging.{stepped}
-use Rattle.switch_text.specs.private.ToldMerging.{is_shown, events_from, left_told, count_left, IsToldAhead, IsShown, IsNextOrCut, IsNextTold, IsToldFound, next_told_event, is_better_told}
+use Rattle.switch_text.specs.private.Merging.{places_stepped}
+use Rattle.switch_text.specs.private.ToldMerging.{is_line_told, events_from, left_told, count_left, IsToldAhead, IsShown, IsNextOrCut, IsNextTold, IsToldFound, next_told_event, is_better_told}
 use Rattle.switch_text.proofs.Order.{AllByRecursion-weaker}
 use Rattle.switch_text.proofs.EventOrder.{not_later-from_earlier}
 use Rattle.switch_text.proofs.ToldAhead.{left_told-done, IsToldAhead-new, IsToldAhead-kept, all_left-earlier, domain_not_earlier}
@@ -19,42 +19,42 @@ use Rattle.switch_text.proofs.ToldAhead.{left_told-done, IsToldAhead-new, IsTold
 -- ---- one domain from a place on
 
 none_from : (t : ToldView) (p : ℕ) → length t.happened ≤ p → events_from t p ≡ []
-none_from t p le = ap (λ (hs : List Happened). map (told_event t) (filter is_shown hs)) (drop_all p t.happened le)
+none_from t p le = ap (λ (hs : List Happened). map (told_event t) (filter is_line_told hs)) (drop_all p t.happened le)
 
-filter-shown : (h : Happened) (hs : List Happened) → is_shown h ≡ true → filter is_shown (h ∷ hs) ≡ h ∷ filter is_shown hs
+filter-shown : (h : Happened) (hs : List Happened) → is_line_told h ≡ true → filter is_line_told (h ∷ hs) ≡ h ∷ filter is_line_told hs
 filter-shown h hs s = rw s refl
 
-filter-cut : (h : Happened) (hs : List Happened) → is_shown h ≡ false → filter is_shown (h ∷ hs) ≡ filter is_shown hs
+filter-cut : (h : Happened) (hs : List Happened) → is_line_told h ≡ false → filter is_line_told (h ∷ hs) ≡ filter is_line_told hs
 filter-cut h hs s = rw s refl
 
 here_from : (t : ToldView) (p : ℕ) (h : Happened) → p < length t.happened → h ≡ get_or t.happened p h → drop p t.happened ≡ h ∷ drop (p + 1) t.happened
 here_from t p h lt is = drop_more t.happened p h lt ∙ ap (λ (x : Happened). x ∷ drop (p + 1) t.happened) (sym is)
 
 -- the first event from a place on, and the others
-shown_from : (t : ToldView) (p : ℕ) (h : Happened) → p < length t.happened → h ≡ get_or t.happened p h → is_shown h ≡ true → events_from t p ≡ told_event t h ∷ events_from t (p + 1)
+shown_from : (t : ToldView) (p : ℕ) (h : Happened) → p < length t.happened → h ≡ get_or t.happened p h → is_line_told h ≡ true → events_from t p ≡ told_event t h ∷ events_from t (p + 1)
 shown_from t p h lt is s =
-    ap (λ (hs : List Happened). map (told_event t) (filter is_shown hs)) (here_from t p h lt is) ∙ ap (map (told_event t)) (filter-shown h (drop (p + 1) t.happened) s)
+    ap (λ (hs : List Happened). map (told_event t) (filter is_line_told hs)) (here_from t p h lt is) ∙ ap (map (told_event t)) (filter-shown h (drop (p + 1) t.happened) s)
 
 -- a cut is none
-cut_from : (t : ToldView) (p : ℕ) (h : Happened) → p < length t.happened → h ≡ get_or t.happened p h → is_shown h ≡ false → events_from t (p + 1) ≡ events_from t p
+cut_from : (t : ToldView) (p : ℕ) (h : Happened) → p < length t.happened → h ≡ get_or t.happened p h → is_line_told h ≡ false → events_from t (p + 1) ≡ events_from t p
 cut_from t p h lt is s =
-    sym (ap (λ (hs : List Happened). map (told_event t) (filter is_shown hs)) (here_from t p h lt is) ∙ ap (map (told_event t)) (filter-cut h (drop (p + 1) t.happened) s))
+    sym (ap (λ (hs : List Happened). map (told_event t) (filter is_line_told hs)) (here_from t p h lt is) ∙ ap (map (told_event t)) (filter-cut h (drop (p + 1) t.happened) s))
 
-sooner_event : (t : ToldView) (a b : Happened) → is_shown a ≡ true → is_shown b ≡ true → IsTrue (is_sooner_unless_cut a b) → comes_before (told_event t a) (told_event t b) ≡ true
+sooner_event : (t : ToldView) (a b : Happened) → is_line_told a ≡ true → is_line_told b ≡ true → IsTrue (is_sooner_unless_cut a b) → comes_before (told_event t a) (told_event t b) ≡ true
 sooner_event t a b p q h = grind (arith, nat_tests)
 
 -- what is behind something that happens comes behind it
-later_among : (t : ToldView) (h : Happened) (hs : List Happened) → is_shown h ≡ true → AllByRecursion (λ x. IsTrue (is_sooner_unless_cut h x)) hs
-    → AllByRecursion (λ x. comes_before (told_event t h) x ≡ true) (map (told_event t) (filter is_shown hs))
+later_among : (t : ToldView) (h : Happened) (hs : List Happened) → is_line_told h ≡ true → AllByRecursion (λ x. IsTrue (is_sooner_unless_cut h x)) hs
+    → AllByRecursion (λ x. comes_before (told_event t h) x ≡ true) (map (told_event t) (filter is_line_told hs))
 later_among t h [] s all = tt
-later_among t h (x ∷ xs) s all = by_shown (is_shown x) refl (later_among t h xs s all.1)
+later_among t h (x ∷ xs) s all = by_shown (is_line_told x) refl (later_among t h xs s all.1)
   where
-    by_shown : (b : Bool) → is_shown x ≡ b → AllByRecursion (λ e. comes_before (told_event t h) e ≡ true) (map (told_event t) (filter is_shown xs))
-        → AllByRecursion (λ e. comes_before (told_event t h) e ≡ true) (map (told_event t) (filter is_shown (x ∷ xs)))
+    by_shown : (b : Bool) → is_line_told x ≡ b → AllByRecursion (λ e. comes_before (told_event t h) e ≡ true) (map (told_event t) (filter is_line_told xs))
+        → AllByRecursion (λ e. comes_before (told_event t h) e ≡ true) (map (told_event t) (filter is_line_told (x ∷ xs)))
     by_shown true q more = subst (λ (hs : List Happened). AllByRecursion (λ e. comes_before (told_event t h) e ≡ true) (map (told_event t) hs)) (sym (filter-shown x xs q)) (sooner_event t h x s q all.0, more)
     by_shown false q more = subst (λ (hs : List Happened). AllByRecursion (λ e. comes_before (told_event t h) e ≡ true) (map (told_event t) hs)) (sym (filter-cut x xs q)) more
 
-later_from : (t : Told) (p : ℕ) (h : Happened) → IsTold t → p < length t.happened.now → h ≡ get_or t.happened.now p h → is_shown h ≡ true
+later_from : (t : Told) (p : ℕ) (h : Happened) → IsTold t → p < length t.happened.now → h ≡ get_or t.happened.now p h → is_line_told h ≡ true
     → AllByRecursion (λ x. comes_before (told_event (told_view t) h) x ≡ true) (events_from (told_view t) (p + 1))
 later_from t p h good lt is s = later_among (told_view t) h (drop (p + 1) t.happened.now) s (recursion_from_All (λ x. IsTrue (is_sooner_unless_cut h x)) (drop (p + 1) t.happened.now) all)
   where
@@ -165,20 +165,20 @@ pub has_told_line : (told : List Told) (places : List ℕ) (n : NextTold) → Is
 has_told_line told places n next =
     subst (λ (h : Happened). HasToldLine n.told.now.names.now n.told.now.base h) (sym next.is) (next.here.good.lines (get_or places n.index 0) n.happened.now next.left)
 
-pub IsShown-next : (told : List Told) (places : List ℕ) (n : NextTold) → IsNextIn told places n → is_shown n.happened.now ≡ true → IsShown n
+pub IsShown-next : (told : List Told) (places : List ℕ) (n : NextTold) → IsNextIn told places n → is_line_told n.happened.now ≡ true → IsShown n
 IsShown-next told places n next s = record { shown = s; line = has_told_line told places n next }
 
-left_there : (told : List Told) (places : List ℕ) (n : NextTold) → IsNextIn told places n → is_shown n.happened.now ≡ true
+left_there : (told : List Told) (places : List ℕ) (n : NextTold) → IsNextIn told places n → is_line_told n.happened.now ≡ true
     → events_from (told_view n.told.now) (get_or places (length (told_views (take n.index told))) 0) ≡ next_told_event n ∷ events_from (told_view n.told.now) (get_or places n.index 0 + 1)
 left_there told places n next s =
     ap (events_from (told_view n.told.now)) (place_is told places n.index n.told.now next.here) ∙ shown_from (told_view n.told.now) (get_or places n.index 0) n.happened.now next.left next.is s
 
-later_there : (told : List Told) (places : List ℕ) (n : NextTold) → IsNextIn told places n → is_shown n.happened.now ≡ true
+later_there : (told : List Told) (places : List ℕ) (n : NextTold) → IsNextIn told places n → is_line_told n.happened.now ≡ true
     → AllByRecursion (λ x. comes_before (next_told_event n) x ≡ true) (events_from (told_view n.told.now) (get_or places n.index 0 + 1))
 later_there told places n next s = later_from n.told.now (get_or places n.index 0) n.happened.now next.here.good next.left next.is s
 
 -- it is the best, where it comes before all that is left before it
-found_there : (told : List Told) (places : List ℕ) (n : NextTold) → IsNextIn told places n → is_shown n.happened.now ≡ true
+found_there : (told : List Told) (places : List ℕ) (n : NextTold) → IsNextIn told places n → is_line_told n.happened.now ≡ true
     → AllByRecursion (λ x. comes_before (next_told_event n) x ≡ true) (left_told (told_views (take n.index told)) places) → IsBestOf (take (n.index + 1) told) places n
 found_there told places n next s earlier =
     let e = next_told_event n in
@@ -203,14 +203,14 @@ found_there told places n next s earlier =
       };
     }
 
-pub IsBest-better : (told : List Told) (places : List ℕ) (n : NextTold) (best : Option NextTold) → IsNextIn told places n → is_shown n.happened.now ≡ true
+pub IsBest-better : (told : List Told) (places : List ℕ) (n : NextTold) (best : Option NextTold) → IsNextIn told places n → is_line_told n.happened.now ≡ true
     → is_better_told n best ≡ true → IsBest (take n.index told) places best → IsBestOf (take (n.index + 1) told) places n
 IsBest-better told places n None next s better found =
     found_there told places n next s (subst (λ (es : List Event). AllByRecursion (λ x. comes_before (next_told_event n) x ≡ true) es) (sym found) tt)
 IsBest-better told places n (Some b) next s better found =
     found_there told places n next s (all_left-earlier (told_views (take n.index told)) places b.index (next_told_event b) (next_told_event n) found.ahead better)
 
-pub IsBest-kept : (told : List Told) (places : List ℕ) (n : NextTold) (best : Option NextTold) → IsNextIn told places n → is_shown n.happened.now ≡ true
+pub IsBest-kept : (told : List Told) (places : List ℕ) (n : NextTold) (best : Option NextTold) → IsNextIn told places n → is_line_told n.happened.now ≡ true
     → is_better_told n best ≡ false → IsBest (take n.index told) places best → IsBest (take (n.index + 1) told) places best
 IsBest-kept told places n None next s worse found = absurd cc
 IsBest-kept told places n (Some b) next s worse found =
@@ -226,13 +226,13 @@ IsBest-kept told places n (Some b) next s worse found =
       at = IsAtPlace-more told places n.index b next.here.inside found.at;
     }
 
-pub IsBest-better_at : (told : List Told) (places : List ℕ) (i : ℕ) (n : NextTold) (best : Option NextTold) → n.index ≡ i → IsNextIn told places n → is_shown n.happened.now ≡ true
+pub IsBest-better_at : (told : List Told) (places : List ℕ) (i : ℕ) (n : NextTold) (best : Option NextTold) → n.index ≡ i → IsNextIn told places n → is_line_told n.happened.now ≡ true
     → is_better_told n best ≡ true → IsBest (take i told) places best → IsBest (take (i + 1) told) places (Some n)
 IsBest-better_at told places i n best index next s better found =
     let new = IsBest-better told places n best next s better (subst (λ (k : ℕ). IsBest (take k told) places best) (sym index) found) in
     subst (λ (k : ℕ). IsBestOf (take (k + 1) told) places n) index new
 
-pub IsBest-kept_at : (told : List Told) (places : List ℕ) (i : ℕ) (n : NextTold) (best : Option NextTold) → n.index ≡ i → IsNextIn told places n → is_shown n.happened.now ≡ true
+pub IsBest-kept_at : (told : List Told) (places : List ℕ) (i : ℕ) (n : NextTold) (best : Option NextTold) → n.index ≡ i → IsNextIn told places n → is_line_told n.happened.now ≡ true
     → is_better_told n best ≡ false → IsBest (take i told) places best → IsBest (take (i + 1) told) places best
 IsBest-kept_at told places i n best index next s worse found =
     let new = IsBest-kept told places n best next s worse (subst (λ (k : ℕ). IsBest (take k told) places best) (sym index) found) in
@@ -265,7 +265,7 @@ view_is : (told : List Told) (i : ℕ) (t : Told) → t ≡ get_or told i t → 
 view_is told i t is inside = ap told_view is ∙ sym (get_or-map told_view told i t (told_view t) inside)
 
 smaller_at : (told : List Told) (places : List ℕ) (n : NextTold) → IsAtPlace told places n → length told ≤ length places
-    → count_left (told_views told) (stepped places n.index) < count_left (told_views told) places
+    → count_left (told_views told) (places_stepped places n.index) < count_left (told_views told) places
 smaller_at told places n at few =
     let inside : n.index < length told = at.inside in
     count_left-set_less (told_views told) places n.index (told_view n.told.now) (view_is told n.index n.told.now at.told_is at.inside) (omega (arith, length-map told told_view)) (omega arith) at.left
@@ -274,7 +274,7 @@ smaller_at told places n at few =
 pub IsToldFound-best : (told : List Told) (places : List ℕ) (best : Option NextTold) → length told ≤ length places → IsBest told places best → IsToldFound told places best
 IsToldFound-best told places None few found = found
 IsToldFound-best told places (Some n) few found =
-    let shown : is_shown n.happened.now ≡ true = found.shown.shown in
+    let shown : is_line_told n.happened.now ≡ true = found.shown.shown in
     record {
       inside = found.at.inside;
       place = found.at.small;
@@ -286,7 +286,7 @@ pub at_place-next : (told : List Told) (places : List ℕ) (n : NextTold) → Is
 at_place-next told places n next = record { inside = next.here.inside; told_is = next.here.is; left = next.left; is = next.is; small = next.small }
 
 -- so is a cut, at once
-pub IsNextTold-cut : (told : List Told) (places : List ℕ) (n : NextTold) → length told ≤ length places → IsNextIn told places n → is_shown n.happened.now ≡ false → IsNextTold told places n
+pub IsNextTold-cut : (told : List Told) (places : List ℕ) (n : NextTold) → length told ≤ length places → IsNextIn told places n → is_line_told n.happened.now ≡ false → IsNextTold told places n
 IsNextTold-cut told places n few next cut =
     let inside : n.index < length told = next.here.inside in
     let t = told_view n.told.now in

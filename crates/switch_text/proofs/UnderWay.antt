@@ -3,8 +3,8 @@ use Rattle.std.proofs.Common.{◌≡◌, ℕ, zero, suc, ◌+◌, ◌≤◌, Lis
 use Rattle.std.specs.List.{flat_map}
 use Rattle.std.proofs.KnownBytes.{Appends-trans}
 use Rattle.std.proofs.lemmas.List.{length-append}
-use Rattle.switch_text.specs.Trace.{RunView, Entry, entries_of, header}
-use Rattle.switch_text.specs.private.Merging.{left_of}
+use Rattle.switch_text.specs.Trace.{SwitchesView, Entry, entries_of, header}
+use Rattle.switch_text.specs.private.Merging.{entries_left}
 use Rattle.switch_text.specs.private.Sending.{Sends}
 
 -- text ≡ gone ++ (waiting ++ line ++ rest), and of waiting ++ line some more goes out
@@ -22,7 +22,7 @@ sends_on before mid after text waiting line rest left sent n s t = record {
 pub length-sent : (before after : Option (List ℕ)) (text left : List ℕ) (n : ℕ) → Sends before after text n left → length text ≡ n + length left
 length-sent before after text left n s = ap length s.whole ∙ omega (arith, length-append s.gone left, s.count)
 
-pub left_of-start : (runs : List RunView) (n : ℕ) → length runs ≤ n → left_of runs (replicate n 0) ≡ flat_map entries_of runs
+pub left_of-start : (runs : List SwitchesView) (n : ℕ) → length runs ≤ n → entries_left runs (replicate n 0) ≡ flat_map entries_of runs
 left_of-start [] n h = refl
 left_of-start (r ∷ rs) zero h = absurd (omega arith)
 left_of-start (r ∷ rs) (suc n) h = ap (λ (es : List Entry). entries_of r ++ es) (left_of-start rs n (omega arith))

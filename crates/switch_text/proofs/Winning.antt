@@ -5,32 +5,32 @@ use Rattle.std.proofs.lemmas.Bool.Decides.{nat_tests}
 use Rattle.std.proofs.lemmas.List.{get_or-set_other}
 use Rattle.std.proofs.lemmas.Grind.{get_or-set_at}
 use Rattle.switch_text.specs.declared.heads.Head.{Head}
-use Rattle.switch_text.specs.private.Winning.{is_sooner, head_in, Wins}
+use Rattle.switch_text.specs.private.Winning.{is_head_sooner, head_in, Wins}
 
 -- ---- the order of heads
 
-sooner_trans : (a b c : Head) → is_sooner a b ≡ true → is_sooner b c ≡ true → is_sooner a c ≡ true
+sooner_trans : (a b c : Head) → is_head_sooner a b ≡ true → is_head_sooner b c ≡ true → is_head_sooner a c ≡ true
 sooner_trans a b c p q = grind (arith, nat_tests)
 
 -- a is sooner than b, and b is not behind c
-sooner_then : (a b c : Head) → is_sooner a b ≡ true → is_sooner c b ≡ false → is_sooner a c ≡ true
+sooner_then : (a b c : Head) → is_head_sooner a b ≡ true → is_head_sooner c b ≡ false → is_head_sooner a c ≡ true
 sooner_then a b c p q = grind (arith, nat_tests)
 
 -- a is not behind b, and b is sooner than c
-not_behind_trans : (a b c : Head) → is_sooner b a ≡ false → is_sooner b c ≡ true → is_sooner c a ≡ false
+not_behind_trans : (a b c : Head) → is_head_sooner b a ≡ false → is_head_sooner b c ≡ true → is_head_sooner c a ≡ false
 not_behind_trans a b c p q = grind (arith, nat_tests)
 
 -- a is not behind b, and b is not behind c
-not_behind_twice : (a b c : Head) → is_sooner b a ≡ false → is_sooner c b ≡ false → is_sooner c a ≡ false
+not_behind_twice : (a b c : Head) → is_head_sooner b a ≡ false → is_head_sooner c b ≡ false → is_head_sooner c a ≡ false
 not_behind_twice a b c p q = grind (arith, nat_tests)
 
-not_sooner_self : (a : Head) → is_sooner a a ≡ false
+not_sooner_self : (a : Head) → is_head_sooner a a ≡ false
 not_sooner_self a = grind (arith, nat_tests)
 
 -- ---- the winner of two ranges, one behind the other
 
-second_before : (heads : List Head) (from mid to a b : ℕ) → Wins heads from mid a → Wins heads mid to b → is_sooner (head_in heads b) (head_in heads a) ≡ true
-    → (j : ℕ) → from ≤ j → j < b → is_sooner (head_in heads b) (head_in heads j) ≡ true
+second_before : (heads : List Head) (from mid to a b : ℕ) → Wins heads from mid a → Wins heads mid to b → is_head_sooner (head_in heads b) (head_in heads a) ≡ true
+    → (j : ℕ) → from ≤ j → j < b → is_head_sooner (head_in heads b) (head_in heads j) ≡ true
 second_before heads from mid to a b wa wb s j ge lt = elim (cases_lt j mid) [
   | inr far ↦ wb.before j far lt
   | inl near ↦ elim (cases_lt j a) [
@@ -39,7 +39,7 @@ second_before heads from mid to a b wa wb s j ge lt = elim (cases_lt j mid) [
   ]
 ]
 
-Wins-second : (heads : List Head) (from mid to a b : ℕ) → Wins heads from mid a → Wins heads mid to b → is_sooner (head_in heads b) (head_in heads a) ≡ true → Wins heads from to b
+Wins-second : (heads : List Head) (from mid to a b : ℕ) → Wins heads from mid a → Wins heads mid to b → is_head_sooner (head_in heads b) (head_in heads a) ≡ true → Wins heads from to b
 Wins-second heads from mid to a b wa wb s =
     let low = wa.low in
     let high = wa.high in
@@ -51,8 +51,8 @@ Wins-second heads from mid to a b wa wb s =
       behind = wb.behind;
     }
 
-first_behind : (heads : List Head) (from mid to a b : ℕ) → Wins heads from mid a → Wins heads mid to b → is_sooner (head_in heads b) (head_in heads a) ≡ false
-    → (j : ℕ) → a ≤ j → j < to → is_sooner (head_in heads j) (head_in heads a) ≡ false
+first_behind : (heads : List Head) (from mid to a b : ℕ) → Wins heads from mid a → Wins heads mid to b → is_head_sooner (head_in heads b) (head_in heads a) ≡ false
+    → (j : ℕ) → a ≤ j → j < to → is_head_sooner (head_in heads j) (head_in heads a) ≡ false
 first_behind heads from mid to a b wa wb s j ge lt = elim (cases_lt j mid) [
   | inl near ↦ wa.behind j ge near
   | inr far ↦ elim (cases_lt j b) [
@@ -61,7 +61,7 @@ first_behind heads from mid to a b wa wb s j ge lt = elim (cases_lt j mid) [
   ]
 ]
 
-Wins-first : (heads : List Head) (from mid to a b : ℕ) → Wins heads from mid a → Wins heads mid to b → is_sooner (head_in heads b) (head_in heads a) ≡ false → Wins heads from to a
+Wins-first : (heads : List Head) (from mid to a b : ℕ) → Wins heads from mid a → Wins heads mid to b → is_head_sooner (head_in heads b) (head_in heads a) ≡ false → Wins heads from to a
 Wins-first heads from mid to a b wa wb s =
     let high = wa.high in
     let low = wb.low in
@@ -73,7 +73,7 @@ Wins-first heads from mid to a b wa wb s =
       behind = first_behind heads from mid to a b wa wb s;
     }
 
-pub Wins-of_two : (heads : List Head) (a b : ℕ) (test : Bool) → test ≡ is_sooner (head_in heads b) (head_in heads a) → (from mid to : ℕ) → Wins heads from mid a → Wins heads mid to b → Wins heads from to (cond test b a)
+pub Wins-of_two : (heads : List Head) (a b : ℕ) (test : Bool) → test ≡ is_head_sooner (head_in heads b) (head_in heads a) → (from mid to : ℕ) → Wins heads from mid a → Wins heads mid to b → Wins heads from to (cond test b a)
 Wins-of_two heads a b true is from mid to wa wb = Wins-second heads from mid to a b wa wb (sym is)
 Wins-of_two heads a b false is from mid to wa wb = Wins-first heads from mid to a b wa wb (sym is)
 
@@ -85,7 +85,7 @@ Wins-alone heads i to is = record {
   before = λ j ge lt. absurd (omega (arith, ge, lt));
   behind = λ j ge lt.
       let same : i ≡ j = omega (arith, ge, lt, is) in
-      subst (λ (k : ℕ). is_sooner (head_in heads k) (head_in heads i) ≡ false) same (not_sooner_self (head_in heads i));
+      subst (λ (k : ℕ). is_head_sooner (head_in heads k) (head_in heads i) ≡ false) same (not_sooner_self (head_in heads i));
 }
 
 pub Wins-range : (heads : List Head) (from from' to to' i : ℕ) → from ≡ from' → to ≡ to' → Wins heads from to i → Wins heads from' to' i

@@ -5,7 +5,7 @@ use Rattle.domain_run.specs.declared.happened.What.{What}
 use Rattle.domain_run.specs.declared.happened.What.TheVariants.{JobEnds, NextReleased, Spent, Cut, Replenished, Released, WokenSpent}
 use Rattle.domain_run.specs.declared.happened.Happened.{Happened}
 use Rattle.domain_run.specs.declared.switch.PrevState.TheVariants.{Sleeping}
-use Rattle.switch_text.specs.Line.{task_part, cpu_part, time_part, prev_part, next_part, line_of}
+use Rattle.switch_text.specs.Line.{task_part, cpu_part, time_part, prev_part, next_part, switch_line}
 use Rattle.switch_text.specs.ToldLine.{seconds_part, target_part, deadline_part, event_fields, told_line_of}
 use Rattle.switch_text.specs.Trace.{header}
 use Rattle.switch_text.specs.Events.{ToldView, in_sequence, lines_of_events, events_of}
@@ -65,8 +65,8 @@ one_time :
     ≡ header
     ++ told_line_of numbered 0 (it 4 JobEnds 1 0)
     ++ told_line_of numbered 0 (it 4 (Released 9) 2 0)
-    ++ line_of numbered 0 (at 4 0 (Some 1) Sleeping (Some 2))
-unfolding events_of header lines_of_events in_sequence told_line_of line_of task_part cpu_part
+    ++ switch_line numbered 0 (at 4 0 (Some 1) Sleeping (Some 2))
+unfolding events_of header lines_of_events in_sequence told_line_of switch_line task_part cpu_part
     time_part event_fields target_part prev_part next_part digits
 one_time = refl
 

@@ -4,10 +4,10 @@ use Rattle.std.specs.Prelude.{ℕ, ◌+◌, ◌==◌, ◌&&◌, ◌||◌, nat_lt
 use Rattle.std.specs.List.{flat_map}
 use Rattle.domain_run.specs.Switch.{Switch}
 use Rattle.domain_run.specs.declared.happened.Happened.{Happened}
-use Rattle.domain_run.specs.Happened.{rank}
-use Rattle.switch_text.specs.Line.{line_of}
+use Rattle.domain_run.specs.Happened.{kind_rank}
+use Rattle.switch_text.specs.Line.{switch_line}
 use Rattle.switch_text.specs.ToldLine.{has_line, told_line_of}
-use Rattle.switch_text.specs.Trace.{RunView, header}
+use Rattle.switch_text.specs.Trace.{SwitchesView, header}
 
 -- what happens in one domain: the CPU of the machine that is its CPU 0, the names of its tasks by
 -- number, and what happens to them
@@ -28,26 +28,26 @@ pub record Event : Type 0 where
 abbrev pub told_event : ToldView → Happened → Event
 told_event t h = record {
   time = h.time;
-  rank = rank h.what;
+  rank = kind_rank h.what;
   cpu = t.base + h.cpu;
   number = h.number;
   line = told_line_of t.names t.base h;
 }
 
 -- a switch comes after all that happens at its time
-abbrev pub switch_event : RunView → Switch → Event
+abbrev pub switch_event : SwitchesView → Switch → Event
 switch_event r s = record {
   time = s.time;
   rank = 7;
   cpu = r.base + s.cpu;
   number = 0;
-  line = line_of r.names r.base s;
+  line = switch_line r.names r.base s;
 }
 
 abbrev pub told_events : ToldView → List Event
 told_events t = map (told_event t) (filter (λ h. has_line h.what) t.happened)
 
-abbrev pub switch_events : RunView → List Event
+abbrev pub switch_events : SwitchesView → List Event
 switch_events r = map (switch_event r) r.switches
 
 -- by time; at one time by what happens; of the same by the CPU of the machine, then by number
@@ -68,12 +68,12 @@ in_sequence [] = []
 in_sequence (e ∷ es) = with_event e (in_sequence es)
 
 -- all that happens and all switches
-abbrev pub all_events : List RunView → List ToldView → List Event
+abbrev pub all_events : List SwitchesView → List ToldView → List Event
 all_events runs told = flat_map told_events told ++ flat_map switch_events runs
 
 unfoldable pub lines_of_events : List Event → List ℕ
 lines_of_events es = flat_map (λ e. e.line) es
 
 -- the header, and then the lines of all of them in their order
-unfoldable pub events_of : List RunView → List ToldView → List ℕ
+unfoldable pub events_of : List SwitchesView → List ToldView → List ℕ
 events_of runs told = header ++ lines_of_events (in_sequence (all_events runs told))

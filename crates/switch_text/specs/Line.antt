@@ -12,8 +12,8 @@ abbrev pub right_in : ℕ → List ℕ → List ℕ
 right_in width text = replicate (width - length text) 32 ++ text
 
 -- spaces after a text, as many as it is short of the width
-abbrev pub left_in : ℕ → List ℕ → List ℕ
-left_in width text = text ++ replicate (width - length text) 32
+abbrev pub padded_right : ℕ → List ℕ → List ℕ
+padded_right width text = text ++ replicate (width - length text) 32
 
 -- a number with zeros before it, as many as it is short of so many digits
 abbrev pub digits_in : ℕ → ℕ → List ℕ
@@ -50,7 +50,7 @@ letters_of Dead = codes "X"
 -- whose place is taken
 unfoldable pub task_part : (ℕ → List ℕ) → Option ℕ → List ℕ
 task_part names prev =
-    right_in 16 (title_of names prev) ++ codes "-" ++ left_in 7 (decimal (pid_of prev))
+    right_in 16 (title_of names prev) ++ codes "-" ++ padded_right 7 (decimal (pid_of prev))
 
 -- on which CPU of the machine
 unfoldable pub cpu_part : ℕ → List ℕ
@@ -78,8 +78,8 @@ next_part names cpu next =
 
 -- the line of a switch in a domain whose CPU 0 is this CPU of the machine, where tasks have these
 -- names
-unfoldable pub line_of : (ℕ → List ℕ) → ℕ → Switch → List ℕ
-line_of names base s =
+unfoldable pub switch_line : (ℕ → List ℕ) → ℕ → Switch → List ℕ
+switch_line names base s =
     task_part names s.prev
     ++ cpu_part (base + s.cpu)
     ++ time_part s.time

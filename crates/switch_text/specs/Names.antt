@@ -14,13 +14,13 @@ abbrev pub Names : Type 0
 Names = IndexMap ℕ (String Global) (BuildHasherDefault FoldHasher)
 
 -- the name of a number
-abbrev pub named : Names → ℕ → List ℕ
-named names number = option_map_or string_bytes (get nat_eq names number) []
+abbrev pub name_of_task : Names → ℕ → List ℕ
+name_of_task names number = option_map_or string_bytes (get nat_eq names number) []
 
 -- a name of 1 to 15 bytes stands at the number (the kernel's comm has at most 15)
 pub record HasName (names : Names) (number : ℕ) : Type 0 where
-  pub some : 0 < length (named names number)
-  pub most : length (named names number) ≤ 15
+  pub some : 0 < length (name_of_task names number)
+  pub most : length (name_of_task names number) ≤ 15
 
 -- what has a line: a time below 2^42, a CPU of the machine below 512, and names for who leaves and
 -- who comes

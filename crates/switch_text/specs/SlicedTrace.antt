@@ -2,14 +2,14 @@
 use Rattle.std.specs.Prelude.{ℕ, ◌≡◌, ◌+◌, ◌≤◌, List, ◌++◌, length}
 use Rattle.std.specs.List.{flat_map}
 use Rattle.domain_run.specs.Switch.{Switch}
-use Rattle.switch_text.specs.Line.{line_of}
+use Rattle.switch_text.specs.Line.{switch_line}
 use Rattle.switch_text.specs.Trace.{header}
 
 -- of the CPU of the machine that is its CPU 0, the names of its tasks and its switches: the header,
 -- and then their lines as they stand (where they rise by time and CPU it is the trace of that run:
 -- `sliced_trace-is` of the laws for callers)
 abbrev pub sliced_trace : ℕ → (ℕ → List ℕ) → List Switch → List ℕ
-sliced_trace base names switches = header ++ flat_map (line_of names base) switches
+sliced_trace base names switches = header ++ flat_map (switch_line names base) switches
 
 -- these are the last of them: others went before
 abbrev pub IsEndOf : List Switch → List Switch → Type 0

@@ -3,12 +3,12 @@ use Rattle.std.specs.Prelude.{ℕ, IsTrue, ◌<◌, ◌≤◌, ◌^◌, ◌+◌,
 use Rattle.domain_run.specs.declared.happened.Happened.{Happened}
 use Rattle.domain_run.specs.Happened.{is_first}
 use Rattle.switch_text.specs.declared.told.Told.{Told}
-use Rattle.switch_text.specs.Names.{Names, named, HasName}
+use Rattle.switch_text.specs.Names.{Names, name_of_task, HasName}
 use Rattle.switch_text.specs.ToldLine.{has_line}
 use Rattle.switch_text.specs.Events.{ToldView}
 
 abbrev pub told_view : Told → ToldView
-told_view t = record { base = t.base; names = named t.names.now; happened = t.happened.now }
+told_view t = record { base = t.base; names = name_of_task t.names.now; happened = t.happened.now }
 
 abbrev pub told_views : List Told → List ToldView
 told_views told = map told_view told

@@ -3,7 +3,7 @@
 ghost use Rattle.std.specs.Prelude.{◌≡◌, ◌+◌, ◌<◌, ◌≤◌, ◌^◌, [], ◌++◌, length, is_ok, IfOk, IfErr, OnOk, IsTrue, ◌↔◌};
 ghost use Rattle.counted_io.specs.Sides.{inner_of, faults_of};
 ghost use Rattle.counted_io.specs.Faults.{one_more_unless, TakesFront};
-ghost use Rattle.switch_text.specs.private.Pieces.{text_of};
+ghost use Rattle.switch_text.specs.private.Pieces.{piece_text};
 ghost use Rattle.switch_text.specs.private.Fronts.{front_text};
 ghost use Rattle.switch_text.specs.private.Sending.{Sends};
 
@@ -139,7 +139,7 @@ impl Batch {
     #[inline(always)]
     pub(crate) fn append_end(&mut self, coming: &Piece)
         requires { length self.old ≤ LOW + 320 }
-        ensures text { self.new ≡ self.old ++ text_of coming.now }
+        ensures text { self.new ≡ self.old ++ piece_text coming.now }
         ensures short { length self.new ≤ length self.old + 64 }
     {
         self.len = coming.put(&mut self.bytes, self.len);

@@ -1,13 +1,13 @@
 //! How a task, or the idle task of a CPU, is called in lines.
 
-ghost use Rattle.std.specs.Prelude.{◌≡◌, ◌++◌, ◌<◌, ◌≤◌, codes, decimal, length, IfSome};
-ghost use Rattle.switch_text.specs.Names.{named, HasName};
+ghost use Rattle.std.specs.Prelude.{◌≡◌, ◌++◌, ◌<◌, ◌≤◌, ◌^◌, codes, decimal, length, IfSome};
+ghost use Rattle.switch_text.specs.Names.{name_of_task, HasName};
 ghost use Rattle.switch_text.specs.Line.{pid_of, title_of};
 ghost use Rattle.switch_text.specs.private.Called.{IsCalled};
 ghost use Rattle.switch_text.specs.private.Pieces.{short_text_of};
 
-use crate::lines::{name_of, pid_for, put, put_decimal};
 use crate::piece::ShortPiece;
+use crate::putting::{put, put_decimal};
 use indexmap::IndexMap;
 use itoa::Buffer;
 
@@ -20,6 +20,24 @@ pub(crate) struct Called {
     pub(crate) comm: ShortPiece,
     /// The number that the trace shows.
     pub(crate) pid: ShortPiece,
+}
+
+pub(crate) fn name_of(names: &IndexMap<u32, String>, number: u32) -> &str
+    requires { HasName names.now number }
+    ensures { result.now ≡ name_of_task names.now number }
+{
+    names.get(&number).unwrap().as_str()
+}
+
+/// The number that the trace shows: 1000 above the task's own (own), 0 for idle.
+pub(crate) fn pid_for(task: Option<u32>) -> u64
+    ensures value { result ≡ pid_of task }
+    ensures small { result < 2 ^ 33 }
+{
+    match task {
+        None => 0,
+        Some(number) => 1000 + u64::from(number),
+    }
 }
 
 /// A number in decimal.
@@ -54,7 +72,7 @@ fn idle_comm(cpu: u32) -> ShortPiece
 /// The name of a task.
 fn name_piece(names: &IndexMap<u32, String>, number: u32) -> ShortPiece
     requires { HasName names.now number }
-    ensures text { short_text_of result ≡ named names.now number }
+    ensures text { short_text_of result ≡ name_of_task names.now number }
     ensures short { length (short_text_of result) ≤ 15 }
 {
     ShortPiece::of(name_of(names, number).as_bytes())
@@ -63,7 +81,7 @@ fn name_piece(names: &IndexMap<u32, String>, number: u32) -> ShortPiece
 /// The name in front of a line.
 pub(crate) fn title_piece(names: &IndexMap<u32, String>, task: Option<u32>) -> ShortPiece
     requires { IfSome task (HasName names.now) }
-    ensures text { short_text_of result ≡ title_of (named names.now) task }
+    ensures text { short_text_of result ≡ title_of (name_of_task names.now) task }
     ensures short { length (short_text_of result) ≤ 15 }
 {
     match task {
@@ -76,7 +94,7 @@ pub(crate) fn title_piece(names: &IndexMap<u32, String>, task: Option<u32>) -> S
 pub(crate) fn spell(names: &IndexMap<u32, String>, cpu: u32, task: Option<u32>) -> Called
     requires cpu { cpu < 512 }
     requires name { IfSome task (HasName names.now) }
-    ensures { IsCalled (named names.now) cpu task result }
+    ensures { IsCalled (name_of_task names.now) cpu task result }
 {
     let title = title_piece(names, task);
     let comm = match task {

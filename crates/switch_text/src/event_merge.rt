@@ -1,7 +1,7 @@
 //! What comes next of all that happens and of all switches.
 
 ghost use Rattle.std.specs.Prelude.{◌≡◌, ◌≤◌, length, replicate, All};
-ghost use Rattle.switch_text.specs.Runs.{views, IsRun};
+ghost use Rattle.switch_text.specs.Runs.{views, IsPrintable};
 ghost use Rattle.switch_text.specs.Telling.{IsTold};
 ghost use Rattle.switch_text.specs.private.EventMerging as merging;
 ghost use Rattle.switch_text.specs.private.EventMerging.{after_next, places_of, CanShow, CanStep, IsEventFound};
@@ -31,7 +31,7 @@ impl EventMerge {
     /// Each domain goes on from its start.
     pub(crate) fn start(runs: &[Run<'_>]) -> EventMerge
         requires few { length runs.now ≤ 8 }
-        requires runs { All IsRun runs.now }
+        requires runs { All IsPrintable runs.now }
         ensures switches { result.switches.places ≡ replicate 8 0 }
         ensures told { result.told ≡ replicate 8 0 }
         ensures heads { IsMerge (views runs.now) result.switches }
@@ -45,7 +45,7 @@ impl EventMerge {
     /// Goes on by what comes next.
     pub(crate) fn step(&mut self, runs: &[Run<'_>], next: &NextEvent<'_, '_, '_, '_>)
         requires few { length runs.now ≤ 8 }
-        requires runs { All IsRun runs.now }
+        requires runs { All IsPrintable runs.now }
         requires places { CanStep (places_of self.old) next.now }
         requires shown { CanShow runs.now next.now }
         requires heads { IsMerge (views runs.now) self.old.switches }
@@ -71,7 +71,7 @@ fn first_of<'a, 'b, 'c, 'd>(
     happens: Option<NextTold<'a, 'b>>,
     switch: Option<Next<'c, 'd>>,
 ) -> Option<NextEvent<'a, 'b, 'c, 'd>>
-    ensures { result ≡ merging.first_of happens.entry switch.entry }
+    ensures { result ≡ merging.first_event_of happens.entry switch.entry }
 {
     let Some(happens) = happens else {
         return Some(NextEvent::Switch(switch?));
@@ -94,7 +94,7 @@ pub(crate) fn next_event<'a, 'b, 'c, 'd>(
 ) -> Option<NextEvent<'a, 'b, 'c, 'd>>
     requires few_runs { length runs.now ≤ 8 }
     requires few_told { length told.now ≤ 8 }
-    requires runs { All IsRun runs.now }
+    requires runs { All IsPrintable runs.now }
     requires told { All IsTold told.now }
     requires heads { IsMerge (views runs.now) merge.now.switches }
     ensures { IsEventFound runs.now told.now (places_of merge.now) result }

@@ -4,7 +4,7 @@ ghost use Rattle.std.specs.Prelude.{◌≡◌, ◌+◌, ◌<◌, ◌≤◌, ◌^
 ghost use Rattle.std.specs.Io.KnownBytes.{Appends};
 ghost use Rattle.counted_io.specs.Sides.{inner_of, faults_of};
 ghost use Rattle.counted_io.specs.Faults.{one_more_unless, TakesFront};
-ghost use Rattle.switch_text.specs.Runs.{views, IsRun};
+ghost use Rattle.switch_text.specs.Runs.{views, IsPrintable};
 ghost use Rattle.switch_text.specs.Events.{events_of};
 ghost use Rattle.switch_text.specs.Telling.{told_views, IsTold};
 ghost use Rattle.switch_text.specs.private.EventMerging.{line_of_next, CanShow};
@@ -74,7 +74,7 @@ fn write_with<W: Write>(
 ) -> Result<(), WriteFault>
     requires few_runs { length runs.now ≤ 8 }
     requires few_told { length told.now ≤ 8 }
-    requires runs { All IsRun runs.now }
+    requires runs { All IsPrintable runs.now }
     requires told { All IsTold told.now }
     requires many { AreEnough slots.old }
     requires empty { AreNobodys slots.old }
@@ -125,7 +125,7 @@ pub fn write_events_in<W: Write>(
 ) -> Result<(), WriteFault>
     requires few_runs { length runs.now ≤ 8 }
     requires few_told { length told.now ≤ 8 }
-    requires runs { All IsRun runs.now }
+    requires runs { All IsPrintable runs.now }
     requires told { All IsTold told.now }
     requires faults { faults_of writer.old < 2 ^ 63 }
     ensures ok { OnOk result (Appends

@@ -2,7 +2,7 @@
 
 ghost use Rattle.std.specs.Prelude.{ℕ, length, ◌≡◌, ◌<◌, ◌*◌, ◌+◌, ◌/◌, slice_index, slice_set, ◌≢◌};
 ghost use Rattle.switch_text.specs.private.Winning as spec;
-ghost use Rattle.switch_text.specs.private.Winning.{Wins, ArePairs, AreHalves, IsTree, head_in, no_head};
+ghost use Rattle.switch_text.specs.private.Winning.{Wins, ArePairs, AreHalves, IsWinningTree, head_in, no_head};
 
 /// When and on which CPU of the machine the next switch of a run is.
 #[derive(Clone, Copy)]
@@ -26,7 +26,7 @@ impl Head {
     // Without a branch, since which of two runs goes first is hard to foresee.
     #[inline(always)]
     fn is_sooner_than(self, other: Head) -> bool
-        ensures { result ≡ spec.is_sooner self other }
+        ensures { result ≡ spec.is_head_sooner self other }
     {
         (self.time < other.time) | ((self.time == other.time) & (self.cpu < other.cpu))
     }
@@ -63,7 +63,7 @@ impl Heads {
     pub(crate) fn none() -> Heads
         ensures long { length result.heads ≡ 8 }
         ensures heads { (i : ℕ) → i < 8 → head_in result.heads i ≡ no_head }
-        ensures tree { IsTree result }
+        ensures tree { IsWinningTree result }
         ensures first { result.first ≡ 0 }
     {
         Heads {
@@ -109,7 +109,7 @@ impl Heads {
         requires pairs { ArePairs self.old.heads self.old.pairs }
         requires halves { AreHalves self.old.heads self.old.halves }
         ensures heads { self.new.heads ≡ self.old.heads }
-        ensures tree { IsTree self.new }
+        ensures tree { IsWinningTree self.new }
     {
         self.first = winner(&self.heads, self.halves[0], self.halves[1]);
     }
@@ -118,9 +118,9 @@ impl Heads {
     #[inline(always)]
     pub(crate) fn change(&mut self, place: usize, head: Head)
         requires place { place < 8 }
-        requires tree { IsTree self.old }
+        requires tree { IsWinningTree self.old }
         ensures heads { self.new.heads ≡ slice_set self.old.heads place head }
-        ensures tree { IsTree self.new }
+        ensures tree { IsWinningTree self.new }
     {
         self.heads[place] = head;
         self.play_pair(place);

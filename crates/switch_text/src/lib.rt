@@ -29,6 +29,7 @@ mod heads;
 mod lines;
 mod merge;
 mod piece;
+mod putting;
 mod ready;
 mod run;
 mod slices;

@@ -1,37 +1,16 @@
 //! The line of a switch, put together piece by piece.
 
-ghost use Rattle.std.specs.Prelude.{◌≡◌, ◌+◌, ◌<◌, ◌≤◌, ◌^◌, ◌++◌, length, take, decimal};
-ghost use Rattle.switch_text.specs.Names.{named, HasName, HasLine};
-ghost use Rattle.switch_text.specs.Line.{right_in, left_in, digits_in, pid_of, prio_of, letters_of, cpu_part, line_of};
+ghost use Rattle.std.specs.Prelude.{◌≡◌, ◌+◌, ◌<◌, ◌≤◌, ◌++◌, length, take};
+ghost use Rattle.switch_text.specs.Names.{name_of_task, HasLine};
+ghost use Rattle.switch_text.specs.Line.{right_in, padded_right, digits_in, prio_of, letters_of, cpu_part, switch_line};
 ghost use Rattle.switch_text.specs.private.Parts.{second_part, event_part, task_text, leaving_text, state_part, coming_text};
 ghost use Rattle.switch_text.specs.private.Pieces.{short_text_of};
 
 use crate::called::{decimal_piece, spell};
 use crate::piece::ShortPiece;
+use crate::putting::put;
 use domain_run::{PrevState, Switch};
 use indexmap::IndexMap;
-use itoa::Buffer;
-
-/// Copies a text to a place of the line, and gives the place behind it. So do the others below.
-#[inline(always)]
-pub(crate) fn put(out: &mut [u8], at: usize, text: &[u8]) -> usize
-    requires { at + length text.now ≤ length out.old }
-    ensures place { result ≡ at + length text.now }
-    ensures text { take result out.new ≡ take at out.old ++ text.now }
-{
-    let end = at + text.len();
-    out[at..end].copy_from_slice(text);
-    end
-}
-
-pub(crate) fn put_decimal(out: &mut [u8], at: usize, n: u64) -> usize
-    requires { at + length (decimal n) ≤ length out.old }
-    ensures place { result ≡ at + length (decimal n) }
-    ensures text { take result out.new ≡ take at out.old ++ decimal n }
-{
-    let mut buffer = Buffer::new();
-    put(out, at, buffer.format(n).as_bytes())
-}
 
 /// With spaces before it, where it is shorter than the width.
 #[inline(always)]
@@ -51,9 +30,9 @@ fn put_right(out: &mut [u8], at: usize, width: usize, text: &ShortPiece) -> usiz
 fn put_left(out: &mut [u8], at: usize, width: usize, text: &ShortPiece) -> usize
     requires width { width ≤ 16 }
     requires room { at + length (short_text_of text.now) + 32 ≤ length out.old }
-    ensures place { result ≡ at + length (left_in width (short_text_of text.now)) }
+    ensures place { result ≡ at + length (padded_right width (short_text_of text.now)) }
     ensures text { take result out.new
-        ≡ take at out.old ++ left_in width (short_text_of text.now) }
+        ≡ take at out.old ++ padded_right width (short_text_of text.now) }
 {
     let at = text.put(out, at);
     ShortPiece::spaces(width.saturating_sub(text.len())).put(out, at)
@@ -93,24 +72,6 @@ pub(crate) fn put_micros(out: &mut [u8], at: usize, n: u64) -> usize
     let at = put(out, at, &two_digits(n / 10_000));
     let at = put(out, at, &two_digits(low / 100));
     put(out, at, &two_digits(low % 100))
-}
-
-pub(crate) fn name_of(names: &IndexMap<u32, String>, number: u32) -> &str
-    requires { HasName names.now number }
-    ensures { result.now ≡ named names.now number }
-{
-    names.get(&number).unwrap().as_str()
-}
-
-/// The number that the trace shows: 1000 above the task's own (own), 0 for idle.
-pub(crate) fn pid_for(task: Option<u32>) -> u64
-    ensures value { result ≡ pid_of task }
-    ensures small { result < 2 ^ 33 }
-{
-    match task {
-        None => 0,
-        Some(number) => 1000 + u64::from(number),
-    }
 }
 
 /// What ftrace shows as the priority: -1 for a deadline task, 120 for idle.
@@ -267,9 +228,9 @@ pub(crate) fn put_coming(
 /// below 512, and that each task of the switch has a name of 1 to 15 bytes.
 pub fn line(switch: &Switch, base: u32, names: &IndexMap<u32, String>, out: &mut [u8; 256]) -> usize
     requires { HasLine names.now base switch.now }
-    ensures len { result ≡ length (line_of (named names.now) base switch.now) }
+    ensures len { result ≡ length (switch_line (name_of_task names.now) base switch.now) }
     ensures short { result ≤ 256 }
-    ensures text { take result out.new ≡ line_of (named names.now) base switch.now }
+    ensures text { take result out.new ≡ switch_line (name_of_task names.now) base switch.now }
 {
     let time = switch.time();
     let leaves = switch.prev();

@@ -2,9 +2,9 @@
 
 ghost use Rattle.std.specs.Prelude.{ℕ, ◌≡◌, ◌+◌, ◌<◌, ◌≤◌, ◌^◌, length, drop, replicate, slice_index, slice_index_or, All, IsTrue, ◌↔◌};
 ghost use Rattle.switch_text.specs.Trace.{entries_of};
-ghost use Rattle.switch_text.specs.Runs.{view_of, views, IsRun};
-ghost use Rattle.switch_text.specs.private.Merging.{stepped, IsFound, IsRunAt};
-ghost use Rattle.switch_text.specs.private.Winning.{head_of, head_in, left_at, IsTree, IsMerge};
+ghost use Rattle.switch_text.specs.Runs.{switches_view_of, views, IsPrintable};
+ghost use Rattle.switch_text.specs.private.Merging.{places_stepped, IsNextFound, IsRunAt};
+ghost use Rattle.switch_text.specs.private.Winning.{head_of, head_in, left_at, IsWinningTree, IsMerge};
 
 use crate::heads::{Head, Heads};
 use crate::run::Run;
@@ -53,8 +53,8 @@ pub(crate) struct Merge {
 /// The head of a run that goes on from a place.
 #[inline(always)]
 fn head_at(run: &Run<'_>, place: usize) -> Head
-    requires { IsRun run.now }
-    ensures { result ≡ head_of (drop place (entries_of (view_of run.now))) }
+    requires { IsPrintable run.now }
+    ensures { result ≡ head_of (drop place (entries_of (switches_view_of run.now))) }
 {
     if is_left(run, place) {
         let switch = &run.switches[place];
@@ -70,10 +70,10 @@ fn head_at(run: &Run<'_>, place: usize) -> Head
 #[inline(always)]
 fn first_heads(runs: &[Run<'_>]) -> Heads
     requires few { length runs.now ≤ 8 }
-    requires runs { All IsRun runs.now }
+    requires runs { All IsPrintable runs.now }
     ensures heads { (i : ℕ) → i < 8
         → head_in result.heads i ≡ head_of (left_at (views runs.now) (replicate 8 0) i) }
-    ensures tree { IsTree result }
+    ensures tree { IsWinningTree result }
 {
     let mut heads = Heads::none();
     for (i, run) in runs.iter().enumerate() {
@@ -87,7 +87,7 @@ impl Merge {
     #[inline(always)]
     pub(crate) fn start(runs: &[Run<'_>]) -> Merge
         requires few { length runs.now ≤ 8 }
-        requires runs { All IsRun runs.now }
+        requires runs { All IsPrintable runs.now }
         ensures places { result.places ≡ replicate 8 0 }
         ensures heads { IsMerge (views runs.now) result }
     {
@@ -108,9 +108,9 @@ impl Merge {
     #[inline(always)]
     pub(crate) fn next<'a, 'b>(&self, runs: &'a [Run<'b>]) -> Option<Next<'a, 'b>>
         requires few { length runs.now ≤ 8 }
-        requires runs { All IsRun runs.now }
+        requires runs { All IsPrintable runs.now }
         requires heads { IsMerge (views runs.now) self.now }
-        ensures { IsFound runs.now self.now.places result }
+        ensures { IsNextFound runs.now self.now.places result }
     {
         let index = self.heads.first;
         if index >= runs.len() {
@@ -128,11 +128,11 @@ impl Merge {
     #[inline(always)]
     pub(crate) fn step(&mut self, runs: &[Run<'_>], next: &Next<'_, '_>)
         requires few { length runs.now ≤ 8 }
-        requires runs { All IsRun runs.now }
+        requires runs { All IsPrintable runs.now }
         requires run { IsRunAt runs.now next.now }
         requires place { slice_index self.old.places next.now.index + 1 < 2 ^ 64 }
         requires heads { IsMerge (views runs.now) self.old }
-        ensures places { self.new.places ≡ stepped self.old.places next.now.index }
+        ensures places { self.new.places ≡ places_stepped self.old.places next.now.index }
         ensures heads { IsMerge (views runs.now) self.new }
     {
         let place = self.places[next.index] + 1;

@@ -15,12 +15,12 @@ pub(crate) struct Piece {
 
 impl Piece {
     ghost use Rattle.std.specs.Prelude.{◌≡◌, ◌+◌, [], ◌++◌, length, take};
-    ghost use Rattle.switch_text.specs.private.Pieces.{text_of};
+    ghost use Rattle.switch_text.specs.private.Pieces.{piece_text};
 
     /// No byte.
     #[inline(always)]
     pub(crate) fn empty() -> Piece
-        ensures { text_of result ≡ [] }
+        ensures { piece_text result ≡ [] }
     {
         Piece {
             bytes: [0; 64],
@@ -32,7 +32,7 @@ impl Piece {
     #[inline(always)]
     pub(crate) fn front(bytes: [u8; 64], len: usize) -> Piece
         requires { len ≤ 64 }
-        ensures { text_of result ≡ take len bytes }
+        ensures { piece_text result ≡ take len bytes }
     {
         Piece { bytes, len }
     }
@@ -41,9 +41,9 @@ impl Piece {
     #[inline(always)]
     pub(crate) fn put(&self, out: &mut [u8], at: usize) -> usize
         requires { at + 64 ≤ length out.old }
-        ensures place { result ≡ at + length (text_of self.now) }
+        ensures place { result ≡ at + length (piece_text self.now) }
         ensures short { result ≤ at + 64 }
-        ensures text { take result out.new ≡ take at out.old ++ text_of self.now }
+        ensures text { take result out.new ≡ take at out.old ++ piece_text self.now }
     {
         Simd::<u8, 64>::from_slice(&self.bytes).copy_to_slice(&mut out[at..]);
         at + self.len

@@ -2,11 +2,11 @@
 //! while a trace is written.
 
 ghost use Rattle.std.specs.Prelude.{ℕ, ◌≡◌, ◌<◌, ◌≤◌, ◌++◌, List, length, slice_index_or, All, IfSome, IsTrue, vec_capacity};
-ghost use Rattle.switch_text.specs.Names.{named, HasName};
+ghost use Rattle.switch_text.specs.Names.{name_of_task, HasName};
 ghost use Rattle.switch_text.specs.Line.{cpu_part};
 ghost use Rattle.switch_text.specs.private.Parts.{second_part, state_part, task_text, leaving_text, coming_text};
-ghost use Rattle.switch_text.specs.private.Pieces.{text_of, short_text_of};
-ghost use Rattle.switch_text.specs.private.Ready.{IsReady, who_of, fewest, AreEnough, AreNobodys, IsSlot, IsLane, nth_state, IsMiddles, IsTexts};
+ghost use Rattle.switch_text.specs.private.Pieces.{piece_text, short_text_of};
+ghost use Rattle.switch_text.specs.private.Ready.{IsSlotReady, who_of, fewest, AreEnough, AreNobodys, IsSlot, IsLane, nth_state, IsMiddles, IsTexts};
 
 use crate::called::{Called, spell};
 use crate::lines::{put_coming, put_cpu, put_leaving, put_second, put_state, put_task};
@@ -291,7 +291,7 @@ fn head_of(called: &Called) -> ShortPiece
 fn leaving_of(called: &Called, task: Option<u32>) -> Piece
     requires comm { length (short_text_of called.now.comm) ≤ 15 }
     requires pid { length (short_text_of called.now.pid) ≤ 10 }
-    ensures { text_of result
+    ensures { piece_text result
         ≡ leaving_text (short_text_of called.now.comm) (short_text_of called.now.pid) task }
 {
     let mut text = [0u8; 64];
@@ -304,7 +304,7 @@ fn leaving_of(called: &Called, task: Option<u32>) -> Piece
 fn coming_of(called: &Called, task: Option<u32>) -> Piece
     requires comm { length (short_text_of called.now.comm) ≤ 15 }
     requires pid { length (short_text_of called.now.pid) ≤ 10 }
-    ensures { text_of result
+    ensures { piece_text result
         ≡ coming_text (short_text_of called.now.comm) (short_text_of called.now.pid) task }
 {
     let mut text = [0u8; 64];
@@ -318,7 +318,7 @@ fn make(names: &IndexMap<u32, String>, who: Who, cpu: u32, task: Option<u32>) ->
     requires cpu { cpu < 512 }
     requires name { IfSome task (HasName names.now) }
     ensures who { result.who ≡ who }
-    ensures texts { IsReady (named names.now) cpu task result }
+    ensures texts { IsSlotReady (name_of_task names.now) cpu task result }
 {
     let called = spell(names, cpu, task);
     Slot {
@@ -409,11 +409,12 @@ fn refill(
     requires cpu { cpu < 512 }
     requires name { (d : Run) → IfSome task (HasName (slice_index_or runs.now run d).names.now) }
     requires same { (d : Run) → IfSome task
-        (λ n. named (slice_index_or runs.now run d).names.now n ≡ names run n) }
+        (λ n. name_of_task (slice_index_or runs.now run d).names.now n ≡ names run n) }
     requires right { All (IsSlot names) slots.old }
     ensures many { length slots.new ≡ length slots.old }
     ensures right { All (IsSlot names) slots.new }
-    ensures texts { (d : Slot) → IsReady (names run) cpu task (slice_index_or slots.new place d) }
+    ensures texts { (d : Slot)
+        → IsSlotReady (names run) cpu task (slice_index_or slots.new place d) }
 {
     let who = who_is(run, cpu, task);
     slots[place] = make(runs[run].names, who, cpu, task);
@@ -436,12 +437,13 @@ pub(crate) fn seat(
     requires cpu { cpu < 512 }
     requires name { (d : Run) → IfSome task (HasName (slice_index_or runs.now run d).names.now) }
     requires same { (d : Run) → IfSome task
-        (λ n. named (slice_index_or runs.now run d).names.now n ≡ names run n) }
+        (λ n. name_of_task (slice_index_or runs.now run d).names.now n ≡ names run n) }
     requires right { All (IsSlot names) slots.old }
     ensures inside { result < length slots.new }
     ensures many { length slots.new ≡ length slots.old }
     ensures right { All (IsSlot names) slots.new }
-    ensures texts { (d : Slot) → IsReady (names run) cpu task (slice_index_or slots.new result d) }
+    ensures texts { (d : Slot)
+        → IsSlotReady (names run) cpu task (slice_index_or slots.new result d) }
 {
     let place = place_for(slots.len(), runs.len(), run, cpu, task);
     if !is_of(&slots[place], who_is(run, cpu, task)) {

@@ -5,8 +5,8 @@ ghost use Rattle.std.specs.Io.KnownBytes.{Appends};
 ghost use Rattle.domain_run.specs.Switch.{Switch as SwitchView};
 ghost use Rattle.counted_io.specs.Sides.{inner_of, faults_of};
 ghost use Rattle.counted_io.specs.Faults.{one_more_unless, TakesFront};
-ghost use Rattle.switch_text.specs.Names.{named, SameNames};
-ghost use Rattle.switch_text.specs.Runs.{IsRun};
+ghost use Rattle.switch_text.specs.Names.{name_of_task, SameNames};
+ghost use Rattle.switch_text.specs.Runs.{IsPrintable};
 ghost use Rattle.switch_text.specs.SlicedTrace.{sliced_trace, IsEndOf, IsStopped};
 ghost use Rattle.switch_text.specs.private.Ready.{AreEnough, IsSlot, IsTexts};
 ghost use Rattle.switch_text.specs.private.Sending.{Sends};
@@ -47,10 +47,10 @@ pub trait Slices {
     /// The slice that is at hand, as it is written. Its names are those of the whole run where they
     /// occur in it.
     fn slice(&self) -> Run<'_>
-        ensures run { IsRun result }
+        ensures run { IsPrintable result }
         ensures base { result.base ≡ base self.now }
         ensures switches { result.switches.now ≡ at_hand self.now }
-        ensures names { All (SameNames (named result.names.now) (names self.now))
+        ensures names { All (SameNames (name_of_task result.names.now) (names self.now))
             result.switches.now };
 }
 

@@ -1,15 +1,14 @@
 //! The line of what happens to a task, put together piece by piece.
 
 ghost use Rattle.std.specs.Prelude.{◌≡◌, ◌+◌, ◌<◌, ◌≤◌, ◌++◌, length, take, IsTrue};
-ghost use Rattle.switch_text.specs.Names.{named, HasName};
+ghost use Rattle.switch_text.specs.Names.{name_of_task, HasName};
 ghost use Rattle.switch_text.specs.Line.{digits_in};
 ghost use Rattle.switch_text.specs.ToldLine.{has_line, stands_in_front, event_name, seconds_part, target_part, deadline_part, last_fields, event_fields, told_line_of};
 ghost use Rattle.switch_text.specs.Telling.{HasToldLine};
 
-use crate::called::{pid_piece, title_piece};
-use crate::lines::{
-    name_of, pid_for, put, put_cpu, put_decimal, put_micros, put_second, put_task, two_digits,
-};
+use crate::called::{name_of, pid_for, pid_piece, title_piece};
+use crate::lines::{put_cpu, put_micros, put_second, put_task, two_digits};
+use crate::putting::{put, put_decimal};
 use domain_run::{Happened, What};
 use indexmap::IndexMap;
 
@@ -124,10 +123,10 @@ fn put_fields(
     requires small { cpu < 512 }
     requires name { HasName names.now number }
     requires room { at + 83 ≤ length out.old }
-    ensures place { result ≡ at + length (event_fields (named names.now) cpu number what) }
+    ensures place { result ≡ at + length (event_fields (name_of_task names.now) cpu number what) }
     ensures short { result ≤ at + 83 }
     ensures text { take result out.new ≡ take at out.old
-        ++ event_fields (named names.now) cpu number what }
+        ++ event_fields (name_of_task names.now) cpu number what }
 {
     let at = put(out, at, name_of_event(what));
     let at = put(out, at, name_of(names, number).as_bytes());
@@ -152,9 +151,9 @@ pub fn told_line(
 ) -> usize
     requires some { IsTrue (has_line happened.now.what) }
     requires line { HasToldLine names.now base happened.now }
-    ensures len { result ≡ length (told_line_of (named names.now) base happened.now) }
+    ensures len { result ≡ length (told_line_of (name_of_task names.now) base happened.now) }
     ensures short { result ≤ 256 }
-    ensures text { take result out.new ≡ told_line_of (named names.now) base happened.now }
+    ensures text { take result out.new ≡ told_line_of (name_of_task names.now) base happened.now }
 {
     let cpu = base + u32::from(happened.cpu);
     let front = in_front(happened.what, happened.number);

@@ -4,16 +4,16 @@ ghost use Rattle.std.specs.Prelude.{ℕ, ◌≡◌, ◌+◌, ◌*◌, ◌<◌, �
 ghost use Rattle.std.specs.List.{flat_map};
 ghost use Rattle.std.specs.Io.KnownBytes.{Appends};
 ghost use Rattle.switch_text.specs.Trace.{entries_of, header, trace_of};
-ghost use Rattle.switch_text.specs.Runs.{views, IsRun};
+ghost use Rattle.switch_text.specs.Runs.{views, IsPrintable};
 ghost use Rattle.counted_io.specs.Sides.{inner_of, faults_of};
 ghost use Rattle.counted_io.specs.Faults.{one_more_unless, TakesFront};
-ghost use Rattle.switch_text.specs.private.Merging.{next_entry, IsPrinted, IsRunAt, IsNamed};
+ghost use Rattle.switch_text.specs.private.Merging.{next_entry, IsPrinted, IsRunAt, IsNextNamed};
 ghost use Rattle.switch_text.specs.private.Sending.{Sends};
 ghost use Rattle.switch_text.specs.private.Sliced.{lines_in};
 ghost use Rattle.switch_text.specs.Line.{digits_in};
 ghost use Rattle.switch_text.specs.private.Parts.{event_part};
-ghost use Rattle.switch_text.specs.private.Pieces.{text_of, short_text_of};
-ghost use Rattle.switch_text.specs.private.Ready.{AreNamed, AreEnough, AreNobodys, IsSlot, IsTexts};
+ghost use Rattle.switch_text.specs.private.Pieces.{piece_text, short_text_of};
+ghost use Rattle.switch_text.specs.private.Ready.{RunsHaveNames, AreEnough, AreNobodys, IsSlot, IsTexts};
 
 use crate::batch::{Batch, Front};
 use crate::fault::WriteFault;
@@ -42,7 +42,7 @@ fn append_leaving(slot: &Slot, lane: &Lane, micros: u64, state: &ShortPiece, bat
     requires room { length batch.old ≤ 65152 }
     ensures text { batch.new ≡ batch.old ++ (short_text_of slot.now.head
         ++ short_text_of lane.now.text ++ digits_in 6 micros ++ event_part
-        ++ text_of slot.now.leaving ++ short_text_of state.now) }
+        ++ piece_text slot.now.leaving ++ short_text_of state.now) }
     ensures short { length batch.new ≤ length batch.old + 320 }
 {
     batch.append_front(&Front {
@@ -67,7 +67,7 @@ pub(crate) fn append_line(
     requires few { length runs.now ≤ 8 }
     requires printed { IsPrinted next.now }
     requires run { IsRunAt runs.now next.now }
-    requires named { IsNamed names next.now }
+    requires named { IsNextNamed names next.now }
     requires many { AreEnough slots.old }
     requires slots { All (IsSlot names) slots.old }
     requires texts { IsTexts texts.old }
@@ -110,8 +110,8 @@ fn together(sent: usize, more: usize) -> usize
 /// So many switches of a run are looked at ahead at a time.
 const AHEAD: usize = 64;
 
-// Something of the switches of a run from a place on: of each fourth one, since four stand in a line
-// of the cache.
+// Something of the switches of a run from a place on: of each fourth one, since four stand in a
+// line of the cache.
 fn seen_from(switches: &[Switch], place: usize) -> u64
     requires { place + 64 ≤ length switches.now }
 {
@@ -154,8 +154,8 @@ pub(crate) fn send_runs<W: Write>(
 ) -> Result<usize, usize>
     ghost names: { ℕ → ℕ → List ℕ }
     requires few { length runs.now ≤ 8 }
-    requires runs { All IsRun runs.now }
-    requires named { AreNamed names runs.now }
+    requires runs { All IsPrintable runs.now }
+    requires named { RunsHaveNames names runs.now }
     requires many { AreEnough slots.old }
     requires slots { All (IsSlot names) slots.old }
     requires texts { IsTexts texts.old }
@@ -200,7 +200,7 @@ fn write_with<W: Write>(
     writer: &mut Counted<W>,
 ) -> Result<(), WriteFault>
     requires few { length runs.now ≤ 8 }
-    requires runs { All IsRun runs.now }
+    requires runs { All IsPrintable runs.now }
     requires many { AreEnough slots.old }
     requires empty { AreNobodys slots.old }
     requires faults { faults_of writer.old < 2 ^ 63 }
@@ -235,7 +235,7 @@ fn write_with<W: Write>(
 /// that the writer took; they are the front of the trace text, and not all of it.
 pub fn write_trace<W: Write>(runs: &[Run<'_>], writer: &mut Counted<W>) -> Result<(), WriteFault>
     requires few { length runs.now ≤ 8 }
-    requires runs { All IsRun runs.now }
+    requires runs { All IsPrintable runs.now }
     requires faults { faults_of writer.old < 2 ^ 63 }
     ensures ok { OnOk result (Appends
         (W.contents (inner_of writer.old)) (W.contents (inner_of writer.new))
@@ -260,7 +260,7 @@ pub fn write_trace_in<W: Write>(
     writer: &mut Counted<W>,
 ) -> Result<(), WriteFault>
     requires few { length runs.now ≤ 8 }
-    requires runs { All IsRun runs.now }
+    requires runs { All IsPrintable runs.now }
     requires faults { faults_of writer.old < 2 ^ 63 }
     ensures ok { OnOk result (Appends
         (W.contents (inner_of writer.old)) (W.contents (inner_of writer.new))

@@ -10,9 +10,9 @@ use Rattle.task_script.specs.declared.progress.Progress.{Progress}
 use Rattle.task_script.specs.script.ScriptView.{PhaseView, ScriptView, IsPhase, IsScript, IsPlace, IsCursor, script_of, phase_len, round_len}
 use Rattle.task_script.specs.script.Unrolled.{round_of, event_at}
 use Rattle.task_script.specs.script.Segments.{first_place, kept_cursor}
-use Rattle.task_script.specs.private.Steps.{first_of}
+use Rattle.task_script.specs.private.Steps.{first_step_of}
 use Rattle.task_script.proofs.StepPlaces.{next_first}
-use Rattle.task_script.specs.private.Progress.{events_behind, place_of, is_over, next_round, IsInPhase, IsProgress, IsLastOfLap, IsBehind}
+use Rattle.task_script.specs.private.Progress.{events_behind, progress_place, is_last_round, next_round, IsInPhase, IsProgress, IsLastOfLap, IsNextProgress}
 use Rattle.task_script.proofs.Unrolling.{event_in, event_in_is, event_ends, event_by, event_by_is, some_round, place_at_first, behind_within, kept_itself}
 
 -- IN A ROUND
@@ -138,25 +138,25 @@ kept_place s place h more = go s.rounds refl where
   go (Some n) is = behind_within s n place is more
 
 -- behind the last round there is none; before it, it is the event of the phase
-pub none_over : (s : ScriptView) (p : Progress) → is_over s.rounds p.round ≡ true → event_at s (place_of s p) ≡ None
+pub none_over : (s : ScriptView) (p : Progress) → is_last_round s.rounds p.round ≡ true → event_at s (progress_place s p) ≡ None
 none_over s p over = go s.rounds over where
-  go : (rounds : Option ℕ) → is_over rounds p.round ≡ true → event_at (script_of rounds s.phases) (place_of s p) ≡ None
+  go : (rounds : Option ℕ) → is_last_round rounds p.round ≡ true → event_at (script_of rounds s.phases) (progress_place s p) ≡ None
   go None over = absurd cc
   go (Some n) over =
       let more = mul-le n (round_len s) p.round (round_len s) (leb-true n p.round over) (omega arith) in
-      event_ends n s.phases (place_of s p) (omega (arith, more))
+      event_ends n s.phases (progress_place s p) (omega (arith, more))
 
-in_rounds : (rounds : Option ℕ) (phases : List PhaseView) (round x : ℕ) → is_over rounds round ≡ false → MatchOption rounds (round * sum_by phase_len phases + x < sum_by phase_len phases) (λ n. round * sum_by phase_len phases + x ≤ n * sum_by phase_len phases) → x < sum_by phase_len phases → event_by rounds phases (round * sum_by phase_len phases + x) ≡ slice_get (round_of phases) x
+in_rounds : (rounds : Option ℕ) (phases : List PhaseView) (round x : ℕ) → is_last_round rounds round ≡ false → MatchOption rounds (round * sum_by phase_len phases + x < sum_by phase_len phases) (λ n. round * sum_by phase_len phases + x ≤ n * sum_by phase_len phases) → x < sum_by phase_len phases → event_by rounds phases (round * sum_by phase_len phases + x) ≡ slice_get (round_of phases) x
 in_rounds None phases round x left within less = ap (slice_get (round_of phases)) (mul-add-mod_self_right round (sum_by phase_len phases) x ∙ mod-eq_of_lt less)
 in_rounds (Some n) phases round x left within less =
     let inside = in_laps n (sum_by phase_len phases) round x (leb-false n round left) less in
     rw (lt-ltb _ _ inside) (ap (slice_get (round_of phases)) (mul-add-mod_self_right round (sum_by phase_len phases) x ∙ mod-eq_of_lt less))
 
-pub event_there : (s : ScriptView) (p : Progress) (q : PhaseView) → IsScript s → IsProgress s p → is_over s.rounds p.round ≡ false → slice_get s.phases p.phase ≡ Some q → event_at s (place_of s p) ≡ slice_get q.events p.event
+pub event_there : (s : ScriptView) (p : Progress) (q : PhaseView) → IsScript s → IsProgress s p → is_last_round s.rounds p.round ≡ false → slice_get s.phases p.phase ≡ Some q → event_at s (progress_place s p) ≡ slice_get q.events p.event
 event_there s p q h stands left at =
     let in_q = stands.there q at in
     let less = in_round s.phases p.phase p.lap p.event q at in_q.lap in_q.event in
-    event_by_is s h (place_of s p)
+    event_by_is s h (progress_place s p)
     ∙ in_rounds s.rounds s.phases p.round (events_behind s.phases p.phase p.lap p.event) left (stands.kept 0).within less
     ∙ sym (event_in_is s.phases (events_behind s.phases p.phase p.lap p.event))
     ∙ event_here s.phases p.phase p.lap p.event q at in_q.lap in_q.event
@@ -184,15 +184,15 @@ short_place s place h within = go s.rounds h.rounds within where
 -- THE COUNTERS
 
 -- what every cursor keeps, whatever its reference
-keeps : (s : ScriptView) (p : Progress) → IsScript s → IsPlace s (place_of s p) → (reference : ℕ) → IsCursor (record { script = s; place = place_of s p; reference = reference })
-keeps s p h within reference = record { within = within; short = short_place s (place_of s p) h within }
+keeps : (s : ScriptView) (p : Progress) → IsScript s → IsPlace s (progress_place s p) → (reference : ℕ) → IsCursor (record { script = s; place = progress_place s p; reference = reference })
+keeps s p h within reference = record { within = within; short = short_place s (progress_place s p) h within }
 
 pub some_phase_at : (s : ScriptView) (i : ℕ) (q : PhaseView) → IsScript s → slice_get s.phases i ≡ Some q → IsPhase q
 some_phase_at s i q h at = subst IsPhase (get_or_from_slice_get s.phases i q q at) (h.phases i q (slice_get_within s.phases i q at))
 
 -- a cursor stands as it is kept
-pub stands_as_kept : (s : ScriptView) (p : Progress) (reference : ℕ) → IsProgress s p → kept_cursor (record { script = s; place = place_of s p; reference = reference }) ≡ record { script = s; place = place_of s p; reference = reference }
-stands_as_kept s p reference stands = kept_itself (record { script = s; place = place_of s p; reference = reference }) (stands.kept reference).within
+pub stands_as_kept : (s : ScriptView) (p : Progress) (reference : ℕ) → IsProgress s p → kept_cursor (record { script = s; place = progress_place s p; reference = reference }) ≡ record { script = s; place = progress_place s p; reference = reference }
+stands_as_kept s p reference stands = kept_itself (record { script = s; place = progress_place s p; reference = reference }) (stands.kept reference).within
 
 -- the phase that is read where the counters stand
 pub phase_read : (s : ScriptView) (p : Progress) (phases : List PhaseView) (q : PhaseView) → IsProgress s p → phases ≡ s.phases → q ≡ slice_index_or phases p.phase q → slice_get s.phases p.phase ≡ Some q
@@ -205,7 +205,7 @@ laps_left s p q h stands at =
     let is = some_phase_at s p.phase q h at in
     omega (arith, in_q.lap, is.most)
 
-pub begins : (s : ScriptView) → IsScript s → IsProgress s (record { round = 0; phase = 0; first = 0; lap = 0; event = 0 }) × (place_of s (record { round = 0; phase = 0; first = 0; lap = 0; event = 0 }) ≡ 0)
+pub begins : (s : ScriptView) → IsScript s → IsProgress s (record { round = 0; phase = 0; first = 0; lap = 0; event = 0 }) × (progress_place s (record { round = 0; phase = 0; first = 0; lap = 0; event = 0 }) ≡ 0)
 begins s h =
     let first : Progress = record { round = 0; phase = 0; first = 0; lap = 0; event = 0 } in
     let none : 0 * round_len s + events_behind s.phases 0 0 0 ≡ 0 = omega (arith, first_event s.phases) in (
@@ -219,14 +219,14 @@ begins s h =
     )
 
 -- where an event is left, the number of rounds is not reached yet
-pub rounds_left : (s : ScriptView) (p : Progress) → IsScript s → IsSome (event_at s (place_of s p)) → IfSome s.rounds (λ n. p.round < 1000000000)
+pub rounds_left : (s : ScriptView) (p : Progress) → IsScript s → IsSome (event_at s (progress_place s p)) → IfSome s.rounds (λ n. p.round < 1000000000)
 rounds_left s p h more = go s.rounds h.rounds (none_over s p) where
-  go : (rounds : Option ℕ) → IfSome rounds (λ n. (0 < n) × (n ≤ 1000000000)) → (is_over rounds p.round ≡ true → event_at s (place_of s p) ≡ None) → IfSome rounds (λ n. p.round < 1000000000)
+  go : (rounds : Option ℕ) → IfSome rounds (λ n. (0 < n) × (n ≤ 1000000000)) → (is_last_round rounds p.round ≡ true → event_at s (progress_place s p) ≡ None) → IfSome rounds (λ n. p.round < 1000000000)
   go None few over = tt
   go (Some n) few over = elim (cases_lt p.round n) [
     | inl left ↦ omega (arith, left, few.1)
     | inr past ↦
-        let none : event_at s (place_of s p) ≡ None = over (le-leb n p.round past) in
+        let none : event_at s (progress_place s p) ≡ None = over (le-leb n p.round past) in
         let wrong = subst IsSome none more in
         absurd cc
   ]
@@ -234,34 +234,34 @@ rounds_left s p h more = go s.rounds h.rounds (none_over s p) where
 -- BEHIND AN EVENT
 
 -- in the same round
-within_round : (s : ScriptView) (p after : Progress) (q : PhaseView) → IsScript s → IsProgress s p → IsSome (event_at s (place_of s p)) → after.round ≡ p.round → slice_get s.phases after.phase ≡ Some q → IsInPhase q after → after.first ≡ first_of s.phases after.phase
-    → events_behind s.phases after.phase after.lap after.event ≡ events_behind s.phases p.phase p.lap p.event + 1 → IsBehind s p after
+within_round : (s : ScriptView) (p after : Progress) (q : PhaseView) → IsScript s → IsProgress s p → IsSome (event_at s (progress_place s p)) → after.round ≡ p.round → slice_get s.phases after.phase ≡ Some q → IsInPhase q after → after.first ≡ first_step_of s.phases after.phase
+    → events_behind s.phases after.phase after.lap after.event ≡ events_behind s.phases p.phase p.lap p.event + 1 → IsNextProgress s p after
 within_round s p after q h stands more same at in_q first one =
     let R = round_len s in
     let x = events_behind s.phases p.phase p.lap p.event in
     let less : x + 1 < R = subst (λ k. k < R) one (in_round s.phases after.phase after.lap after.event q at in_q.lap in_q.event) in
-    let place : place_of s after ≡ first_place s.rounds R (place_of s p + 1) = ap (λ k. k * R + events_behind s.phases after.phase after.lap after.event) same ∙ ap (λ k. p.round * R + k) one ∙ sym (same_round s.rounds R p.round x (stands.kept 0).within less) in
+    let place : progress_place s after ≡ first_place s.rounds R (progress_place s p + 1) = ap (λ k. k * R + events_behind s.phases after.phase after.lap after.event) same ∙ ap (λ k. p.round * R + k) one ∙ sym (same_round s.rounds R p.round x (stands.kept 0).within less) in
     record {
       stands = record {
         phase = slice_get_within s.phases after.phase q at;
         first = first;
         there = λ r is. subst (λ (u : PhaseView). IsInPhase u after) (same_Some q r (sym at ∙ is)) in_q;
-        kept = keeps s after h (subst (IsPlace s) (sym place) (kept_place s (place_of s p) h more));
+        kept = keeps s after h (subst (IsPlace s) (sym place) (kept_place s (progress_place s p) h more));
       };
       place = place;
     }
 
-pub behind_event : (s : ScriptView) (p : Progress) (q : PhaseView) → IsScript s → IsProgress s p → IsSome (event_at s (place_of s p)) → slice_get s.phases p.phase ≡ Some q → p.event + 1 < length q.events → IsBehind s p (record p { event = p.event + 1 })
+pub behind_event : (s : ScriptView) (p : Progress) (q : PhaseView) → IsScript s → IsProgress s p → IsSome (event_at s (progress_place s p)) → slice_get s.phases p.phase ≡ Some q → p.event + 1 < length q.events → IsNextProgress s p (record p { event = p.event + 1 })
 behind_event s p q h stands more at further =
     within_round s p (record p { event = p.event + 1 }) q h stands more refl at (record { lap = (stands.there q at).lap; event = further }) stands.first (next_event s.phases p.phase p.lap p.event stands.phase)
 
-pub behind_lap : (s : ScriptView) (p : Progress) (q : PhaseView) → IsScript s → IsProgress s p → IsSome (event_at s (place_of s p)) → slice_get s.phases p.phase ≡ Some q → length q.events ≤ p.event + 1 → p.lap + 1 < q.count → IsBehind s p (record p { lap = p.lap + 1; event = 0 })
+pub behind_lap : (s : ScriptView) (p : Progress) (q : PhaseView) → IsScript s → IsProgress s p → IsSome (event_at s (progress_place s p)) → slice_get s.phases p.phase ≡ Some q → length q.events ≤ p.event + 1 → p.lap + 1 < q.count → IsNextProgress s p (record p { lap = p.lap + 1; event = 0 })
 behind_lap s p q h stands more at end further =
     let in_q = stands.there q at in
     let last : p.event + 1 ≡ length q.events = omega (arith, in_q.event, end) in
     within_round s p (record p { lap = p.lap + 1; event = 0 }) q h stands more refl at (record { lap = further; event = (some_phase_at s p.phase q h at).some_events }) stands.first (next_lap s.phases p.phase p.lap p.event q at last)
 
-pub behind_phase : (s : ScriptView) (p : Progress) (q : PhaseView) → IsScript s → IsProgress s p → IsSome (event_at s (place_of s p)) → slice_get s.phases p.phase ≡ Some q → length q.events ≤ p.event + 1 → q.count ≤ p.lap + 1 → p.phase + 1 < length s.phases → IsBehind s p (record p { phase = p.phase + 1; first = p.first + (p.event + 1); lap = 0; event = 0 })
+pub behind_phase : (s : ScriptView) (p : Progress) (q : PhaseView) → IsScript s → IsProgress s p → IsSome (event_at s (progress_place s p)) → slice_get s.phases p.phase ≡ Some q → length q.events ≤ p.event + 1 → q.count ≤ p.lap + 1 → p.phase + 1 < length s.phases → IsNextProgress s p (record p { phase = p.phase + 1; first = p.first + (p.event + 1); lap = 0; event = 0 })
 behind_phase s p q h stands more at end laps further =
     let in_q = stands.there q at in
     let last : p.event + 1 ≡ length q.events = omega (arith, in_q.event, end) in
@@ -273,7 +273,7 @@ behind_phase s p q h stands more at end laps further =
     within_round s p (record p { phase = p.phase + 1; first = p.first + (p.event + 1); lap = 0; event = 0 }) r h stands more refl there (record { lap = is.some; event = is.some_events }) (ap (λ k. k + (p.event + 1)) stands.first ∙ next_first s.phases p.phase q at p.event last)
     (ap (λ k. events_behind s.phases k 0 0) next ∙ next_phase s.phases p.phase p.lap p.event q at last all)
 
-pub behind_round : (s : ScriptView) (p : Progress) (q : PhaseView) → IsScript s → IsProgress s p → IsSome (event_at s (place_of s p)) → slice_get s.phases p.phase ≡ Some q → length q.events ≤ p.event + 1 → q.count ≤ p.lap + 1 → length s.phases ≤ p.phase + 1 → IsBehind s p (record { round = next_round s.rounds p.round; phase = 0; first = 0; lap = 0; event = 0 })
+pub behind_round : (s : ScriptView) (p : Progress) (q : PhaseView) → IsScript s → IsProgress s p → IsSome (event_at s (progress_place s p)) → slice_get s.phases p.phase ≡ Some q → length q.events ≤ p.event + 1 → q.count ≤ p.lap + 1 → length s.phases ≤ p.phase + 1 → IsNextProgress s p (record { round = next_round s.rounds p.round; phase = 0; first = 0; lap = 0; event = 0 })
 behind_round s p q h stands more at end laps phases =
     let R = round_len s in
     let x = events_behind s.phases p.phase p.lap p.event in
@@ -283,13 +283,13 @@ behind_round s p q h stands more at end laps phases =
     let all : p.lap + 1 ≡ q.count = omega (arith, in_q.lap, laps) in
     let full : x + 1 ≡ R = last_phase s.phases p.phase p.lap p.event q at last all phases in
     let none = first_event s.phases in
-    let place : place_of s after ≡ first_place s.rounds R (place_of s p + 1) = ap (λ k. next_round s.rounds p.round * R + k) none ∙ omega arith ∙ sym (other_round s.rounds R p.round x (stands.kept 0).within full) in
+    let place : progress_place s after ≡ first_place s.rounds R (progress_place s p + 1) = ap (λ k. next_round s.rounds p.round * R + k) none ∙ omega arith ∙ sym (other_round s.rounds R p.round x (stands.kept 0).within full) in
     record {
       stands = record {
         phase = h.some_phases;
         first = refl;
         there = λ r is. let one = some_phase_at s 0 r h is in record { lap = one.some; event = one.some_events };
-        kept = keeps s after h (subst (IsPlace s) (sym place) (kept_place s (place_of s p) h more));
+        kept = keeps s after h (subst (IsPlace s) (sym place) (kept_place s (progress_place s p) h more));
       };
       place = place;
     }
@@ -313,19 +313,19 @@ here s p stands = let none : PhaseView = record { count = 0; events = [] } in re
 pub lap_fits : (s : ScriptView) (p : Progress) → IsScript s → IsProgress s p → Fits w32 (p.lap + 1)
 lap_fits s p h stands = let q = here s p stands in laps_left s p q.phase h stands q.at
 
-pub lap_behind : (s : ScriptView) (p : Progress) (laps : ℕ) → IsScript s → IsProgress s p → IsSome (event_at s (place_of s p)) → IsLastOfLap s p laps → p.lap + 1 < laps → IsBehind s p (record p { lap = p.lap + 1; event = 0 })
+pub lap_behind : (s : ScriptView) (p : Progress) (laps : ℕ) → IsScript s → IsProgress s p → IsSome (event_at s (progress_place s p)) → IsLastOfLap s p laps → p.lap + 1 < laps → IsNextProgress s p (record p { lap = p.lap + 1; event = 0 })
 lap_behind s p laps h stands more last further =
     let q = here s p stands in
     let all : q.phase.count ≡ laps = last.count q.phase q.at in
     behind_lap s p q.phase h stands more q.at (last.last q.phase q.at) (omega (arith, further, all))
 
-pub phase_behind : (s : ScriptView) (p : Progress) (laps : ℕ) → IsScript s → IsProgress s p → IsSome (event_at s (place_of s p)) → IsLastOfLap s p laps → laps ≤ p.lap + 1 → p.phase + 1 < length s.phases → IsBehind s p (record p { phase = p.phase + 1; first = p.first + (p.event + 1); lap = 0; event = 0 })
+pub phase_behind : (s : ScriptView) (p : Progress) (laps : ℕ) → IsScript s → IsProgress s p → IsSome (event_at s (progress_place s p)) → IsLastOfLap s p laps → laps ≤ p.lap + 1 → p.phase + 1 < length s.phases → IsNextProgress s p (record p { phase = p.phase + 1; first = p.first + (p.event + 1); lap = 0; event = 0 })
 phase_behind s p laps h stands more last done further =
     let q = here s p stands in
     let all : q.phase.count ≡ laps = last.count q.phase q.at in
     behind_phase s p q.phase h stands more q.at (last.last q.phase q.at) (omega (arith, done, all)) further
 
-pub round_behind : (s : ScriptView) (p : Progress) (laps : ℕ) → IsScript s → IsProgress s p → IsSome (event_at s (place_of s p)) → IsLastOfLap s p laps → laps ≤ p.lap + 1 → length s.phases ≤ p.phase + 1 → IsBehind s p (record { round = next_round s.rounds p.round; phase = 0; first = 0; lap = 0; event = 0 })
+pub round_behind : (s : ScriptView) (p : Progress) (laps : ℕ) → IsScript s → IsProgress s p → IsSome (event_at s (progress_place s p)) → IsLastOfLap s p laps → laps ≤ p.lap + 1 → length s.phases ≤ p.phase + 1 → IsNextProgress s p (record { round = next_round s.rounds p.round; phase = 0; first = 0; lap = 0; event = 0 })
 round_behind s p laps h stands more last done end =
     let q = here s p stands in
     let all : q.phase.count ≡ laps = last.count q.phase q.at in

@@ -4,25 +4,25 @@ use Rattle.std.specs.Prelude.{slice_get, IsSome}
 use Rattle.std.proofs.lemmas.Bool.{cases_lt, le-leb, lt-leb}
 use Rattle.std.proofs.lemmas.Option.{slice_get_within, slice_get-get_or, get_or_from_slice_get, same_Some}
 use Rattle.task_script.specs.declared.progress.Progress.{Progress}
-use Rattle.task_script.specs.declared.script.Event.{Event}
-use Rattle.task_script.specs.declared.script.Event.TheVariants.{Wait}
+use Rattle.task_script.specs.declared.phase.Event.{Event}
+use Rattle.task_script.specs.declared.phase.Event.TheVariants.{Wait}
 use Rattle.task_script.specs.script.ScriptView.{PhaseView, ScriptView, IsEvent, IsScript}
 use Rattle.task_script.specs.script.Unrolled.{event_at}
-use Rattle.task_script.specs.private.Steps.{StepView, IsSteps, laps_at, step_of}
-use Rattle.task_script.specs.private.Progress.{place_of, is_over, IsProgress, IsEventThere, AreLapsThere, IsLastOfLap, IsBehind}
+use Rattle.task_script.specs.private.Steps.{StepView, IsSteps, laps_at, step_in_phase}
+use Rattle.task_script.specs.private.Progress.{progress_place, is_last_round, IsProgress, IsEventThere, AreLapsThere, IsLastOfLap, IsNextProgress}
 use Rattle.task_script.proofs.StepPlaces.{step_there, first_fits}
 use Rattle.task_script.proofs.Rounds.{here, some_phase_at, event_there, behind_event, last_of_lap}
 
 -- IN THE STEPS
 
-step_here : (s : ScriptView) (p : Progress) (steps : List StepView) → IsProgress s p → IsSteps s steps → 0 < length steps → (q : PhaseView) → slice_get s.phases p.phase ≡ Some q → slice_get steps (p.first + p.event) ≡ Some (step_of q p.event)
+step_here : (s : ScriptView) (p : Progress) (steps : List StepView) → IsProgress s p → IsSteps s steps → 0 < length steps → (q : PhaseView) → slice_get s.phases p.phase ≡ Some q → slice_get steps (p.first + p.event) ≡ Some (step_in_phase q p.event)
 step_here s p steps stands is some q at =
     ap (λ k. slice_get steps (k + p.event)) stands.first ∙ step_there s steps p.phase p.event q is some at (stands.there q at).event
 
 pub step_within : (s : ScriptView) (p : Progress) (steps : List StepView) → IsProgress s p → IsSteps s steps → 0 < length steps → p.first + p.event < length steps
 step_within s p steps stands is some =
     let q = here s p stands in
-    slice_get_within steps (p.first + p.event) (step_of q.phase p.event) (step_here s p steps stands is some q.phase q.at)
+    slice_get_within steps (p.first + p.event) (step_in_phase q.phase p.event) (step_here s p steps stands is some q.phase q.at)
 
 pub index_small : (s : ScriptView) (p : Progress) → IsScript s → IsProgress s p → p.first + p.event + 1 ≤ 8192
 index_small s p h stands =
@@ -37,13 +37,13 @@ index_small s p h stands =
 pub event_read : (s : ScriptView) (p : Progress) (steps : List StepView) → IsProgress s p → IsSteps s steps → 0 < length steps → (t : StepView) → t ≡ slice_index_or steps (p.first + p.event) t → IsEventThere s p t.event
 event_read s p steps stands is some t read q at =
     let step = step_here s p steps stands is some q at in
-    let same : t ≡ step_of q p.event = read ∙ get_or_from_slice_get steps (p.first + p.event) (step_of q p.event) t step in
+    let same : t ≡ step_in_phase q p.event = read ∙ get_or_from_slice_get steps (p.first + p.event) (step_in_phase q p.event) t step in
     slice_get-get_or q.events p.event Wait (stands.there q at).event ∙ ap (λ (u : StepView). Some u.event) (sym same)
 
 pub laps_read : (s : ScriptView) (p : Progress) (steps : List StepView) → IsProgress s p → IsSteps s steps → 0 < length steps → (t : StepView) → t ≡ slice_index_or steps (p.first + p.event) t → AreLapsThere s p t.laps
 laps_read s p steps stands is some t read q at =
     let step = step_here s p steps stands is some q at in
-    let same : t ≡ step_of q p.event = read ∙ get_or_from_slice_get steps (p.first + p.event) (step_of q p.event) t step in
+    let same : t ≡ step_in_phase q p.event = read ∙ get_or_from_slice_get steps (p.first + p.event) (step_in_phase q p.event) t step in
     ap (λ (u : StepView). u.laps) same
 
 -- IN THE SCRIPT
@@ -63,12 +63,12 @@ is_event s p event h stands there =
     let at = there q.phase q.at in
     subst IsEvent (get_or_from_slice_get q.phase.events p.event event event at) (is.events p.event event (slice_get_within q.phase.events p.event event at))
 
-pub event_is : (s : ScriptView) (p : Progress) (event : Event) → IsScript s → IsProgress s p → is_over s.rounds p.round ≡ false → IsEventThere s p event → Some event ≡ event_at s (place_of s p)
+pub event_is : (s : ScriptView) (p : Progress) (event : Event) → IsScript s → IsProgress s p → is_last_round s.rounds p.round ≡ false → IsEventThere s p event → Some event ≡ event_at s (progress_place s p)
 event_is s p event h stands left there =
     let q = here s p stands in
     sym (there q.phase q.at) ∙ sym (event_there s p q.phase h stands left q.at)
 
-pub not_last : (s : ScriptView) (p : Progress) (laps : ℕ) → IsScript s → IsProgress s p → IsSome (event_at s (place_of s p)) → AreLapsThere s p laps → laps ≡ 0 → IsBehind s p (record p { event = p.event + 1 })
+pub not_last : (s : ScriptView) (p : Progress) (laps : ℕ) → IsScript s → IsProgress s p → IsSome (event_at s (progress_place s p)) → AreLapsThere s p laps → laps ≡ 0 → IsNextProgress s p (record p { event = p.event + 1 })
 not_last s p laps h stands more there zero =
     let q = here s p stands in
     let laps_here = there q.phase q.at in

@@ -6,12 +6,12 @@ use Rattle.std.proofs.Math.Nat.{mod-eq_of_lt, add-mod_left, mod-mod, mod-add-mod
 use Rattle.std.proofs.lemmas.Bool.{cases_lt, lt-ltb, le-ltb}
 use Rattle.std.proofs.lemmas.Option.{slice_get_past}
 use Rattle.std.proofs.lemmas.List.Sums.{sum_by-cons}
-use Rattle.task_script.specs.declared.script.Event.{Event}
-use Rattle.task_script.specs.declared.script.Event.TheVariants.{Run, Sleep, Timer, Wait}
+use Rattle.task_script.specs.declared.phase.Event.{Event}
+use Rattle.task_script.specs.declared.phase.Event.TheVariants.{Run, Sleep, Timer, Wait}
 use Rattle.task_script.specs.script.ScriptView.{PhaseView, ScriptView, CursorView, IsPhase, IsScript, IsPlace, script_of, phase_len, round_len}
 use Rattle.task_script.specs.script.Unrolled.{round_of, event_at}
-use Rattle.task_script.specs.private.Progress.{passed}
-use Rattle.task_script.specs.script.Segments.{Asked, begun_at, moved, given_by, given_at, is_late, answered, first_place, kept_cursor, asked, segments, GivesAsWritten}
+use Rattle.task_script.specs.private.Progress.{timer_passed}
+use Rattle.task_script.specs.script.Segments.{SegmentAndCursor, begun_at, at_next_event, given_by, given_at, is_timer_over, segment_at, first_place, kept_cursor, next_segment, segments, GivesAsWritten}
 
 get_left : (xs ys : List Event) (i : ℕ) → i < length xs → slice_get (xs ++ ys) i ≡ slice_get xs i
 get_left [] ys i h = absurd (omega (arith, h))
@@ -140,7 +140,7 @@ abbrev at : ScriptView → ℕ → ℕ → CursorView
 at s place reference = record { script = s; place = place; reference = reference }
 
 -- the same segment, and a cursor that is kept alike
-pub record SameAnswer (a b : Asked) : Type 0 where
+pub record SameAnswer (a b : SegmentAndCursor) : Type 0 where
   pub segment : a.segment ≡ b.segment
   pub cursor : kept_cursor a.cursor ≡ kept_cursor b.cursor
 
@@ -161,12 +161,12 @@ given_alike s h i j reference time a =
 pub given_kept : (c : CursorView) (time : ℕ) → IsScript c.script → SameAnswer (given_at (kept_cursor c) time) (given_at c time)
 given_kept c time h = given_alike c.script h _ _ c.reference time (alike_first c.script c.place)
 
-answered_alike : (s : ScriptView) → IsScript s → (i j reference time : ℕ) → alike s i j → SameAnswer (answered (at s i reference) time) (answered (at s j reference) time)
+answered_alike : (s : ScriptView) → IsScript s → (i j reference time : ℕ) → alike s i j → SameAnswer (segment_at (at s i reference) time) (segment_at (at s j reference) time)
 answered_alike s h i j reference time a =
     let late = given_alike s h (i + 1) (j + 1) time time (alike_next s i j a) in
     let now = given_alike s h i j reference time a in
     let both : (b : Bool) → SameAnswer (cond b (given_at (at s (i + 1) time) time) (given_at (at s i reference) time)) (cond b (given_at (at s (j + 1) time) time) (given_at (at s j reference) time)) = λ b. elim b as (λ b. SameAnswer (cond b (given_at (at s (i + 1) time) time) (given_at (at s i reference) time)) (cond b (given_at (at s (j + 1) time) time) (given_at (at s j reference) time))) [ true ↦ late | false ↦ now ] in
-    subst (λ e. SameAnswer (cond (is_late e reference time) (given_at (at s (i + 1) time) time) (given_at (at s i reference) time)) (answered (at s j reference) time)) (sym (alike_event s h i j a)) (both (is_late (event_at s j) reference time))
+    subst (λ e. SameAnswer (cond (is_timer_over e reference time) (given_at (at s (i + 1) time) time) (given_at (at s i reference) time)) (segment_at (at s j reference) time)) (sym (alike_event s h i j a)) (both (is_timer_over (event_at s j) reference time))
 
 given_script : (c : CursorView) (time : ℕ) (e : Option Event) → (given_by c time e).cursor.script ≡ c.script
 given_script c time (Some (Run n)) = refl
@@ -175,21 +175,21 @@ given_script c time (Some (Timer n)) = refl
 given_script c time (Some Wait) = refl
 given_script c time None = refl
 
-answered_script : (c : CursorView) (time : ℕ) → (answered c time).cursor.script ≡ c.script
+answered_script : (c : CursorView) (time : ℕ) → (segment_at c time).cursor.script ≡ c.script
 answered_script c time =
-    elim (is_late (event_at c.script c.place) c.reference time) as (λ b. (cond b (given_at (moved c time) time) (given_at c time)).cursor.script ≡ c.script) [
-      | true ↦ given_script (moved c time) time (event_at c.script (c.place + 1))
+    elim (is_timer_over (event_at c.script c.place) c.reference time) as (λ b. (cond b (given_at (at_next_event c time) time) (given_at c time)).cursor.script ≡ c.script) [
+      | true ↦ given_script (at_next_event c time) time (event_at c.script (c.place + 1))
       | false ↦ given_script c time (event_at c.script c.place)
     ]
 
-written : (times : List ℕ) (c : CursorView) → IsScript c.script → segments asked (kept_cursor c) times ≡ segments answered c times
+written : (times : List ℕ) (c : CursorView) → IsScript c.script → segments next_segment (kept_cursor c) times ≡ segments segment_at c times
 written [] c h = refl
 written (t ∷ ts) c h =
     let same = answered_alike c.script h _ _ c.reference t (alike_first c.script c.place) in
-    let next = (answered c t).cursor in
+    let next = (segment_at c t).cursor in
     let rest = written ts next (subst IsScript (sym (answered_script c t)) h) in
-    ap (λ x. x ∷ segments asked (kept_cursor (answered (kept_cursor c) t).cursor) ts) same.segment
-    ∙ ap (λ xs. (answered c t).segment ∷ xs) (ap (λ k. segments asked k ts) same.cursor ∙ rest)
+    ap (λ x. x ∷ segments next_segment (kept_cursor (segment_at (kept_cursor c) t).cursor) ts) same.segment
+    ∙ ap (λ xs. (segment_at c t).segment ∷ xs) (ap (λ k. segments next_segment k ts) same.cursor ∙ rest)
 
 pub begun_kept : (s : ScriptView) (start : ℕ) → kept_cursor (begun_at s start) ≡ begun_at s start
 begun_kept s start = ap (λ k. at s k start) (go s.rounds (round_len s)) where
@@ -199,7 +199,7 @@ begun_kept s start = ap (λ k. at s k start) (go s.rounds (round_len s)) where
 
 -- asked at any times, a cursor that begins gives what the script written out gives
 pub begun_written : (s : ScriptView) (start : ℕ) → IsScript s → GivesAsWritten (begun_at s start)
-begun_written s start h times = ap (λ c. segments asked c times) (sym (begun_kept s start)) ∙ written times (begun_at s start) h
+begun_written s start h times = ap (λ c. segments next_segment c times) (sym (begun_kept s start)) ∙ written times (begun_at s start) h
 
 -- in rounds that end, the place behind an event is within them too
 pub behind_within : (s : ScriptView) (n place : ℕ) → s.rounds ≡ Some n → IsSome (event_at s place) → place + 1 ≤ n * round_len s
@@ -225,9 +225,9 @@ place_at_first s h = go s.rounds (round_len s) (some_round s h) where
   go (Some n) round some = omega arith
 
 -- behind a late timer it gives what it is to give
-pub answered_passed : (c : CursorView) (time : ℕ) → IsScript c.script → SameAnswer (given_at (passed c time) time) (answered c time)
+pub answered_passed : (c : CursorView) (time : ℕ) → IsScript c.script → SameAnswer (given_at (timer_passed c time) time) (segment_at c time)
 answered_passed c time h =
-    elim (is_late (event_at c.script c.place) c.reference time) as (λ b. SameAnswer (given_at (cond b (kept_cursor (moved c time)) c) time) (cond b (given_at (moved c time) time) (given_at c time))) [
-      | true ↦ given_kept (moved c time) time h
+    elim (is_timer_over (event_at c.script c.place) c.reference time) as (λ b. SameAnswer (given_at (cond b (kept_cursor (at_next_event c time)) c) time) (cond b (given_at (at_next_event c time) time) (given_at c time))) [
+      | true ↦ given_kept (at_next_event c time) time h
       | false ↦ record { segment = refl; cursor = refl }
     ]

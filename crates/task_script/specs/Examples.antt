@@ -2,9 +2,9 @@
 use Rattle.std.specs.Prelude.{ℕ, ◌≡◌, List, [], ◌∷◌, Option, Some, None, refl}
 use Rattle.task_script.specs.script.ScriptView.{ScriptView}
 use Rattle.task_script.specs.script.Unrolled.{round_of, event_at}
-use Rattle.task_script.specs.script.Segments.{begun_at, asked, segments}
-use Rattle.task_script.specs.declared.script.Event.{Event}
-use Rattle.task_script.specs.declared.script.Event.TheVariants as event
+use Rattle.task_script.specs.script.Segments.{begun_at, next_segment, segments}
+use Rattle.task_script.specs.declared.phase.Event.{Event}
+use Rattle.task_script.specs.declared.phase.Event.TheVariants as event
 use Rattle.task_script.specs.declared.script.Segment.TheVariants.{Run, Until, Wait, End}
 
 -- one phase, played once a round, so many rounds, one, or for ever
@@ -22,7 +22,7 @@ abbrev timer : ScriptView
 timer = forever (event.Run 4 ∷ event.Timer 8 ∷ [])
 
 -- at 20 the period that began at 8 is over, so the reference becomes 20
-timer_cursor : segments asked (begun_at timer 0) (0 ∷ 4 ∷ 8 ∷ 20 ∷ 24 ∷ [])
+timer_cursor : segments next_segment (begun_at timer 0) (0 ∷ 4 ∷ 8 ∷ 20 ∷ 24 ∷ [])
     ≡ Run 4 ∷ Until 8 ∷ Run 4 ∷ Run 4 ∷ Until 28 ∷ []
 timer_cursor = refl
 
@@ -50,7 +50,7 @@ past = refl
 for_ever : event_at timer 1001 ≡ Some (event.Timer 8)
 for_ever = refl
 
-unrolled : segments asked (begun_at two_phases 0)
+unrolled : segments next_segment (begun_at two_phases 0)
     (0 ∷ 1 ∷ 8 ∷ 9 ∷ 16 ∷ 20 ∷ 21 ∷ 28 ∷ 29 ∷ 36 ∷ 40 ∷ 41 ∷ [])
     ≡ Run 3 ∷ Until 8 ∷ Run 3 ∷ Until 16 ∷ Wait ∷ Run 3 ∷ Until 28 ∷ Run 3 ∷ Until 36 ∷ Wait ∷ End
     ∷ End ∷ []

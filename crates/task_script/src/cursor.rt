@@ -3,12 +3,13 @@
 ghost use Rattle.std.specs.Prelude.{◌≡◌, ◌<◌, ◌≤◌, ◌^◌, IsSome, IfSome, Some};
 ghost use Rattle.task_script.specs.script.ScriptView.{IsEvent, IsScript};
 ghost use Rattle.task_script.specs.script.Unrolled.{event_at};
-ghost use Rattle.task_script.specs.script.Segments.{begun_at, moved, kept_cursor, given_by, given_at, is_late, passes_late_timer, asked, GivesAsWritten, IsSegment, next_ask};
-ghost use Rattle.task_script.specs.private.Progress.{passed, at_reference};
+ghost use Rattle.task_script.specs.script.Segments.{begun_at, at_next_event, kept_cursor, given_by, given_at, is_timer_over, passes_late_timer, next_segment, GivesAsWritten, IsSegment, next_ask};
+ghost use Rattle.task_script.specs.private.Progress.{timer_passed, at_reference};
 
+use crate::phase::Event;
 use crate::progress;
 use crate::progress::Progress;
-use crate::script::{Event, Script, Segment};
+use crate::script::{Script, Segment};
 use std::marker::Model;
 
 /// A script, how far it has come in it, and its timer reference. In a script without end it stays
@@ -24,17 +25,17 @@ pub struct Cursor {
 
 impl Model for Cursor {
     ghost use Rattle.task_script.specs.script.ScriptView.{CursorView};
-    ghost use Rattle.task_script.specs.private.Progress.{place_of, Comes};
+    ghost use Rattle.task_script.specs.private.Progress.{progress_place, IsComing};
 
     ghost Value = { CursorView };
 
     ghost view = { λ c. record {
       script = c.script;
-      place = place_of c.script c.progress;
+      place = progress_place c.script c.progress;
       reference = c.reference;
     } };
 
-    ghost invariant = { λ c. Comes c.script c.progress c.coming };
+    ghost invariant = { λ c. IsComing c.script c.progress c.coming };
 }
 
 impl Script {
@@ -60,7 +61,7 @@ impl Script {
 fn is_late_at(event: Option<Event>, reference: u64, time: u64) -> bool
     requires event { IfSome event IsEvent }
     requires early { reference < 2 ^ 48 }
-    ensures { result ≡ is_late event reference time }
+    ensures { result ≡ is_timer_over event reference time }
 {
     match event {
         Some(Event::Timer(n)) => reference + n <= time,
@@ -95,7 +96,7 @@ impl Cursor {
     #[inline(always)]
     fn step(&mut self)
         requires more { IsSome (event_at self.old.script self.old.place) }
-        ensures { self.new ≡ kept_cursor (moved self.old self.old.reference) }
+        ensures { self.new ≡ kept_cursor (at_next_event self.old self.old.reference) }
     {
         progress::advance(&self.script, &mut self.progress);
         self.coming = progress::event_of(&self.script, self.progress);
@@ -105,7 +106,7 @@ impl Cursor {
     #[inline(never)]
     fn pass_late(&mut self, time: u64) -> Option<Event>
         requires more { IsSome (event_at self.old.script self.old.place) }
-        ensures cursor { self.new ≡ kept_cursor (moved self.old time) }
+        ensures cursor { self.new ≡ kept_cursor (at_next_event self.old time) }
         ensures value { result ≡ event_at self.new.script self.new.place }
         ensures event { IfSome result IsEvent }
     {
@@ -119,7 +120,7 @@ impl Cursor {
     fn look(&mut self, time: u64) -> Option<Event>
         requires early { time < 2 ^ 48 }
         requires reference { self.old.reference < 2 ^ 48 }
-        ensures cursor { self.new ≡ passed self.old time }
+        ensures cursor { self.new ≡ timer_passed self.old time }
         ensures value { result ≡ event_at self.new.script self.new.place }
         ensures within { IsScript self.old.script }
         ensures event { IfSome result IsEvent }
@@ -189,8 +190,8 @@ impl Cursor {
     pub fn next(&mut self, time: u64) -> Segment
         requires early { time < 2 ^ 48 }
         requires reference { self.old.reference < 2 ^ 48 }
-        ensures segment { result ≡ (asked self.old time).segment }
-        ensures cursor { self.new ≡ (asked self.old time).cursor }
+        ensures segment { result ≡ (next_segment self.old time).segment }
+        ensures cursor { self.new ≡ (next_segment self.old time).cursor }
         ensures within { IsSegment result }
         ensures in_order { self.old.reference ≤ time →
             self.new.reference ≤ next_ask time result }

@@ -10,10 +10,12 @@
 
 mod cursor;
 mod name;
+mod phase;
 mod progress;
 mod script;
 mod steps;
 
 pub use cursor::Cursor;
 pub use name::Name;
-pub use script::{Event, Phase, Script, Segment};
+pub use phase::{Event, Phase};
+pub use script::{Script, Segment};

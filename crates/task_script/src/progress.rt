@@ -7,7 +7,8 @@ ghost use Rattle.task_script.specs.script.ScriptView.{IsEvent, IsPhase, IsScript
 ghost use Rattle.task_script.specs.script.Unrolled.{event_at};
 ghost use Rattle.task_script.specs.private.Progress as spec;
 
-use crate::script::{Event, Phase, Script};
+use crate::phase::{Event, Phase};
+use crate::script::Script;
 use crate::steps::{event_of_step, laps_of, laps_of_step};
 
 /// What is behind a cursor.
@@ -29,7 +30,7 @@ pub(crate) struct Progress {
 #[tactic(auto, using(crate::proofs::Rounds::begins))]
 pub(crate) fn begin(script: &Script) -> Progress
     ensures stands { spec.IsProgress script.now result }
-    ensures place { spec.place_of script.now result ≡ 0 }
+    ensures place { spec.progress_place script.now result ≡ 0 }
 {
     // For the prover alone: a look into it brings what its type keeps.
     let _ = script.phases();
@@ -43,7 +44,7 @@ pub(crate) fn begin(script: &Script) -> Progress
 }
 
 fn is_over(rounds: Option<u32>, round: u32) -> bool
-    ensures { result ≡ spec.is_over rounds round }
+    ensures { result ≡ spec.is_last_round rounds round }
 {
     match rounds {
         None => false,
@@ -80,7 +81,7 @@ fn event_here(script: &Script, progress: Progress) -> Event
 #[inline(always)]
 pub(crate) fn event_of(script: &Script, progress: Progress) -> Option<Event>
     requires stands { spec.IsProgress script.now progress }
-    ensures value { result ≡ event_at script.now (spec.place_of script.now progress) }
+    ensures value { result ≡ event_at script.now (spec.progress_place script.now progress) }
     ensures within { IsScript script.now }
     ensures event { IfSome result IsEvent }
 {
@@ -106,9 +107,9 @@ fn next_round(rounds: Option<u32>, round: u32) -> u32
 #[inline(always)]
 fn next_lap(script: &Script, progress: &mut Progress, laps: u32)
     requires stands { spec.IsProgress script.now progress.old }
-    requires more { IsSome (event_at script.now (spec.place_of script.now progress.old)) }
+    requires more { IsSome (event_at script.now (spec.progress_place script.now progress.old)) }
     requires last { spec.IsLastOfLap script.now progress.old laps }
-    ensures { spec.IsBehind script.now progress.old progress.new }
+    ensures { spec.IsNextProgress script.now progress.old progress.new }
 {
     let phases = script.phases();
     let events = progress.event + 1;
@@ -147,8 +148,8 @@ fn laps_here(script: &Script, progress: Progress) -> u32
 #[inline(always)]
 pub(crate) fn advance(script: &Script, progress: &mut Progress)
     requires stands { spec.IsProgress script.now progress.old }
-    requires more { IsSome (event_at script.now (spec.place_of script.now progress.old)) }
-    ensures { spec.IsBehind script.now progress.old progress.new }
+    requires more { IsSome (event_at script.now (spec.progress_place script.now progress.old)) }
+    ensures { spec.IsNextProgress script.now progress.old progress.new }
 {
     // For the prover alone: a look into it brings what its type keeps.
     let _ = script.phases();

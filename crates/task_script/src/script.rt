@@ -5,42 +5,12 @@ ghost use Rattle.task_script.specs.script.ScriptView.{IsEvent, IsPhase, IsScript
 ghost use Rattle.task_script.specs.script.Segments.{IsLoops, rounds_of, loops_of};
 ghost use Rattle.task_script.specs.private.Steps.{IsSteps};
 
+use crate::phase::{Event, Phase};
 use crate::steps;
 use crate::steps::Step;
 use std::alloc::Global;
 use std::fmt;
 use std::marker::Model;
-
-/// What a task does next in its script.
-#[derive(Clone, Copy, Debug, PartialEq, Eq)]
-pub enum Event {
-    /// So many microseconds of work, 1 to 10^9.
-    Run(u64),
-    /// Blocks for so many microseconds, 1 to 10^9.
-    Sleep(u64),
-    /// Blocks until so many microseconds, 1 to 10^9, after the task's timer reference; where that
-    /// is past, the reference becomes now and the script goes on.
-    Timer(u64),
-    /// Waits for a wake call (own).
-    Wait,
-}
-
-/// Events in order, so many times over.
-#[derive(Debug, Drop)]
-pub struct Phase {
-    /// 1 to 10^9.
-    pub count: u64,
-    /// 1 to 64.
-    pub events: Vec<Event>,
-}
-
-impl Model for Phase {
-    ghost use Rattle.task_script.specs.script.ScriptView.{PhaseView};
-
-    ghost Value = { PhaseView };
-
-    ghost view = { λ p. record { count = p.count; events = p.events.items } };
-}
 
 /// The phases of a task in order, over and over, or so many rounds of them. Every script is within
 /// the limits that [`Script::new`] tests.
@@ -159,7 +129,7 @@ impl Script {
     pub fn lay_out(&mut self)
         ensures { self.new ≡ self.old }
     {
-        self.steps = steps::of(self);
+        self.steps = steps::of(self.allocator(), self.phases());
     }
 
     /// The number of rounds, -1 for no end.

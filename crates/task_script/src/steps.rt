@@ -1,12 +1,13 @@
 //! The events of a script one behind the other in one block: a cursor that goes through many phases
 //! reads a few bytes for each event, and these lie side by side.
 
-ghost use Rattle.std.specs.Prelude.{◌≡◌, ◌<◌, ◌++◌, IfOk, length};
+ghost use Rattle.std.specs.Prelude.{◌≡◌, ◌<◌, ◌++◌, IfOk, All, length};
 ghost use Rattle.task_script.specs.script.ScriptView.{IsEvent, IsPhase};
-ghost use Rattle.task_script.specs.private.Steps.{IsSteps, laps_at, full, step_of, steps_of_phase};
+ghost use Rattle.task_script.specs.private.Steps.{AreSteps, laps_at, full, step_in_phase, steps_of_phase};
 
-use crate::script::{Event, Phase, Script};
+use crate::phase::{Event, Phase};
 use no_memory::NoMemory;
+use std::alloc::Global;
 use std::marker::Model;
 
 // An event in half the bytes.
@@ -83,7 +84,7 @@ pub(crate) fn laps_of(phase: &Phase, event: usize) -> u32
 fn make_step(phase: &Phase, event: usize) -> Step
     requires phase { IsPhase phase.now }
     requires within { event < length phase.now.events }
-    ensures { result ≡ step_of phase.now event }
+    ensures { result ≡ step_in_phase phase.now event }
 {
     Step {
         event: shorten(phase.events[event]),
@@ -111,25 +112,26 @@ fn count(phases: &[Phase]) -> usize {
     count
 }
 
-fn written(script: &Script) -> Result<Vec<Step>, NoMemory>
-    ensures { IfOk result (λ steps. IsSteps script.now steps.items) }
+fn written(alloc: Global, phases: &[Phase]) -> Result<Vec<Step>, NoMemory>
+    requires { All IsPhase phases.now }
+    ensures { IfOk result (λ steps. AreSteps phases.now steps.items) }
 {
-    let phases = script.phases();
-    let mut steps = Vec::with_capacity(script.allocator(), count(phases))?;
+    let mut steps = Vec::with_capacity(alloc, count(phases))?;
     for phase in 0..phases.len() {
         add_phase(&mut steps, &phases[phase])?;
     }
     Ok(steps)
 }
 
-/// The steps of a script of more than one phase, where memory allows; else none.
-pub(crate) fn of(script: &Script) -> Vec<Step>
-    ensures { IsSteps script.now result.items }
+/// The steps of more than one phase, where memory allows; else none.
+pub(crate) fn of(alloc: Global, phases: &[Phase]) -> Vec<Step>
+    requires { All IsPhase phases.now }
+    ensures { AreSteps phases.now result.items }
 {
-    if script.phases().len() > 1 {
-        if let Ok(steps) = written(script) {
+    if phases.len() > 1 {
+        if let Ok(steps) = written(alloc, phases) {
             return steps;
         }
     }
-    Vec::new(script.allocator())
+    Vec::new(alloc)
 }

@@ -3,8 +3,8 @@
 ghost use Rattle.std.specs.Prelude.{◌≡◌, ◌≤◌, ◌<◌, ◌^◌, ◌++◌, [], All, IfOk, length, ◌==◌, if◌then◌else◌};
 ghost use Rattle.std.proofs.Props.{props};
 ghost use Rattle.counted_io.specs.Sides.{faults_of};
-ghost use Rattle.switch_text.specs.Names.{named, HasName, HasLine};
-ghost use Rattle.switch_text.specs.Runs.{IsRun};
+ghost use Rattle.switch_text.specs.Names.{name_of_task, HasName, HasLine};
+ghost use Rattle.switch_text.specs.Runs.{IsPrintable};
 
 use crate::fakes::Taker;
 use counted_io::Counted;
@@ -36,7 +36,7 @@ struct TwoSlices<'a> {
 
 fn one_switch<'a>(names: &'a IndexMap<u32, String>, switch: &'a [Switch; 1]) -> Run<'a>
     requires { All (HasLine names.now 2) switch.now }
-    ensures run { IsRun result }
+    ensures run { IsPrintable result }
     ensures base { result.base ≡ 2 }
     ensures names { result.names.now ≡ names.now }
     ensures switches { result.switches.now ≡ switch.now }
@@ -51,7 +51,7 @@ fn one_switch<'a>(names: &'a IndexMap<u32, String>, switch: &'a [Switch; 1]) -> 
 impl Slices for TwoSlices<'_> {
     ghost base = { λ t. 2 };
 
-    ghost names = { λ t. named t.names.now };
+    ghost names = { λ t. name_of_task t.names.now };
 
     ghost at_hand = { λ t. if t.come == 1 then t.first
         else if t.come == 2 then t.second else [] };

@@ -12,7 +12,7 @@ use Rattle.cbs_rules.specs.Budget.{above_zero}
 use Rattle.grub_rules.specs.Rate.{div_up, charged_bw}
 use Rattle.tick_split.specs.declared.element.Plan.{Plan}
 use Rattle.tick_split.specs.Planning.{IsPlannable, IsPlanned}
-use Rattle.tick_split.specs.private.Planned.{rate_of, planned}
+use Rattle.tick_split.specs.private.Planned.{rate_in_plan, planned}
 
 from_one : (q r a : ℕ) → 0 < a → a ≤ q * r → 1 ≤ q
 from_one zero r a some h = omega (arith, some, h)
@@ -43,13 +43,13 @@ some_of true x = omega arith
 some_of false x = omega arith
 
 -- every rate uses something up
-pub some_rate : (p : Plan) → 0 < rate_of p
+pub some_rate : (p : Plan) → 0 < rate_in_plan p
 some_rate p = some_of p.params.reclaim (div_up (unsigned_abs (charged_bw p.params p.uinact p.sum p.cpus p.limit) * unit) p.limit)
 
 -- what the code works out is the definition's
 pub planned_is : (p : Plan) → IsPlannable p → IsPlanned p (planned p)
 planned_is p is =
-    let u = used_up p.left (rate_of p) is.some_left (some_rate p) in
+    let u = used_up p.left (rate_in_plan p) is.some_left (some_rate p) in
     record {
       rate = refl;
       from_one = u.0;

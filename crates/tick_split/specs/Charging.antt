@@ -10,5 +10,5 @@ pub record IsChargeable (s : Slice) : Type 0 where
   pub high : s.left ≤ℤ pos (2 ^ 63)
 
 -- the budget is less by rate * ticks; rate and ticks stay
-abbrev pub charged : Slice → Slice
-charged s = record s { left = s.left -ℤ pos (s.rate * s.ticks) }
+abbrev pub charged_slice : Slice → Slice
+charged_slice s = record s { left = s.left -ℤ pos (s.rate * s.ticks) }

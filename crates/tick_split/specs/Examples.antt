@@ -1,20 +1,20 @@
 -- Worked rows of charges, of the end of a budget, and of pieces.
 use Rattle.std.specs.Prelude.{ℕ, ℤ, pos, neg_ℤ, ◌≡◌, ◌*◌, ◌-ℤ◌, List, [], ◌∷◌, refl}
 use Rattle.tick_split.specs.declared.element.Slice.{Slice}
-use Rattle.tick_split.specs.Charging.{charged}
+use Rattle.tick_split.specs.Charging.{charged_slice}
 use Rattle.tick_split.specs.Pieces.{piece_of}
 
 abbrev slice : ℤ → ℕ → ℕ → Slice
 slice left rate ticks = record { left = left; rate = rate; ticks = ticks }
 
 -- SLICES AND PLANS: charged for more than is left, for just that, and for a minute at rate one
-overdrawn : charged (slice (pos 4194304) 551883 8) ≡ slice (neg_ℤ (pos 220760)) 551883 8
+overdrawn : charged_slice (slice (pos 4194304) 551883 8) ≡ slice (neg_ℤ (pos 220760)) 551883 8
 overdrawn = refl
 
-just_spent : charged (slice (pos 2097152) 1048576 2) ≡ slice (pos 0) 1048576 2
+just_spent : charged_slice (slice (pos 2097152) 1048576 2) ≡ slice (pos 0) 1048576 2
 just_spent = refl
 
-a_minute : charged (slice (pos 1) 1 60000000) ≡ slice (neg_ℤ (pos 59999999)) 1 60000000
+a_minute : charged_slice (slice (pos 1) 1 60000000) ≡ slice (neg_ℤ (pos 59999999)) 1 60000000
 a_minute = refl
 
 -- a plan with 4 us left at the rate of "fraction and carry": something is left after 7 ticks, and

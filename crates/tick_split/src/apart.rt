@@ -4,9 +4,9 @@ ghost use Rattle.std.specs.Prelude.{◌≡◌, ◌<◌, ◌≤◌, ℕ, All, map
 ghost use Rattle.tick_split.specs.Pieces.{piece_of};
 
 use crate::fault::StartFault;
+use crate::pieces::{start_of, work_on};
 use crate::turn::Turn;
 use crate::work::{Work, Worked};
-use crate::workers::{start_of, work_on};
 use std::alloc::Global;
 use std::snapshot::Snapshot;
 use std::sync::Wait;

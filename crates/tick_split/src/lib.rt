@@ -11,6 +11,7 @@ mod apart;
 mod element;
 mod fault;
 mod lists;
+mod pieces;
 mod rules;
 mod turn;
 mod work;

@@ -3,7 +3,7 @@
 ghost use Rattle.std.specs.Prelude.{◌≡◌, ◌<◌, ◌≤◌, All, map, min, length, IsOk, OnOk, OnErr};
 ghost use Rattle.std.specs.List.{AllZip};
 ghost use Rattle.tick_split.specs.Planning.{IsPlannable, IsPlanned};
-ghost use Rattle.tick_split.specs.Charging.{IsChargeable, charged};
+ghost use Rattle.tick_split.specs.Charging.{IsChargeable, charged_slice};
 
 use crate::apart::Apart;
 use crate::element::{Plan, Slice};
@@ -55,7 +55,7 @@ pub fn charge_all<R: Threads + Wait, G: Turn>(
 ) -> Result<(), StartFault>
     requires workers { 0 < workers }
     requires slices { All IsChargeable slices.old }
-    ensures charged { OnOk result (slices.new ≡ map charged slices.old) }
+    ensures charged { OnOk result (slices.new ≡ map charged_slice slices.old) }
     ensures as_before { OnErr result (slices.new ≡ slices.old) }
     ensures alone { min workers (length slices.old) ≤ 1 → IsOk result }
 {

@@ -2,7 +2,7 @@
 
 ghost use Rattle.std.specs.Prelude.{◌≡◌};
 ghost use Rattle.tick_split.specs.Planning.{IsPlannable, IsPlanned};
-ghost use Rattle.tick_split.specs.Charging.{IsChargeable, charged};
+ghost use Rattle.tick_split.specs.Charging.{IsChargeable, charged_slice};
 ghost use Rattle.tick_split.specs.private.Planned.{planned};
 
 use crate::element::{Plan, Slice};
@@ -32,7 +32,7 @@ pub(crate) fn work_out(plan: &mut Plan)
 /// [`Slice`] are conditions. Takes no memory and starts no thread.
 pub fn charge(slice: &mut Slice)
     requires { IsChargeable slice.old }
-    ensures { slice.new ≡ charged slice.old }
+    ensures { slice.new ≡ charged_slice slice.old }
 {
     let server = Server {
         deadline: None,

@@ -2,7 +2,7 @@
 
 ghost use Rattle.std.specs.Prelude.{◌≡◌, map};
 ghost use Rattle.tick_split.specs.Planning.{IsPlannable};
-ghost use Rattle.tick_split.specs.Charging.{IsChargeable, charged};
+ghost use Rattle.tick_split.specs.Charging.{IsChargeable, charged_slice};
 ghost use Rattle.tick_split.specs.private.Planned.{planned};
 
 use crate::element::{Plan, Slice};
@@ -34,7 +34,7 @@ impl Work for Plan {
 impl Work for Slice {
     ghost ready = { IsChargeable };
 
-    ghost done = { charged };
+    ghost done = { charged_slice };
 
     fn work(&mut self) {
         rules::charge(self);

@@ -10,7 +10,7 @@ use Rattle.trace_compare.specs.declared.run.Run.{Run}
 use Rattle.trace_compare.specs.declared.task.TaskRuns.{TaskRuns}
 use Rattle.trace_compare.specs.Runs.{next_time, is_of, run_until, raw_runs, runs_of, are_longer, length_of, noise_of, IsShort}
 use Rattle.trace_compare.specs.Tasks.{AreTasksOf, HaveSmallTimes, AreAllLonger, IsNoise}
-use Rattle.trace_compare.specs.private.Behind.{Lists, IsCollected, AreShortLists, AreSettled}
+use Rattle.trace_compare.specs.private.Behind.{Lists, IsCollected, AreShortLists, AreRunsSettled}
 
 next_small : (cpu : ℕ) (steps : List Step) → AllByRecursion (λ s. s.time < 2 ^ 61) steps → IfSome (next_time cpu steps) (λ t. t < 2 ^ 61)
 next_small cpu [] h = tt
@@ -82,7 +82,7 @@ noise_is (Some n) runs many steps h = refl
 noise_is None runs many steps h =
     ⊎_elim (λ yes. rw yes (inl (all_longer_is runs many steps h yes, refl))) (λ no. rw no (inr (not_longer_is runs many steps h no, refl))) (cases_Bool (list_all (λ rs. are_longer 100 rs.items) runs))
 
-pub tasks_are : (noise many n : ℕ) (model recorded : List Step) (of_model of_recorded : Lists) (tasks : List TaskRuns) → IsCollected of_model many model → IsCollected of_recorded many recorded → n ≡ many → AreSettled noise of_model of_recorded n tasks → AreTasksOf noise model recorded many tasks
+pub tasks_are : (noise many n : ℕ) (model recorded : List Step) (of_model of_recorded : Lists) (tasks : List TaskRuns) → IsCollected of_model many model → IsCollected of_recorded many recorded → n ≡ many → AreRunsSettled noise of_model of_recorded n tasks → AreTasksOf noise model recorded many tasks
 tasks_are noise many n model recorded of_model of_recorded tasks a b e h = record {
   as_many = h.as_many ∙ e;
   of_model = λ j t l. let d = some_list of_model j (omega (arith, l, a.many)) in h.of_model j t d (omega (arith, l, e)) ∙ ap (runs_of noise) (a.lists j d l);

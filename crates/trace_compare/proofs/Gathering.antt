@@ -9,7 +9,7 @@ use Rattle.std.proofs.lemmas.List.{drop_more, drop_all, reverse-append, get_or-s
 use Rattle.recorded_text.specs.declared.step.Step.{Step}
 use Rattle.trace_compare.specs.declared.run.Run.{Run}
 use Rattle.trace_compare.specs.Runs.{next_time, raw_runs}
-use Rattle.trace_compare.specs.private.Behind.{Lists, Takes, run_at, IsBehind}
+use Rattle.trace_compare.specs.private.Behind.{Lists, TakesStep, run_at, AreRunsBehind}
 
 rev_opt : (o : Option Run) (xs : List Run) → reverse (xs ++ option_to_list o) ≡ cons_option o (reverse xs)
 rev_opt None xs = ap reverse (append-nil xs)
@@ -31,7 +31,7 @@ here_time s rest c e = rw (eq-eqb s.cpu c (sym e)) refl
 other_time : (s : Step) (rest : List Step) (c : ℕ) → (c ≡ s.cpu → ⊥) → next_time c (s ∷ rest) ≡ next_time c rest
 other_time s rest c h = rw (ne_eqb s.cpu c (λ e. h (sym e))) refl
 
-pub behind_step : (next : List (Option ℕ)) (old new : Lists) (s : Step) (rest : List Step) (k : ℕ) (time : Option ℕ) → length next ≡ 65536 → s.cpu < 65536 → k ≡ s.cpu → time ≡ get_or next k time → Takes old s time new → IsBehind next old rest → IsBehind (set next k (Some s.time)) new (s ∷ rest)
+pub behind_step : (next : List (Option ℕ)) (old new : Lists) (s : Step) (rest : List Step) (k : ℕ) (time : Option ℕ) → length next ≡ 65536 → s.cpu < 65536 → k ≡ s.cpu → time ≡ get_or next k time → TakesStep old s time new → AreRunsBehind next old rest → AreRunsBehind (set next k (Some s.time)) new (s ∷ rest)
 behind_step next old new s rest k time many small is read takes h =
     let l : k < length next = omega (arith, many, small, is) in
     let told : time ≡ next_time s.cpu rest = read_at next k time l read ∙ ap (λ (c : ℕ). get_or next c None) is ∙ h.times s.cpu small in
@@ -46,13 +46,13 @@ behind_step next old new s rest k time many small is read takes h =
           ∙ ap (cons_option (run_at j s time)) (h.lists j d inside) ∙ taken j s time rest told;
     }
 
-pub none_behind : (next : List (Option ℕ)) (runs : Lists) (steps : List Step) (i : ℕ) → length next ≡ 65536 → All (λ t. t ≡ None) next → All (λ rs. rs.items ≡ []) runs → length steps ≤ i → IsBehind next runs (drop i steps)
+pub none_behind : (next : List (Option ℕ)) (runs : Lists) (steps : List Step) (i : ℕ) → length next ≡ 65536 → All (λ t. t ≡ None) next → All (λ rs. rs.items ≡ []) runs → length steps ≤ i → AreRunsBehind next runs (drop i steps)
 unfolding raw_runs
 none_behind next runs steps i many none empty l =
-    subst (λ (ss : List Step). IsBehind next runs ss) (sym (drop_all i steps l)) (record {
+    subst (λ (ss : List Step). AreRunsBehind next runs ss) (sym (drop_all i steps l)) (record {
       times = λ c lt. none c None (omega (arith, many, lt));
       lists = λ j d lt. ap reverse (empty j d lt);
     })
 
-pub one_behind : (next : List (Option ℕ)) (runs : Lists) (steps : List Step) (i : ℕ) (d : Step) → i < length steps → IsBehind next runs (get_or steps i d ∷ drop (i + 1) steps) → IsBehind next runs (drop i steps)
-one_behind next runs steps i d l h = subst (λ (ss : List Step). IsBehind next runs ss) (sym (drop_more steps i d l)) h
+pub one_behind : (next : List (Option ℕ)) (runs : Lists) (steps : List Step) (i : ℕ) (d : Step) → i < length steps → AreRunsBehind next runs (get_or steps i d ∷ drop (i + 1) steps) → AreRunsBehind next runs (drop i steps)
+one_behind next runs steps i d l h = subst (λ (ss : List Step). AreRunsBehind next runs ss) (sym (drop_more steps i d l)) h

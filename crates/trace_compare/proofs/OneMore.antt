@@ -9,8 +9,8 @@ use Rattle.std.proofs.lemmas.List.Elements.{All-push}
 use Rattle.std.specs.declared.vec.Vec.{Vec}
 use Rattle.std.specs.Global.{Global}
 use Rattle.trace_compare.specs.Runs.{runs_of}
-use Rattle.trace_compare.specs.Tasks.{IsSound}
-use Rattle.trace_compare.specs.private.Behind.{Lists, AreSettled}
+use Rattle.trace_compare.specs.Tasks.{AreSoundRuns}
+use Rattle.trace_compare.specs.private.Behind.{Lists, AreRunsSettled}
 use Rattle.trace_compare.specs.Pairs.{fits, partners, left_over}
 use Rattle.trace_compare.specs.Compared.{AreMatched}
 use Rattle.trace_compare.specs.declared.pairs.Matching.{Matching}
@@ -36,7 +36,7 @@ matched_more within shift tasks n ms after m task v e more here takes leaves =
           (λ k x b. v.leaves k t x b) (leaves ∙ ap (λ (u : TaskRuns). left_over (fits within shift) u.model.items u.recorded.items) (same t)) j d h;
     }
 
-pub settled_more : (noise : ℕ) (model recorded : Lists) (n : ℕ) (ts after : List TaskRuns) (t : TaskRuns) (m r : Vec Run Global) → AreSettled noise model recorded n ts → after ≡ ts ++ t ∷ [] → n < length model → n < length recorded → m ≡ get_or model n m → r ≡ get_or recorded n r → t.model.items ≡ runs_of noise (reverse m.items) → t.recorded.items ≡ runs_of noise (reverse r.items) → IsSound t → AreSettled noise model recorded (n + 1) after
+pub settled_more : (noise : ℕ) (model recorded : Lists) (n : ℕ) (ts after : List TaskRuns) (t : TaskRuns) (m r : Vec Run Global) → AreRunsSettled noise model recorded n ts → after ≡ ts ++ t ∷ [] → n < length model → n < length recorded → m ≡ get_or model n m → r ≡ get_or recorded n r → t.model.items ≡ runs_of noise (reverse m.items) → t.recorded.items ≡ runs_of noise (reverse r.items) → AreSoundRuns t → AreRunsSettled noise model recorded (n + 1) after
 settled_more noise model recorded n ts after t m r v e within also here there of_model of_recorded sound =
     let same : (d : Vec Run Global) → m ≡ get_or model n d = λ d. here ∙ get_or_default model n m d within in
     let alike : (d : Vec Run Global) → r ≡ get_or recorded n d = λ d. there ∙ get_or_default recorded n r d also in
@@ -46,7 +46,7 @@ settled_more noise model recorded n ts after t m r v e within also here there of
           (λ k x b. v.of_model k x d b) (of_model ∙ ap (λ (l : Vec Run Global). runs_of noise (reverse l.items)) (same d)) j u h;
       of_recorded = λ j u d h. pushed_holds (λ k x. x.recorded.items ≡ runs_of noise (reverse (get_or recorded k d).items)) ts after t n v.as_many e
           (λ k x b. v.of_recorded k x d b) (of_recorded ∙ ap (λ (l : Vec Run Global). runs_of noise (reverse l.items)) (alike d)) j u h;
-      sound = subst (All IsSound) (sym e) (All-push IsSound ts t v.sound sound);
+      sound = subst (All AreSoundRuns) (sym e) (All-push AreSoundRuns ts t v.sound sound);
     }
 
 -- the least so far, where the next is no less, and where it is

@@ -7,7 +7,7 @@ use Rattle.std.proofs.lemmas.List.Elements.{recursion_from_All}
 use Rattle.trace_compare.specs.declared.run.Run.{Run}
 use Rattle.trace_compare.specs.declared.task.TaskRuns.{TaskRuns}
 use Rattle.trace_compare.specs.Runs.{IsShort}
-use Rattle.trace_compare.specs.Tasks.{IsSound}
+use Rattle.trace_compare.specs.Tasks.{AreSoundRuns}
 use Rattle.trace_compare.specs.Pairs.{no_shift}
 use Rattle.trace_compare.specs.Differences.{all_runs, first_start, last_end}
 
@@ -22,12 +22,12 @@ ends_small : (time : ℕ) (rs : List Run) → time < 2 ^ 61 → AllByRecursion I
 ends_small time [] h short = h
 ends_small time (r ∷ rs) h short = ends_small (max time r.«end») rs (let small = short.0.small in omega (arith, h, small)) short.1
 
-all_small : (time : ℕ) (tasks : List TaskRuns) → time < 2 ^ 61 → AllByRecursion IsSound tasks → fold (λ at r. max at r.«end») time (all_runs tasks) < 2 ^ 61
+all_small : (time : ℕ) (tasks : List TaskRuns) → time < 2 ^ 61 → AllByRecursion AreSoundRuns tasks → fold (λ at r. max at r.«end») time (all_runs tasks) < 2 ^ 61
 all_small time [] h sound = h
 all_small time (t ∷ ts) h sound =
     let next = ends_small time t.model.items h (recursion_from_All IsShort t.model.items sound.0.model_short) in
     subst (λ (n : ℕ). n < 2 ^ 61) (sym (fold-append (λ (at : ℕ) (r : Run). max at r.«end») time t.model.items (all_runs ts)))
     (all_small (fold (λ at r. max at r.«end») time t.model.items) ts next sound.1)
 
-pub last_small : (tasks : List TaskRuns) → All IsSound tasks → last_end tasks < 2 ^ 61
-last_small tasks sound = all_small 0 tasks (omega arith) (recursion_from_All IsSound tasks sound)
+pub last_small : (tasks : List TaskRuns) → All AreSoundRuns tasks → last_end tasks < 2 ^ 61
+last_small tasks sound = all_small 0 tasks (omega arith) (recursion_from_All AreSoundRuns tasks sound)

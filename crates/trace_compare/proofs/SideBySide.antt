@@ -5,8 +5,8 @@ use Rattle.std.specs.List.{AllByRecursion}
 use Rattle.std.proofs.lemmas.Bool.Decides.{nat_tests}
 use Rattle.trace_compare.specs.declared.run.Run.{Run}
 use Rattle.trace_compare.specs.Runs.{InTurn}
-use Rattle.trace_compare.specs.Pairs.{no_shift, is_near, fits, Split, later_by, split_at, partners, left_over, matched}
-use Rattle.trace_compare.specs.private.Meetings.{IsEarly, IsLate}
+use Rattle.trace_compare.specs.Pairs.{no_shift, is_near, fits, Split, later_by, split_at, partners, left_over, count_matched}
+use Rattle.trace_compare.specs.private.Meetings.{IsTooEarly, IsLate}
 
 -- ---- one after the other
 
@@ -45,7 +45,7 @@ no_and true y (inl h) = absurd cc
 no_and true y (inr h) = h
 no_and false y h = refl
 
-early_fails : (within shift : ℕ) (m q r : Run) → IsEarly within shift m r → (m.start ≤ q.start) × (m.«end» ≤ q.«end») → fits within shift q r ≡ false
+early_fails : (within shift : ℕ) (m q r : Run) → IsTooEarly within shift m r → (m.start ≤ q.start) × (m.«end» ≤ q.«end») → fits within shift q r ≡ false
 early_fails within shift m q r (inl h) le = no_and _ _ (inl (far_fails within (q.start + shift) (r.start + no_shift) (inl (omega (arith, h, le.0)))))
 early_fails within shift m q r (inr h) le = no_and _ _ (inr (far_fails within (q.«end» + shift) (r.«end» + no_shift) (inl (omega (arith, h, le.1)))))
 
@@ -53,7 +53,7 @@ late_fails : (within shift : ℕ) (m r q : Run) → IsLate within shift m r → 
 late_fails within shift m r q (inl h) le = no_and _ _ (inl (far_fails within (m.start + shift) (q.start + no_shift) (inr (omega (arith, h, le.0)))))
 late_fails within shift m r q (inr h) le = no_and _ _ (inr (far_fails within (m.«end» + shift) (q.«end» + no_shift) (inr (omega (arith, h, le.1)))))
 
-all_early : (within shift : ℕ) (m r : Run) (qs : List Run) → IsEarly within shift m r → AllByRecursion (λ q. (m.start ≤ q.start) × (m.«end» ≤ q.«end»)) qs → AllByRecursion (λ q. fits within shift q r ≡ false) qs
+all_early : (within shift : ℕ) (m r : Run) (qs : List Run) → IsTooEarly within shift m r → AllByRecursion (λ q. (m.start ≤ q.start) × (m.«end» ≤ q.«end»)) qs → AllByRecursion (λ q. fits within shift q r ≡ false) qs
 all_early within shift m r [] h all = tt
 all_early within shift m r (q ∷ qs) h all = (early_fails within shift m q r h all.0, all_early within shift m r qs h all.1)
 
@@ -103,7 +103,7 @@ module _ (fit : Run → Run → Bool) where
 
   -- ---- at the end of one of the lists
 
-  pub partners_end : (ms : List Run) → matched (partners fit ms []) ≡ 0
+  pub partners_end : (ms : List Run) → count_matched (partners fit ms []) ≡ 0
   unfolding partners split_at
   partners_end [] = refl
   partners_end (m ∷ ms) = partners_end ms
@@ -128,10 +128,10 @@ module _ (fit : Run → Run → Bool) where
 -- ---- the three steps on runs in turn
 
 module _ (within shift : ℕ) where
-  pub partners_early : (m : Run) (ms : List Run) (r : Run) (rs : List Run) → InTurn (m ∷ ms) → IsEarly within shift m r → partners (fits within shift) (m ∷ ms) (r ∷ rs) ≡ partners (fits within shift) (m ∷ ms) rs
+  pub partners_early : (m : Run) (ms : List Run) (r : Run) (rs : List Run) → InTurn (m ∷ ms) → IsTooEarly within shift m r → partners (fits within shift) (m ∷ ms) (r ∷ rs) ≡ partners (fits within shift) (m ∷ ms) rs
   partners_early m ms r rs t h = partners_skip (fits within shift) (m ∷ ms) r rs (all_early within shift m r (m ∷ ms) h (in_turn_all m ms t))
 
-  pub left_early : (m : Run) (ms : List Run) (r : Run) (rs : List Run) → InTurn (m ∷ ms) → IsEarly within shift m r → left_over (fits within shift) (m ∷ ms) (r ∷ rs) ≡ r ∷ left_over (fits within shift) (m ∷ ms) rs
+  pub left_early : (m : Run) (ms : List Run) (r : Run) (rs : List Run) → InTurn (m ∷ ms) → IsTooEarly within shift m r → left_over (fits within shift) (m ∷ ms) (r ∷ rs) ≡ r ∷ left_over (fits within shift) (m ∷ ms) rs
   left_early m ms r rs t h = left_skip (fits within shift) (m ∷ ms) r rs (all_early within shift m r (m ∷ ms) h (in_turn_all m ms t))
 
   pub partners_past : (m : Run) (ms : List Run) (r : Run) (rs : List Run) → InTurn (r ∷ rs) → IsLate within shift m r → partners (fits within shift) (m ∷ ms) (r ∷ rs) ≡ None ∷ partners (fits within shift) ms (r ∷ rs)

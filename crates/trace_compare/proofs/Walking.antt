@@ -7,8 +7,8 @@ use Rattle.std.specs.Prelude.{All, IfSome}
 use Rattle.std.proofs.lemmas.List.Elements.{All-push}
 use Rattle.trace_compare.specs.Runs.{InTurn, IsShort}
 use Rattle.trace_compare.specs.Matched.{ArePartnersShort}
-use Rattle.trace_compare.specs.Pairs.{fits, partners, left_over, matched}
-use Rattle.trace_compare.specs.private.Meetings.{IsEarly, IsLate}
+use Rattle.trace_compare.specs.Pairs.{fits, partners, left_over, count_matched}
+use Rattle.trace_compare.specs.private.Meetings.{IsTooEarly, IsLate}
 use Rattle.trace_compare.proofs.SideBySide.{rest_in_turn, partners_both, partners_early, partners_past, left_both, left_early, left_past, partners_end, partners_rest, no_partners, left_end, all_left}
 
 abbrev pub no_run : Run
@@ -36,7 +36,7 @@ module _ (within shift : ℕ) (ms rs : List Run) (i j : ℕ) (l : i < length ms)
   pub walk_fit : fits within shift m r ≡ true → partners (fits within shift) (drop i ms) (drop j rs) ≡ Some r ∷ partners (fits within shift) (drop (i + 1) ms) (drop (j + 1) rs)
   walk_fit h = heads (partners (fits within shift)) ∙ partners_both within shift m (drop (i + 1) ms) r (drop (j + 1) rs) h
 
-  pub walk_early : InTurn (drop i ms) → IsEarly within shift m r → partners (fits within shift) (drop i ms) (drop j rs) ≡ partners (fits within shift) (drop i ms) (drop (j + 1) rs)
+  pub walk_early : InTurn (drop i ms) → IsTooEarly within shift m r → partners (fits within shift) (drop i ms) (drop j rs) ≡ partners (fits within shift) (drop i ms) (drop (j + 1) rs)
   walk_early t h = heads (partners (fits within shift)) ∙ partners_early within shift m (drop (i + 1) ms) r (drop (j + 1) rs) (turn_m t) h ∙ ap (λ xs. partners (fits within shift) xs (drop (j + 1) rs)) (sym (drop_more ms i no_run l))
 
   pub walk_late : InTurn (drop j rs) → IsLate within shift m r → partners (fits within shift) (drop i ms) (drop j rs) ≡ None ∷ partners (fits within shift) (drop (i + 1) ms) (drop j rs)
@@ -45,17 +45,17 @@ module _ (within shift : ℕ) (ms rs : List Run) (i j : ℕ) (l : i < length ms)
   pub left_of_fit : fits within shift m r ≡ true → left_over (fits within shift) (drop i ms) (drop j rs) ≡ left_over (fits within shift) (drop (i + 1) ms) (drop (j + 1) rs)
   left_of_fit h = heads (left_over (fits within shift)) ∙ left_both within shift m (drop (i + 1) ms) r (drop (j + 1) rs) h
 
-  pub left_of_early : InTurn (drop i ms) → IsEarly within shift m r → left_over (fits within shift) (drop i ms) (drop j rs) ≡ r ∷ left_over (fits within shift) (drop i ms) (drop (j + 1) rs)
+  pub left_of_early : InTurn (drop i ms) → IsTooEarly within shift m r → left_over (fits within shift) (drop i ms) (drop j rs) ≡ r ∷ left_over (fits within shift) (drop i ms) (drop (j + 1) rs)
   left_of_early t h = heads (left_over (fits within shift)) ∙ left_early within shift m (drop (i + 1) ms) r (drop (j + 1) rs) (turn_m t) h ∙ ap (λ xs. r ∷ left_over (fits within shift) xs (drop (j + 1) rs)) (sym (drop_more ms i no_run l))
 
   pub left_of_late : InTurn (drop j rs) → IsLate within shift m r → left_over (fits within shift) (drop i ms) (drop j rs) ≡ left_over (fits within shift) (drop (i + 1) ms) (drop j rs)
   left_of_late t h = heads (left_over (fits within shift)) ∙ left_past within shift m (drop (i + 1) ms) r (drop (j + 1) rs) (turn_r t) h ∙ ap (λ ys. left_over (fits within shift) (drop (i + 1) ms) ys) (sym (drop_more rs j no_run k))
 
-  pub count_fit : fits within shift m r ≡ true → matched (partners (fits within shift) (drop i ms) (drop j rs)) ≡ suc (matched (partners (fits within shift) (drop (i + 1) ms) (drop (j + 1) rs)))
-  count_fit h = ap matched (walk_fit h)
+  pub count_fit : fits within shift m r ≡ true → count_matched (partners (fits within shift) (drop i ms) (drop j rs)) ≡ suc (count_matched (partners (fits within shift) (drop (i + 1) ms) (drop (j + 1) rs)))
+  count_fit h = ap count_matched (walk_fit h)
 
-  pub count_late : InTurn (drop j rs) → IsLate within shift m r → matched (partners (fits within shift) (drop i ms) (drop j rs)) ≡ matched (partners (fits within shift) (drop (i + 1) ms) (drop j rs))
-  count_late t h = ap matched (walk_late t h)
+  pub count_late : InTurn (drop j rs) → IsLate within shift m r → count_matched (partners (fits within shift) (drop i ms) (drop j rs)) ≡ count_matched (partners (fits within shift) (drop (i + 1) ms) (drop j rs))
+  count_late t h = ap count_matched (walk_late t h)
 
 -- ---- where one of the lists has come to its end
 
@@ -63,11 +63,11 @@ module _ (fit : Run → Run → Bool) (ms rs : List Run) (i j : ℕ) where
   nothing : (xs : List Run) (k : ℕ) → length xs ≤ k → drop k xs ≡ []
   nothing xs k h = drop_all k xs h
 
-  pub count_model_end : length ms ≤ i → matched (partners fit (drop i ms) (drop j rs)) ≡ 0
-  count_model_end h = ap (λ xs. matched (partners fit xs (drop j rs))) (nothing ms i h) ∙ ap matched (no_partners fit (drop j rs))
+  pub count_model_end : length ms ≤ i → count_matched (partners fit (drop i ms) (drop j rs)) ≡ 0
+  count_model_end h = ap (λ xs. count_matched (partners fit xs (drop j rs))) (nothing ms i h) ∙ ap count_matched (no_partners fit (drop j rs))
 
-  pub count_recorded_end : length rs ≤ j → matched (partners fit (drop i ms) (drop j rs)) ≡ 0
-  count_recorded_end h = ap (λ ys. matched (partners fit (drop i ms) ys)) (nothing rs j h) ∙ partners_end fit (drop i ms)
+  pub count_recorded_end : length rs ≤ j → count_matched (partners fit (drop i ms) (drop j rs)) ≡ 0
+  count_recorded_end h = ap (λ ys. count_matched (partners fit (drop i ms) ys)) (nothing rs j h) ∙ partners_end fit (drop i ms)
 
   pub partners_model_end : length ms ≤ i → partners fit (drop i ms) (drop j rs) ≡ []
   partners_model_end h = ap (λ xs. partners fit xs (drop j rs)) (nothing ms i h) ∙ no_partners fit (drop j rs)

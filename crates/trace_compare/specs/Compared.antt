@@ -20,11 +20,11 @@ pub record AreMatched (within shift : ℕ) (tasks : List TaskRuns) (n : ℕ) (ma
       (slice_index_or tasks j t).recorded.items
 
 -- the shift that was asked for, or the best
-abbrev pub IsTaken : Option ℕ → ℕ → List TaskRuns → ℕ → Type 0
-IsTaken (Some asked) within tasks shift = shift ≡ asked
-IsTaken None within tasks shift = IsShift within tasks shift
+abbrev pub IsShiftTaken : Option ℕ → ℕ → List TaskRuns → ℕ → Type 0
+IsShiftTaken (Some asked) within tasks shift = shift ≡ asked
+IsShiftTaken None within tasks shift = IsShift within tasks shift
 
 pub record IsCompared (within : ℕ) (asked : Option ℕ) (tasks : List TaskRuns) (c : Compared)
     : Type 0 where
-  pub shift : IsTaken asked within tasks c.shift
+  pub shift : IsShiftTaken asked within tasks c.shift
   pub matched : AreMatched within c.shift tasks (length tasks) c.tasks.items

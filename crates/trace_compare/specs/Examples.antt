@@ -2,7 +2,7 @@
 use Rattle.std.specs.Prelude.{◌≡◌, ℕ, ◌+◌, [], ◌∷◌, Option, Some, None, refl}
 use Rattle.recorded_text.specs.declared.step.Step.{Step}
 use Rattle.trace_compare.specs.declared.run.Run.{Run}
-use Rattle.trace_compare.specs.Runs.{raw_runs, joined, joined_on, runs_of}
+use Rattle.trace_compare.specs.Runs.{raw_runs, joined_runs, joined_on, runs_of}
 use Rattle.trace_compare.specs.Pairs.{no_shift, fits, split_at, partners, left_over}
 
 abbrev to : ℕ → ℕ → Option ℕ → Step
@@ -27,13 +27,13 @@ moved = refl
 split_by_an_interrupt :
     runs_of 100 (run 0 1000 3 ∷ run 1030 2000 3 ∷ run 5000 5040 3 ∷ [])
     ≡ run 0 2000 3 ∷ []
-unfolding joined joined_on
+unfolding joined_runs joined_on
 split_by_an_interrupt = refl
 
 -- without noise it stays two
 without_noise : runs_of 0 (run 0 1000 3 ∷ run 1030 2000 3 ∷ []) ≡ run 0 1000 3 ∷ run 1030 2000 3
     ∷ []
-unfolding joined joined_on
+unfolding joined_runs joined_on
 without_noise = refl
 
 -- the recording's clock is 5 s ahead; the second run ends 1001 us too late, the third is 1000 us

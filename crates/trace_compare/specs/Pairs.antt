@@ -50,5 +50,5 @@ left_over fit (m ∷ ms) rs =
     (left_over fit ms rs)
 
 -- how many runs of the model are matched
-abbrev pub matched : List (Option Run) → ℕ
-matched ps = length (filter is_some ps)
+abbrev pub count_matched : List (Option Run) → ℕ
+count_matched ps = length (filter is_some ps)

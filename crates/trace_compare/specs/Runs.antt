@@ -36,20 +36,20 @@ joined_on noise run (r ∷ rs) =
     if nat_lt r.start (run.«end» + noise) then joined_on noise (both run r) rs
     else run ∷ joined_on noise r rs
 
-unfoldable pub joined : ℕ → List Run → List Run
-joined noise [] = []
-joined noise (r ∷ rs) = joined_on noise r rs
+unfoldable pub joined_runs : ℕ → List Run → List Run
+joined_runs noise [] = []
+joined_runs noise (r ∷ rs) = joined_on noise r rs
 
 abbrev pub length_of : Run → ℕ
 length_of r = r.«end» - r.start
 
 -- without those that are shorter than the noise
-abbrev pub kept : ℕ → List Run → List Run
-kept noise rs = filter (λ r. nat_le noise (length_of r)) rs
+abbrev pub long_runs : ℕ → List Run → List Run
+long_runs noise rs = filter (λ r. nat_le noise (length_of r)) rs
 
 -- runs that are joined, without those that are shorter than the noise
 abbrev pub runs_of : ℕ → List Run → List Run
-runs_of noise raw = kept noise (joined noise raw)
+runs_of noise raw = long_runs noise (joined_runs noise raw)
 
 -- one after the other: each ends before the next begins
 unfoldable pub InTurn : List Run → Type 0

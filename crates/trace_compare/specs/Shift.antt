@@ -3,14 +3,14 @@ use Rattle.std.specs.Prelude.{◌≡◌, ℕ, ◌+◌, ◌-◌, ◌*◌, ◌/◌
 use Rattle.std.specs.List.{flat_map}
 use Rattle.trace_compare.specs.declared.run.Run.{Run}
 use Rattle.trace_compare.specs.declared.task.TaskRuns.{TaskRuns}
-use Rattle.trace_compare.specs.Pairs.{no_shift, fits, partners, matched}
+use Rattle.trace_compare.specs.Pairs.{no_shift, fits, partners, count_matched}
 
 -- the tasks that are looked at, and how many runs of each of so many: 4096 in all (own)
 abbrev pub looked_at : List TaskRuns → List TaskRuns
 looked_at tasks = take 256 tasks
 
-abbrev pub share_of : ℕ → ℕ
-share_of tasks = 4096 / max tasks 1
+abbrev pub runs_for_each : ℕ → ℕ
+runs_for_each tasks = 4096 / max tasks 1
 
 -- from the model's first start to each of the first 50 recorded ones
 abbrev pub shifts_from : List Run → List Run → List ℕ
@@ -20,18 +20,18 @@ shifts_from (m ∷ ms) rs = map (λ r. r.start + no_shift - m.start) (take 50 rs
 abbrev pub shifts_of : TaskRuns → List ℕ
 shifts_of t = shifts_from t.model.items t.recorded.items
 
-abbrev pub candidates : List TaskRuns → List ℕ
-candidates tasks = flat_map shifts_of (looked_at tasks)
+abbrev pub candidate_shifts : List TaskRuns → List ℕ
+candidate_shifts tasks = flat_map shifts_of (looked_at tasks)
 
 -- how many of the first runs of a task match under a shift
 abbrev pub task_score : ℕ → ℕ → ℕ → TaskRuns → ℕ
 task_score within share shift t =
-    matched (partners (fits within shift) (take share t.model.items)
+    count_matched (partners (fits within shift) (take share t.model.items)
     (take (4 * share + 50) t.recorded.items))
 
 abbrev pub score : ℕ → List TaskRuns → ℕ → ℕ
 score within tasks shift =
-    sum_by (task_score within (share_of (length (looked_at tasks))) shift) (looked_at tasks)
+    sum_by (task_score within (runs_for_each (length (looked_at tasks))) shift) (looked_at tasks)
 
 -- one of the shifts: no other has a greater score, and those of the same score are no smaller
 pub record IsBestOf (score_at : ℕ → ℕ) (shifts : List ℕ) (shift : ℕ) : Type 0 where
@@ -42,5 +42,5 @@ pub record IsBestOf (score_at : ℕ → ℕ) (shifts : List ℕ) (shift : ℕ) :
 -- the best of the candidates; where there is none, no shift
 abbrev pub IsShift : ℕ → List TaskRuns → ℕ → Type 0
 IsShift within tasks shift =
-    MatchBool (length (candidates tasks) == 0) (shift ≡ no_shift)
-    (IsBestOf (score within tasks) (candidates tasks) shift)
+    MatchBool (length (candidate_shifts tasks) == 0) (shift ≡ no_shift)
+    (IsBestOf (score within tasks) (candidate_shifts tasks) shift)

@@ -5,7 +5,7 @@ use Rattle.trace_compare.specs.declared.task.TaskRuns.{TaskRuns}
 use Rattle.trace_compare.specs.Runs.{raw_runs, runs_of, length_of, IsShort, InTurn}
 
 -- runs in turn, with times below 2^61
-pub record IsSound (t : TaskRuns) : Type 0 where
+pub record AreSoundRuns (t : TaskRuns) : Type 0 where
   pub model_turn : InTurn t.model.items
   pub recorded_turn : InTurn t.recorded.items
   pub model_short : All IsShort t.model.items
@@ -19,7 +19,7 @@ pub record AreTasksOf (noise : ℕ) (model recorded : List Step) (many : ℕ) (t
       → (slice_index_or tasks j d).model.items ≡ runs_of noise (raw_runs j model)
   pub of_recorded : (j : ℕ) (d : TaskRuns) → j < many
       → (slice_index_or tasks j d).recorded.items ≡ runs_of noise (raw_runs j recorded)
-  pub sound : All IsSound tasks
+  pub sound : All AreSoundRuns tasks
 
 abbrev pub HaveSmallTimes : List Step → Type 0
 HaveSmallTimes steps = All (λ s. s.time < 2 ^ 61) steps

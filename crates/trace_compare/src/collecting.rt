@@ -2,7 +2,7 @@
 
 ghost use Rattle.std.specs.Prelude.{◌≡◌, ◌<◌, List, [], ◌∷◌, vec_len, All, IfOk, OnOk, None};
 ghost use Rattle.trace_compare.specs.Runs.{run_until};
-ghost use Rattle.trace_compare.specs.private.Behind.{IsBehind, PushesOne, Takes, IsCollected};
+ghost use Rattle.trace_compare.specs.private.Behind.{AreRunsBehind, PushesOne, TakesStep, IsCollected};
 
 use crate::run::Run;
 use recorded_text::Step;
@@ -33,7 +33,7 @@ fn run_to(step: &Step, time: u64) -> Run
 
 /// Adds the run that begins with a switch, where it is to a task and another switch comes after it.
 fn take_run_at(step: &Step, time: Option<u64>, runs: &mut Vec<Vec<Run>>) -> Result<(), AllocError>
-    ensures { OnOk result (Takes runs.old.items step.now time runs.new.items) }
+    ensures { OnOk result (TakesStep runs.old.items step.now time runs.new.items) }
 {
     match step.task {
         None => Ok(()),
@@ -57,8 +57,8 @@ fn take_step(
 ) -> Result<(), AllocError>
     requires { vec_len next.old ≡ 65536 }
     ensures behind { OnOk result ((rest : List Step) →
-        IsBehind next.old.items runs.old.items rest
-        → IsBehind next.new.items runs.new.items (step.now ∷ rest)) }
+        AreRunsBehind next.old.items runs.old.items rest
+        → AreRunsBehind next.new.items runs.new.items (step.now ∷ rest)) }
     ensures many { vec_len next.new ≡ 65536 }
     ensures tasks { OnOk result (vec_len runs.new ≡ vec_len runs.old) }
 {

@@ -1,7 +1,7 @@
 //! All tasks of the model beside their recorded runs.
 
 ghost use Rattle.std.specs.Prelude.{◌<◌, ◌^◌, length, All, IfOk, IfSome};
-ghost use Rattle.trace_compare.specs.Tasks.{IsSound};
+ghost use Rattle.trace_compare.specs.Tasks.{AreSoundRuns};
 ghost use Rattle.trace_compare.specs.Matched.{IsSoundMatching};
 ghost use Rattle.trace_compare.specs.Compared.{AreMatched, IsCompared};
 
@@ -28,7 +28,7 @@ fn match_all(
 ) -> Result<Vec<Matching>, AllocError>
     requires within { within < 2 ^ 61 }
     requires shift { shift < 2 ^ 62 }
-    requires tasks { All IsSound tasks.now }
+    requires tasks { All AreSoundRuns tasks.now }
     ensures matched { IfOk result (λ v. AreMatched within shift tasks.now
         (length tasks.now) v.items) }
     ensures sound { IfOk result (λ v. All IsSoundMatching v.items) }
@@ -63,7 +63,7 @@ pub fn compare(
 ) -> Result<Compared, AllocError>
     requires within { within < 2 ^ 61 }
     requires asked { IfSome asked (λ s. s < 2 ^ 62) }
-    requires tasks { All IsSound tasks.now }
+    requires tasks { All AreSoundRuns tasks.now }
     ensures compared { IfOk result (IsCompared within asked tasks.now) }
     ensures sound { IfOk result (λ c. All IsSoundMatching c.tasks.items) }
     ensures small { IfOk result (λ c. c.shift < 2 ^ 62) }

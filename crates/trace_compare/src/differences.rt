@@ -2,9 +2,9 @@
 
 ghost use Rattle.std.specs.Prelude.{◌≡◌, ◌+◌, ◌<◌, ◌≤◌, ◌^◌, map, All, IfOk, IfSome, OnOk, ◌++◌};
 ghost use Rattle.trace_compare.specs.Runs.{IsShort};
-ghost use Rattle.trace_compare.specs.Tasks.{IsSound};
+ghost use Rattle.trace_compare.specs.Tasks.{AreSoundRuns};
 ghost use Rattle.trace_compare.specs.Matched.{IsSoundMatching};
-ghost use Rattle.trace_compare.specs.Pairs.{matched};
+ghost use Rattle.trace_compare.specs.Pairs.{count_matched};
 ghost use Rattle.trace_compare.specs.Differences.{pairs_of, distance, start_apart, end_apart, same_cpu, one_pair, first_missing, is_inside, first_other, others};
 
 use crate::pairs::{Matching, NO_SHIFT};
@@ -14,7 +14,7 @@ use std::alloc::{AllocError, Global};
 
 /// How many runs of the model are matched.
 pub fn matched_of(partners: &[Option<Run>]) -> usize
-    ensures { result ≡ matched partners.now }
+    ensures { result ≡ count_matched partners.now }
 {
     partners.iter().filter(|p| p.is_some()).count()
 }
@@ -162,7 +162,7 @@ pub fn apart_in(
     matching: &Matching,
 ) -> Result<Apart, AllocError>
     requires shift { shift < 2 ^ 62 }
-    requires task { IsSound task.now }
+    requires task { AreSoundRuns task.now }
     requires matching { IsSoundMatching matching.now }
     ensures starts { IfOk result (λ a. a.starts.items
         ≡ map (start_apart shift) (pairs_of task.now.model.items matching.now.partners.items)) }

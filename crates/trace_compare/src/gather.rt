@@ -3,8 +3,8 @@
 ghost use Rattle.std.specs.Prelude.{◌≡◌, ◌<◌, ◌^◌, ℕ, length, reverse, All, IfOk, IfSome};
 ghost use Rattle.std.specs.List.{list_all};
 ghost use Rattle.trace_compare.specs.Runs.{runs_of, are_longer, noise_of, IsShort, InTurn};
-ghost use Rattle.trace_compare.specs.Tasks.{IsSound, AreTasksOf, HaveSmallTimes, IsNoise};
-ghost use Rattle.trace_compare.specs.private.Behind.{AreShortLists, AreSettled};
+ghost use Rattle.trace_compare.specs.Tasks.{AreSoundRuns, AreTasksOf, HaveSmallTimes, IsNoise};
+ghost use Rattle.trace_compare.specs.private.Behind.{AreShortLists, AreRunsSettled};
 
 use crate::collecting::collect;
 use crate::run::Run;
@@ -42,7 +42,7 @@ fn settle_both(
     ensures model { IfOk result (λ t. t.model.items ≡ runs_of noise (reverse model.now)) }
     ensures recorded { IfOk result
         (λ t. t.recorded.items ≡ runs_of noise (reverse recorded.now)) }
-    ensures sound { IfOk result IsSound }
+    ensures sound { IfOk result AreSoundRuns }
 {
     let model = settle_task(alloc, noise, model)?;
     let recorded = settle_task(alloc, noise, recorded)?;
@@ -60,7 +60,7 @@ fn settle_all(
     requires as_many { length model.now ≡ length recorded.now }
     requires model { AreShortLists model.now }
     requires recorded { AreShortLists recorded.now }
-    ensures { IfOk result (λ v. AreSettled noise model.now recorded.now
+    ensures { IfOk result (λ v. AreRunsSettled noise model.now recorded.now
         (length model.now) v.items) }
 {
     let mut tasks = Vec::new(alloc);
@@ -116,7 +116,7 @@ pub fn runs_of_tasks(
     requires recorded { HaveSmallTimes recorded.now }
     ensures tasks { IfOk result (λ v. (noise : ℕ) × IsNoise asked model.now tasks noise
         × AreTasksOf noise model.now recorded.now tasks v.items) }
-    ensures sound { IfOk result (λ v. All IsSound v.items) }
+    ensures sound { IfOk result (λ v. All AreSoundRuns v.items) }
 {
     let of_model = collect(alloc, model, tasks)?;
     let of_recorded = collect(alloc, recorded, tasks)?;

@@ -2,7 +2,7 @@
 
 ghost use Rattle.std.specs.Prelude.{◌≡◌, ◌<◌, ◌≤◌, ◌^◌, length, fold, min, max, All, IfSome, IfNone};
 ghost use Rattle.trace_compare.specs.Runs.{IsShort};
-ghost use Rattle.trace_compare.specs.Tasks.{IsSound};
+ghost use Rattle.trace_compare.specs.Tasks.{AreSoundRuns};
 ghost use Rattle.trace_compare.specs.Differences.{far_from, IsNearest, first_start, last_end};
 
 use crate::pairs::NO_SHIFT;
@@ -75,7 +75,7 @@ pub fn first_start_of(tasks: &[TaskRuns]) -> u64
 /// When the model's last run ends, in microseconds; 0 where it has none.
 pub fn last_end_of(tasks: &[TaskRuns]) -> u64
     ensures time { result ≡ last_end tasks.now }
-    ensures small { All IsSound tasks.now → result < 2 ^ 61 }
+    ensures small { All AreSoundRuns tasks.now → result < 2 ^ 61 }
 {
     let mut time = 0;
     for task in tasks {

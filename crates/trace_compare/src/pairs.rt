@@ -4,7 +4,7 @@ ghost use Rattle.std.specs.Prelude.{◌≡◌, ◌<◌, ◌≤◌, ◌^◌, leng
 ghost use Rattle.trace_compare.specs.Runs.{IsShort, InTurn};
 ghost use Rattle.trace_compare.specs.private.Meetings.{IsMeeting};
 ghost use Rattle.trace_compare.specs.Matched.{IsSoundMatching};
-ghost use Rattle.trace_compare.specs.Pairs.{is_near, fits, partners, left_over, matched};
+ghost use Rattle.trace_compare.specs.Pairs.{is_near, fits, partners, left_over, count_matched};
 
 use crate::run::Run;
 use std::alloc::{AllocError, Global};
@@ -58,7 +58,7 @@ pub(crate) fn matched_count(within: u64, shift: u64, ms: &[Run], rs: &[Run]) -> 
     requires recorded { All IsShort rs.now }
     requires model_turn { InTurn ms.now }
     requires recorded_turn { InTurn rs.now }
-    ensures value { result ≡ matched (partners (fits within shift) ms.now rs.now) }
+    ensures value { result ≡ count_matched (partners (fits within shift) ms.now rs.now) }
     ensures few { result ≤ length ms.now }
 {
     let mut count = 0;

@@ -1,7 +1,7 @@
 //! The runs of a recording's tasks.
 
 ghost use Rattle.std.specs.Prelude.{◌≡◌, ◌<◌, ◌^◌, List, [], ◌++◌, ◌∷◌, All, IfOk, OnOk};
-ghost use Rattle.trace_compare.specs.Runs.{both, joined_on, runs_of, kept, IsShort, InTurn};
+ghost use Rattle.trace_compare.specs.Runs.{both, joined_on, runs_of, long_runs, IsShort, InTurn};
 
 use crate::run::Run;
 use recorded_text::Step;
@@ -21,7 +21,7 @@ fn join_two(a: &Run, b: &Run) -> Run
 /// Adds a run, unless it is shorter than the noise.
 fn push_kept(runs: &mut Vec<Run>, run: Run, noise: u64) -> Result<(), AllocError>
     requires { IsShort run }
-    ensures kept { OnOk result (runs.new.items ≡ runs.old.items ++ kept noise (run ∷ [])) }
+    ensures kept { OnOk result (runs.new.items ≡ runs.old.items ++ long_runs noise (run ∷ [])) }
     ensures small { All IsShort runs.old.items → All IsShort runs.new.items }
 {
     if run.end - run.start >= noise {
@@ -36,8 +36,8 @@ fn take_run(runs: &mut Vec<Run>, current: Run, run: &Run, noise: u64) -> Result<
     requires current { IsShort current }
     requires run { IsShort run.now }
     ensures told { IfOk result (λ next. (rest : List Run) →
-        runs.new.items ++ kept noise (joined_on noise next rest)
-        ≡ runs.old.items ++ kept noise (joined_on noise current (run.now ∷ rest))) }
+        runs.new.items ++ long_runs noise (joined_on noise next rest)
+        ≡ runs.old.items ++ long_runs noise (joined_on noise current (run.now ∷ rest))) }
     ensures next { IfOk result IsShort }
     ensures small { All IsShort runs.old.items → All IsShort runs.new.items }
 {

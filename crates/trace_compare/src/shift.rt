@@ -3,7 +3,7 @@
 ghost use Rattle.std.specs.Prelude.{◌≡◌, ◌+◌, ◌-◌, ◌<◌, ◌≤◌, ◌^◌, ◌++◌, length, take, map, sum_by, All, IfOk, OnOk};
 ghost use Rattle.std.specs.List.{flat_map};
 ghost use Rattle.trace_compare.specs.Runs.{IsShort};
-ghost use Rattle.trace_compare.specs.Tasks.{IsSound};
+ghost use Rattle.trace_compare.specs.Tasks.{AreSoundRuns};
 ghost use Rattle.trace_compare.specs.Pairs.{no_shift};
 ghost use Rattle.trace_compare.specs.Shift.{shifts_of, task_score, IsBestOf, IsShift};
 ghost use Rattle.trace_compare.specs.private.Choices.{IsBetter};
@@ -36,7 +36,7 @@ fn score_of_task(within: u64, share: usize, shift: u64, task: &TaskRuns) -> usiz
     requires within { within < 2 ^ 61 }
     requires share { share ≤ 4096 }
     requires shift { shift < 2 ^ 62 }
-    requires task { IsSound task.now }
+    requires task { AreSoundRuns task.now }
     ensures value { result ≡ task_score within share shift task.now }
     ensures small { result ≤ 4096 }
 {
@@ -51,7 +51,7 @@ fn score_of(within: u64, share: usize, shift: u64, tasks: &[TaskRuns]) -> usize
     requires share { share ≤ 4096 }
     requires shift { shift < 2 ^ 62 }
     requires few { length tasks.now ≤ 256 }
-    requires tasks { All IsSound tasks.now }
+    requires tasks { All AreSoundRuns tasks.now }
     ensures { result ≡ sum_by (task_score within share shift) tasks.now }
 {
     let mut total = 0;
@@ -88,7 +88,7 @@ fn push_from(shifts: &mut Vec<u64>, start: u64, runs: &[Run]) -> Result<(), Allo
 
 /// Adds the shifts from the model's first start to each of the first recorded ones.
 fn push_shifts(shifts: &mut Vec<u64>, task: &TaskRuns) -> Result<(), AllocError>
-    requires { IsSound task.now }
+    requires { AreSoundRuns task.now }
     ensures shifts { OnOk result (shifts.new.items ≡ shifts.old.items ++ shifts_of task.now) }
     ensures small { All (λ s. s < 2 ^ 62) shifts.old.items
         → All (λ s. s < 2 ^ 62) shifts.new.items }
@@ -101,7 +101,7 @@ fn push_shifts(shifts: &mut Vec<u64>, task: &TaskRuns) -> Result<(), AllocError>
 
 /// The shifts that are tried.
 fn all_shifts(alloc: Global, tasks: &[TaskRuns]) -> Result<Vec<u64>, AllocError>
-    requires { All IsSound tasks.now }
+    requires { All AreSoundRuns tasks.now }
     ensures shifts { IfOk result (λ v. v.items ≡ flat_map shifts_of tasks.now) }
     ensures small { IfOk result (λ v. All (λ s. s < 2 ^ 62) v.items) }
 {
@@ -149,7 +149,7 @@ fn best_of(within: u64, share: usize, shifts: &[u64], tasks: &[TaskRuns]) -> u64
     requires some { 0 < length shifts.now }
     requires small { All (λ s. s < 2 ^ 62) shifts.now }
     requires few { length tasks.now ≤ 256 }
-    requires tasks { All IsSound tasks.now }
+    requires tasks { All AreSoundRuns tasks.now }
     ensures best { IsBestOf (λ s. sum_by (task_score within share s) tasks.now) shifts.now result }
     ensures small { result < 2 ^ 62 }
 {
@@ -175,7 +175,7 @@ fn best_of(within: u64, share: usize, shifts: &[u64], tasks: &[TaskRuns]) -> u64
 /// Where a growth was refused.
 pub fn find_shift(alloc: Global, within: u64, tasks: &[TaskRuns]) -> Result<u64, AllocError>
     requires within { within < 2 ^ 61 }
-    requires tasks { All IsSound tasks.now }
+    requires tasks { All AreSoundRuns tasks.now }
     ensures shift { IfOk result (IsShift within tasks.now) }
     ensures small { IfOk result (λ s. s < 2 ^ 62) }
 {

@@ -46,8 +46,8 @@ pub record IsBook (b : BookView) (state : Domain) : Type 0 where
 
 -- the word is asked exactly where the domain's own test passes, by a ticket of its gate and domain;
 -- what is used of a word that refused is at most what its CPUs have
-abbrev pub IsAsked : Domain → StockView → StockView → ℕ → ParamsView → Option ℕ → Type 0
-IsAsked state old new number params word =
+abbrev pub IsRegradeAsked : Domain → StockView → StockView → ℕ → ParamsView → Option ℕ → Type 0
+IsRegradeAsked state old new number params word =
     ((regrade_reply state params None (task_of state number) ≡ Changed) × IsDomain state
     × (new ≡ record old { tickets = new.tickets })
     × AsksTheWord number params.bw old.tickets new.tickets word

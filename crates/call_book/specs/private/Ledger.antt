@@ -5,7 +5,7 @@ use Rattle.pass_seats.specs.Lists.{SpineView}
 use Rattle.calls_text.specs.declared.section.Entry.{Entry}
 use Rattle.calls_text.specs.Limits.{IsEntry}
 use Rattle.calls_text.specs.OwnCalls.{IsNumbered}
-use Rattle.call_book.specs.Book.{keyed, IsMember}
+use Rattle.call_book.specs.Book.{with_key, IsMember}
 
 pub record LedgerView : Type 0 where
   pub spine : TableId
@@ -27,6 +27,6 @@ pub record IsHistory (clients room : ℕ) (history : List Entry) : Type 0 where
 -- that it was opened with, so it takes no more
 pub record IsLedger (spine : SpineView Entry) (clients room : ℕ) (history : List Entry)
     (capacity : ℕ) : Type 0 where
-  pub log : spine.log ≡ map keyed history
+  pub log : spine.log ≡ map with_key history
   pub kept : IsHistory clients room history
   pub reserved : capacity ≡ room

@@ -12,7 +12,7 @@ use Rattle.call_book.specs.declared.book.prepared.Listing.{Listing}
 use Rattle.call_book.specs.declared.book.prepared.Listing.TheVariants.{Listed, Busy, Full, Twice}
 
 -- the domain answers this, and does what it answers
-pub record Says (old new : Domain) (a : AdmissionView) (answer : Answer) : Type 0 where
+pub record ListingSays (old new : Domain) (a : AdmissionView) (answer : Answer) : Type 0 where
   pub reply : reply_to old (admission a) ≡ answer
   pub state : new ≡ after_call old (admission a)
 
@@ -23,8 +23,8 @@ pub record IsCallOf (a : AdmissionView) (call : Call) : Type 0 where
 
 abbrev pub IsListing : Domain → Domain → AdmissionView → Listing → Type 0
 IsListing old new a (Listed number call) =
-    Says old new a Reply.Admitted × (number ≡ a.number) × IsCallOf a call
+    ListingSays old new a Reply.Admitted × (number ≡ a.number) × IsCallOf a call
 IsListing old new a (Busy seen call) =
-    Says old new a (Reply.Busy seen) × LacksRoomFor old a.params.bw seen × IsCallOf a call
-IsListing old new a (Full prepared) = Says old new a Reply.Full × (prepared ≡ a)
-IsListing old new a (Twice prepared) = Says old new a Reply.Twice × (prepared ≡ a)
+    ListingSays old new a (Reply.Busy seen) × LacksRoomFor old a.params.bw seen × IsCallOf a call
+IsListing old new a (Full prepared) = ListingSays old new a Reply.Full × (prepared ≡ a)
+IsListing old new a (Twice prepared) = ListingSays old new a Reply.Twice × (prepared ≡ a)

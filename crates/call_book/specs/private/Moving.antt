@@ -7,25 +7,25 @@ use Rattle.call_book.specs.declared.book.domain.moving.Verdict.{Verdict}
 use Rattle.call_book.specs.declared.book.domain.moving.Verdict.TheVariants.{Moves, Full, NotListed, Stale, Twice, Busy}
 use Rattle.calls_text.specs.Limits.{IsCall}
 use Rattle.call_book.specs.Book.{BookView, AdmissionView, state_of, IsFull}
-use Rattle.call_book.specs.MoveAnswers.{HasRoom, IsAsPrepared, IsStale, LacksRoom, arrival}
+use Rattle.call_book.specs.MoveAnswers.{BothHaveRoom, IsAsPrepared, IsStale, LacksRoom, arrival}
 
 -- it may move
-pub record IsReady (from to : BookView) (a : AdmissionView) : Type 0 where
-  pub room : HasRoom from to a
+pub record IsMoveReady (from to : BookView) (a : AdmissionView) : Type 0 where
+  pub room : BothHaveRoom from to a
   pub as_prepared : IsAsPrepared from a
   pub goes : reply_to (state_of from) (Depart a.number) ≡ replies.Departed
   pub comes : reply_to (state_of to) (arrival a) ≡ replies.Admitted
   pub spelled : IsCall (Depart a.number)
 
-abbrev pub IsVerdict : BookView → BookView → AdmissionView → Verdict → Type 0
-IsVerdict from to a Moves = IsReady from to a
-IsVerdict from to a Full =
+abbrev pub IsMoveVerdict : BookView → BookView → AdmissionView → Verdict → Type 0
+IsMoveVerdict from to a Moves = IsMoveReady from to a
+IsMoveVerdict from to a Full =
     IsFull from ⊎ IsFull to ⊎ (reply_to (state_of to) (arrival a) ≡ replies.Full)
-IsVerdict from to a NotListed =
-    HasRoom from to a × (reply_to (state_of from) (Depart a.number) ≡ replies.NotListed)
-IsVerdict from to a (Stale now) = HasRoom from to a × IsStale from a now
-IsVerdict from to a Twice =
-    HasRoom from to a × IsAsPrepared from a
+IsMoveVerdict from to a NotListed =
+    BothHaveRoom from to a × (reply_to (state_of from) (Depart a.number) ≡ replies.NotListed)
+IsMoveVerdict from to a (Stale now) = BothHaveRoom from to a × IsStale from a now
+IsMoveVerdict from to a Twice =
+    BothHaveRoom from to a × IsAsPrepared from a
     × (reply_to (state_of to) (arrival a) ≡ replies.Twice)
-IsVerdict from to a (Busy seen) =
-    HasRoom from to a × IsAsPrepared from a × LacksRoom to a seen
+IsMoveVerdict from to a (Busy seen) =
+    BothHaveRoom from to a × IsAsPrepared from a × LacksRoom to a seen

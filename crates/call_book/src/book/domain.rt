@@ -10,7 +10,7 @@ ghost use Rattle.domain_run.specs.Happened.{told_by_ticks};
 ghost use Rattle.domain_run.specs.Keys.{AreKept};
 ghost use Rattle.domain_run.specs.Log.{Tells};
 ghost use Rattle.call_book.specs.Pieces.{HoldsTickets};
-ghost use Rattle.call_book.specs.private.Kept.{IsAsked, IsLimitAsked};
+ghost use Rattle.call_book.specs.private.Kept.{IsRegradeAsked, IsLimitAsked};
 
 mod ending;
 mod moving;
@@ -178,7 +178,7 @@ pub struct Closed {
 
 impl Domain {
     ghost use Rattle.calls_text.specs.Limits.{IsCall};
-    ghost use Rattle.bw_gate.specs.Pieces.{sum_of};
+    ghost use Rattle.bw_gate.specs.Pieces.{bw_of_tickets};
     ghost use Rattle.call_book.specs.Pieces.{IsTicketOf, HoldsTickets};
     ghost use Rattle.call_book.specs.Book.{own_entries, state_of, HasItsLimit, IsBookHistory, IsPassOf, EntersAlone, IsRefusedFull};
     ghost use Rattle.call_book.specs.BookAnswers.{IsAdmit, IsRegraded, IsAdvanced, IsNotAdvanced, TellsAdvance};
@@ -476,7 +476,8 @@ impl Domain {
         ensures history { IsBookHistory self }
         ensures own { All (λ p. p.entries ≡ own_entries p.client self.history) passes.items }
         ensures held { HoldsTickets result.state self.tickets }
-        ensures sums { sum_of self.domain result.tickets.items ≡ tick.sum_of result.state.tasks }
+        ensures sums { bw_of_tickets self.domain result.tickets.items
+            ≡ tick.sum_of result.state.tasks }
         ensures homes { All (IsTicketOf self.gate self.domain) result.tickets.items }
         ensures spare { All (λ b. b.gate ≡ self.gate) result.blanks.items }
         ensures few { length result.tickets.items + length result.blanks.items ≤ 256 }
@@ -514,7 +515,7 @@ fn ask_word<R: Wait>(
 ) -> Option<u64>
     requires gate { gate.now ≡ stock.old.gate }
     requires held { HoldsTickets state.now stock.old.tickets }
-    ensures { IsAsked state.now stock.old stock.new number params.now result }
+    ensures { IsRegradeAsked state.now stock.old stock.new number params.now result }
 {
     if !state.may_regrade(number, params) {
         return None;

@@ -3,7 +3,7 @@
 ghost use Rattle.std.specs.Prelude.{◌≡◌, ◌↔◌, ◌≤◌, ◌^◌, IsTrue, IfOk};
 ghost use Rattle.domain_run.specs.Calls as rules;
 ghost use Rattle.domain_run.specs.declared.call.Reply.TheVariants.{Admitted};
-ghost use Rattle.calls_text.specs.Limits.{IsNumber, IsAdmission, IsCall};
+ghost use Rattle.calls_text.specs.Limits.{IsTaskNumber, IsAdmission, IsCall};
 ghost use Rattle.call_book.specs.MoveAnswers.{moving_as, arrival};
 ghost use Rattle.call_book.specs.Book.{AdmissionView};
 ghost use Rattle.call_book.specs.private.Listing.{IsListing};
@@ -160,7 +160,7 @@ impl Prepared {
     /// The number of the task, 1 to 65535.
     pub(crate) fn number(&self) -> u32
         ensures number { result ≡ self.now.number }
-        ensures within { IsNumber result }
+        ensures within { IsTaskNumber result }
     {
         self.number
     }

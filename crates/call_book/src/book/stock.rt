@@ -5,7 +5,7 @@ ghost use Rattle.std.specs.Prelude.{◌≡◌, ◌<◌, ◌≤◌, ◌+◌, ◌*
 ghost use Rattle.std.specs.List.{list_any};
 ghost use Rattle.std.specs.Option.{option_to_list};
 ghost use Rattle.bw_gate.specs.Pieces.{BlankView, cpus_of};
-ghost use Rattle.call_book.specs.Pieces.{IsTicketOf, IsAnswered, AsksTheWord, ArePieces, HoldsTickets, is_held, is_kept, is_gone, AreGiven};
+ghost use Rattle.call_book.specs.Pieces.{IsTicketOf, IsTicketAnswered, AsksTheWord, ArePieces, HoldsTickets, is_held, is_kept, is_gone, AreGiven};
 ghost use Rattle.call_book.specs.MoveAnswers.{IsTakenOut};
 ghost use Rattle.call_book.specs.declared.book.stock.Held.{Held};
 
@@ -227,7 +227,7 @@ fn take_out(held: &mut Vec<Held>, number: u32) -> Ticket
 fn ask<R: Wait>(rt: &R, gate: &Gate, ticket: Ticket, bw: u64) -> (Ticket, Option<u64>)
     requires own { ticket.gate ≡ gate.now }
     requires bw { bw ≤ 2 ^ 20 }
-    ensures { IsAnswered ticket bw result.0 result.1 }
+    ensures { IsTicketAnswered ticket bw result.0 result.1 }
 {
     match gate.regrade(rt, ticket, bw) {
         Regrade::Changed(ticket) => (ticket, None),

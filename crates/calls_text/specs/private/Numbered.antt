@@ -4,18 +4,18 @@ use Rattle.calls_text.specs.declared.fault.CallsFault.{CallsFault}
 use Rattle.calls_text.specs.declared.calls_reader.Numbered.{Numbered}
 use Rattle.calls_text.specs.declared.section.Entry.{Entry}
 use Rattle.calls_text.specs.SectionView.{SectionView}
-use Rattle.calls_text.specs.Reader.{ReaderView, IsBehind, IsWithin, with_entries}
-use Rattle.calls_text.specs.KeptCall.{call_of}
+use Rattle.calls_text.specs.Reader.{ReaderView, IsBehind, IsWithin, section_with_entries}
+use Rattle.calls_text.specs.KeptCall.{call_kept}
 
 -- the entry of a call that was read
-abbrev pub entry_of : Numbered → Entry
-entry_of n = record { client = n.client; seq = n.seq; call = call_of n.kept; reply = None }
+abbrev pub numbered_entry : Numbered → Entry
+numbered_entry n = record { client = n.client; seq = n.seq; call = call_kept n.kept; reply = None }
 
 -- within a section: its next entry, or it is read to its end; where memory ran out, all is as
 -- before
 abbrev pub IsNextNumbered : List ℕ → List SectionView → SectionView → ReaderView
     → Result (Option Numbered) CallsFault → Type 0
 IsNextNumbered text before s r (Ok (Some n)) =
-    IsWithin text before (with_entries s (entry_of n ∷ [])) r
+    IsWithin text before (section_with_entries s (numbered_entry n ∷ [])) r
 IsNextNumbered text before s r (Ok None) = IsBehind text (before ++ s ∷ []) r
 IsNextNumbered text before s r (Err e) = IsWithin text before s r

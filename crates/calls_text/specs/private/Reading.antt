@@ -7,8 +7,8 @@ use Rattle.std.specs.Str.{bytes_eq}
 use Rattle.std.specs.List.{before_first, after_first, position_or_len, list_all, flat_map}
 use Rattle.attr_check.specs.ParamsView.{ParamsView}
 use Rattle.attr_check.specs.Accepted.{accepted}
-use Rattle.task_script.specs.declared.script.Event.{Event}
-use Rattle.task_script.specs.declared.script.Event.TheVariants.{Run, Sleep, Timer, Wait}
+use Rattle.task_script.specs.declared.phase.Event.{Event}
+use Rattle.task_script.specs.declared.phase.Event.TheVariants.{Run, Sleep, Timer, Wait}
 use Rattle.task_script.specs.script.ScriptView.{PhaseView, ScriptView, IsEvent, script_of}
 use Rattle.domain_run.specs.declared.call.Call.{Call}
 use Rattle.domain_run.specs.declared.call.Call.TheVariants.{Admit, Regrade, Wake, Leave, Advance, Limit, Depart, Arrive}
@@ -22,17 +22,17 @@ use Rattle.calls_text.specs.declared.section.Entry.{Entry}
 use Rattle.calls_text.specs.SectionView.{SectionView}
 use Rattle.calls_text.specs.Spelling.{domain_line, section_lines, is_later, some_later, has_later, text_of, event_text}
 use Rattle.calls_text.specs.Limits.{IsClient}
-use Rattle.calls_text.specs.ReadSoFar.{Knows, LacksEntry, IsSectionRead, SectionsSoFar, last_full}
+use Rattle.calls_text.specs.ReadSoFar.{KnowsLater, LacksEntry, IsSectionRead, SectionsSoFar, last_full}
 
 -- ---- what a part of the reader answers, seen by view, unless memory ran out
 
-abbrev pub Fails : {Y : Type 0} → PartFault → Option Y → Type 0
-Fails Memory read = Unit {0}
-Fails Bad read = read ≡ None
+abbrev pub PartFails : {Y : Type 0} → PartFault → Option Y → Type 0
+PartFails Memory read = Unit {0}
+PartFails Bad read = read ≡ None
 
-abbrev pub Gives : {X Y : Type 0} → (X → Y) → Result X PartFault → Option Y → Type 0
-Gives view (Ok x) read = read ≡ Some (view x)
-Gives view (Err e) read = Fails e read
+abbrev pub PartGives : {X Y : Type 0} → (X → Y) → Result X PartFault → Option Y → Type 0
+PartGives view (Ok x) read = read ≡ Some (view x)
+PartGives view (Err e) read = PartFails e read
 
 infixl 10 ◌>>=◌
 abbrev pub ◌>>=◌ : {A B : Type 0} → Option A → (A → Option B) → Option B
@@ -60,12 +60,12 @@ is_short text =
     nat_lt 0 (length text) && nat_le (length text) 19
     && (nat_le (length text) 1 || not (slice_index text 0 == 48))
 
-unfoldable pub number_at : List ℕ → Option ℕ
-number_at text = if is_short text then digits_on 0 text else None
+unfoldable pub number_parsed : List ℕ → Option ℕ
+number_parsed text = if is_short text then digits_on 0 text else None
 
 unfoldable pub number_within_at : ℕ → ℕ → List ℕ → Option ℕ
 number_within_at least most text = do
-  n ← number_at text
+  n ← number_parsed text
   if nat_le least n && nat_le n most then Some n else None
 
 -- the number of the digits at the front, after the number so far, and what follows them
@@ -91,9 +91,9 @@ pub record IsFirstNumber (least most : ℕ) (text : List ℕ) (n : ℕ) (rest : 
 abbrev pub lasting_at : (ℕ → Event) → List ℕ → Option Event
 lasting_at event digits = number_within_at 1 1000000000 digits >>= λ n. Some (event n)
 
-unfoldable pub event_at : List ℕ → Option Event
-event_at [] = None
-event_at (c ∷ digits) =
+unfoldable pub event_parsed : List ℕ → Option Event
+event_parsed [] = None
+event_parsed (c ∷ digits) =
     if c == 114 then lasting_at Run digits
     else (if c == 115 then lasting_at Sleep digits
     else (if c == 116 then lasting_at Timer digits
@@ -116,8 +116,8 @@ many_at item (suc most) text = do
 -- an event, and what follows the comma after it
 unfoldable pub event_first_at : List ℕ → Option (Event × Option (List ℕ))
 event_first_at text =
-    option_map_or (λ p. event_at p.0 >>= λ e. Some (e, Some p.1)) (cut_at 44 text)
-    (event_at text >>= λ e. Some (e, None))
+    option_map_or (λ p. event_parsed p.0 >>= λ e. Some (e, Some p.1)) (cut_at 44 text)
+    (event_parsed text >>= λ e. Some (e, None))
 
 abbrev pub events_at : List ℕ → Option (List Event)
 events_at text = many_at event_first_at 64 text
@@ -201,13 +201,13 @@ params_at t reclaim =
     }))
 
 -- 1 to 15 bytes of codes 0x21 to 0x7e
-abbrev pub is_name : List ℕ → Bool
-is_name text =
+abbrev pub is_short_name : List ℕ → Bool
+is_short_name text =
     nat_lt 0 (length text) && nat_le (length text) 15
     && list_all (λ b. nat_le 33 b && nat_le b 126) text
 
 unfoldable pub name_at : List ℕ → Option (List ℕ)
-name_at text = if is_name text then Some text else None
+name_at text = if is_short_name text then Some text else None
 
 -- the delay and the script of an admission
 unfoldable pub plan_at : List ℕ → Option (ℕ × ScriptView)
@@ -304,19 +304,19 @@ worded_at word text =
     else (if bytes_eq word (codes "arrive") then arrive_at text else None)))))))
 
 -- the words of calls
-abbrev pub word_of : Word → List ℕ
-word_of word.Admit = codes "admit"
-word_of word.Regrade = codes "regrade"
-word_of word.Wake = codes "wake"
-word_of word.Leave = codes "leave"
-word_of word.Advance = codes "advance"
-word_of word.Limit = codes "limit"
-word_of word.Depart = codes "depart"
-word_of word.Arrive = codes "arrive"
+abbrev pub word_spelled : Word → List ℕ
+word_spelled word.Admit = codes "admit"
+word_spelled word.Regrade = codes "regrade"
+word_spelled word.Wake = codes "wake"
+word_spelled word.Leave = codes "leave"
+word_spelled word.Advance = codes "advance"
+word_spelled word.Limit = codes "limit"
+word_spelled word.Depart = codes "depart"
+word_spelled word.Arrive = codes "arrive"
 
 -- a word, and the space behind it
 abbrev pub front_of : Word → List ℕ
-front_of word = word_of word ++ codes " "
+front_of word = word_spelled word ++ codes " "
 
 -- what follows this word and its space
 abbrev pub called_at : List ℕ → List ℕ → Option (ℕ × Call)
@@ -365,7 +365,7 @@ pub record IsNext (later : Bool) (line : List ℕ) (made : List ℕ) (e : Entry)
 pub record IsFirstSection (later : Bool) (text rest : List ℕ) (s : SectionView) : Type 0 where
   pub parts : text ≡ text_of (section_lines s) ++ rest
   pub is : IsSectionRead s
-  pub known : Knows later (some_later s.entries)
+  pub known : KnowsLater later (some_later s.entries)
   pub stops : length s.entries < 65536 → LacksEntry later rest
 
 -- the text does not begin with the line of a domain
@@ -385,8 +385,8 @@ pub record AreSectionsOf (later : Bool) (text rest : List ℕ) (sections : List 
   pub ends : length sections < 8 → LacksDomain rest
 
 -- they are all of the text, and what its header says of them
-abbrev pub is_whole : Bool → List ℕ → List SectionView → Bool
-is_whole later rest sections =
+abbrev pub is_whole_text : Bool → List ℕ → List SectionView → Bool
+is_whole_text later rest sections =
     length rest == 0 && not (length sections == 0) && (not later || has_later sections)
 
 -- ---- the first bad line of a text that is not of sections alone

@@ -3,7 +3,7 @@ use Rattle.std.specs.Prelude.{ℕ, ◌≤◌}
 use Rattle.domain_run.specs.declared.call.Call.{Call}
 use Rattle.domain_run.specs.declared.call.Call.TheVariants.{Admit, Regrade, Wake, Leave, Advance, Limit, Depart, Arrive}
 use Rattle.domain_run.specs.Domain.{IsLimit}
-use Rattle.calls_text.specs.Limits.{IsNumber}
+use Rattle.calls_text.specs.Limits.{IsTaskNumber}
 
 -- whom it admits; 1 where it admits nobody
 abbrev pub number_given : Call → ℕ
@@ -51,8 +51,8 @@ ticks_given (Arrive number name params script) = 0
 
 -- What is used of a call of a section while it is made, in a form that a ghost field may keep: a
 -- fact that goes by cases, as `IsCall` of calls_text does, it may not.
-pub record IsReady (c : Call) : Type 0 where
-  pub numbered : IsNumber (number_given c)
+pub record IsCallReady (c : Call) : Type 0 where
+  pub numbered : IsTaskNumber (number_given c)
   pub soon : delay_given c ≤ 1000000000
   pub limited : IsLimit (limit_given c)
   pub short : ticks_given c ≤ 60000000

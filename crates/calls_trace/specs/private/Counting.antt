@@ -3,7 +3,7 @@ use Rattle.std.specs.Prelude.{ℕ, List}
 use Rattle.attr_check.specs.Ratio.{cap}
 use Rattle.domain_run.specs.Domain.{Domain}
 use Rattle.domain_run.specs.Tick.{sum_of}
-use Rattle.switch_text.specs.Names.{named}
+use Rattle.switch_text.specs.Names.{name_of_task}
 use Rattle.run_figures.specs.declared.figures.TaskFigures.{TaskFigures}
 use Rattle.run_figures.specs.declared.figures.CpuFigures.{CpuFigures}
 use Rattle.figure_text.specs.Summary.{SummaryView}
@@ -11,7 +11,7 @@ use Rattle.calls_trace.specs.declared.counted_run.CountedRun.{CountedRun}
 
 abbrev pub counted_as : CountedRun → SummaryView
 counted_as c = record {
-  names = named c.names.now;
+  names = name_of_task c.names.now;
   tasks = c.summary.tasks.items;
   cpus = c.summary.cpus.items;
   bandwidth = c.bandwidth;
@@ -20,8 +20,9 @@ counted_as c = record {
 }
 
 -- what is written of a domain, with these figures; its switches are not looked at
-abbrev pub figured : (ℕ → List ℕ) → Domain → List TaskFigures → List CpuFigures → SummaryView
-figured names d tasks cpus = record {
+abbrev pub summary_of_domain : (ℕ → List ℕ) → Domain → List TaskFigures → List CpuFigures
+    → SummaryView
+summary_of_domain names d tasks cpus = record {
   names = names;
   tasks = tasks;
   cpus = cpus;

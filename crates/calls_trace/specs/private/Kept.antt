@@ -7,8 +7,8 @@ use Rattle.calls_text.specs.SectionView.{SectionView}
 use Rattle.calls_text.specs.Spelling.{spelling}
 use Rattle.calls_text.specs.Limits.{IsSection, AreRead}
 use Rattle.calls_text.specs.Reader.{ReaderView, IsBehind, IsWithin}
-use Rattle.switch_text.specs.Names.{named}
-use Rattle.calls_trace.specs.Replay.{calls_of, names_of}
+use Rattle.switch_text.specs.Names.{name_of_task}
+use Rattle.calls_trace.specs.Replay.{calls_in_section, names_of}
 use Rattle.calls_trace.specs.Told.{domain_of, names_in}
 use Rattle.calls_trace.specs.declared.kept_section.KeptSection.{KeptSection}
 use Rattle.calls_trace.specs.declared.named_run.RunWithNames.{RunWithNames}
@@ -28,7 +28,7 @@ room_of (Arrive number name params script) = 1
 pub record IsKeptSection (s : SectionView) (k : KeptSection) : Type 0 where
   pub same_cpus : k.cpus ≡ s.cpus
   pub same_limit : k.limit ≡ s.limit
-  pub same_calls : k.calls ≡ calls_of s
+  pub same_calls : k.calls ≡ calls_in_section s
 
 -- those of some section
 pub record KeepsSection (k : KeptSection) : Type 0 where
@@ -54,7 +54,7 @@ pub record IsReadSection (text : List ℕ) (before : List SectionView) (reader :
 -- of a section whose calls are kept, some are made, and these are left
 pub record IsMadeUpTo (s : SectionView) (left : List Call) (r : RunWithNames) : Type 0 where
   pub domain : after_calls r.state left ≡ domain_of s
-  pub called : (n : ℕ) → names_of r.state left (named r.names) n ≡ names_in s n
+  pub called : (n : ℕ) → names_of r.state left (name_of_task r.names) n ≡ names_in s n
 
 -- the text spells one section, and its calls are kept
 pub record IsOnly (text : List ℕ) (k : KeptSection) : Type 0 where

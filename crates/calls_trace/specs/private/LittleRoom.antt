@@ -15,11 +15,11 @@ is_long (Advance ticks) = 0
 is_long Long = 1
 
 -- the calls, each of those that are not short taken from their list
-abbrev pub calls_in : List Place → List Spelled → List Call
-calls_in [] long = []
-calls_in (Wake number ∷ order) long = calls.Wake number ∷ calls_in order long
-calls_in (Leave number ∷ order) long = calls.Leave number ∷ calls_in order long
-calls_in (Depart number ∷ order) long = calls.Depart number ∷ calls_in order long
-calls_in (Advance ticks ∷ order) long = calls.Advance ticks ∷ calls_in order long
-calls_in (Long ∷ order) [] = []
-calls_in (Long ∷ order) (spelled ∷ long) = spelled.call ∷ calls_in order long
+abbrev pub calls_of_orders : List Place → List Spelled → List Call
+calls_of_orders [] long = []
+calls_of_orders (Wake number ∷ order) long = calls.Wake number ∷ calls_of_orders order long
+calls_of_orders (Leave number ∷ order) long = calls.Leave number ∷ calls_of_orders order long
+calls_of_orders (Depart number ∷ order) long = calls.Depart number ∷ calls_of_orders order long
+calls_of_orders (Advance ticks ∷ order) long = calls.Advance ticks ∷ calls_of_orders order long
+calls_of_orders (Long ∷ order) [] = []
+calls_of_orders (Long ∷ order) (spelled ∷ long) = spelled.call ∷ calls_of_orders order long

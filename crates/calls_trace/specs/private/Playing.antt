@@ -6,25 +6,25 @@ use Rattle.domain_run.specs.Switch.{Switch}
 use Rattle.domain_run.specs.Domain.{Domain}
 use Rattle.domain_run.specs.Passing.{without_switches}
 use Rattle.domain_run.specs.Run.{after_calls}
-use Rattle.switch_text.specs.Names.{named}
+use Rattle.switch_text.specs.Names.{name_of_task}
 use Rattle.calls_trace.specs.Replay.{names_of}
 use Rattle.calls_trace.specs.declared.playing.Playing.{Playing}
 
 -- the calls that are left: what is left of the advance under way, and those behind it
-abbrev pub left_in : Playing → List Call
-left_in p = Advance p.left ∷ p.calls
+abbrev pub calls_left : Playing → List Call
+calls_left p = Advance p.left ∷ p.calls
 
 -- the domain to which they lead
-abbrev pub end_of : Playing → Domain
-end_of p = after_calls p.run.domain (left_in p)
+abbrev pub played_domain : Playing → Domain
+played_domain p = after_calls p.run.domain (calls_left p)
 
 -- the switches that they make
 abbrev pub rest_of : Playing → List Switch
-rest_of p = (after_calls (without_switches p.run.domain) (left_in p)).switches
+rest_of p = (after_calls (without_switches p.run.domain) (calls_left p)).switches
 
 -- the names of the whole run
 abbrev pub all_names : Playing → (ℕ → List ℕ)
-all_names p = names_of p.run.domain (left_in p) (named p.run.names)
+all_names p = names_of p.run.domain (calls_left p) (name_of_task p.run.names)
 
 -- how much is left; an advance has at most 60000000 ticks
 abbrev pub work_of : Playing → ℕ

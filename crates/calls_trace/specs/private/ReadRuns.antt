@@ -3,17 +3,17 @@ use Rattle.std.specs.Prelude.{ℕ, ◌≡◌, ◌≤◌, ◌*◌, Bool, List, []
 use Rattle.calls_text.specs.SectionView.{SectionView}
 use Rattle.calls_text.specs.Spelling.{spelling}
 use Rattle.calls_text.specs.Limits.{IsSection, AreRead}
-use Rattle.calls_text.specs.Reader.{ReaderView, IsBehind, IsWithin, begun}
+use Rattle.calls_text.specs.Reader.{ReaderView, IsBehind, IsWithin, empty_section}
 use Rattle.calls_trace.specs.declared.named_run.RunWithNames.{RunWithNames}
 use Rattle.calls_trace.specs.declared.placed_run.PlacedRun.{PlacedRun}
 use Rattle.calls_trace.specs.declared.runs_so_far.RunsSoFar.{RunsSoFar}
-use Rattle.calls_trace.specs.private.Replaying.{IsRunOf, IsToldOf, IsPlaced, view_of, views_from}
+use Rattle.calls_trace.specs.private.Replaying.{IsRunOf, IsToldOf, IsPlaced, placed_view_of, views_from}
 
 -- a reader of some text has begun this section, and read no entry of it
 pub record IsBegun (cpus limit : ℕ) (reader : ReaderView) : Type 0 where
   pub text : List ℕ
   pub before : List SectionView
-  pub within : IsWithin text before (begun cpus limit) reader
+  pub within : IsWithin text before (empty_section cpus limit) reader
 
 -- the calls that were read so far of a section are made
 pub record IsMade (text : List ℕ) (before : List SectionView) (cpus limit : ℕ) (wanted : Bool)
@@ -37,7 +37,7 @@ pub record IsReadRun (text : List ℕ) (before : List SectionView) (cpus : ℕ) 
 
 -- the runs of these sections, each on a domain of its own
 pub record ArePlacedFor (wanted : Bool) (done : List SectionView) (r : RunsSoFar) : Type 0 where
-  pub views : map view_of r.runs.items ≡ views_from wanted 0 done
+  pub views : map placed_view_of r.runs.items ≡ views_from wanted 0 done
   pub placed : All IsPlaced r.runs.items
   pub count : length r.runs.items ≡ length done
   pub base_is : r.base ≡ sum_by (λ s. s.cpus) done
@@ -51,7 +51,7 @@ pub record ArePlacedSoFar (text : List ℕ) (wanted : Bool) (reader : ReaderView
   pub placed : ArePlacedFor wanted done r
 
 -- so it is for some text
-pub record IsUnderWay (wanted : Bool) (reader : ReaderView) (r : RunsSoFar) : Type 0 where
+pub record IsReadUnderWay (wanted : Bool) (reader : ReaderView) (r : RunsSoFar) : Type 0 where
   pub text : List ℕ
   pub so_far : ArePlacedSoFar text wanted reader r
 
@@ -60,6 +60,6 @@ pub record AreReadRuns (text : List ℕ) (wanted : Bool) (runs : List PlacedRun)
   pub sections : List SectionView
   pub read : AreRead sections
   pub spelled : text ≡ spelling sections
-  pub views : map view_of runs ≡ views_from wanted 0 sections
+  pub views : map placed_view_of runs ≡ views_from wanted 0 sections
   pub placed : All IsPlaced runs
   pub few : length runs ≤ 8

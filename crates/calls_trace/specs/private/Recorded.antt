@@ -16,13 +16,13 @@ abbrev pub named_where : Option Reply → Call → (ℕ → List ℕ) → (ℕ �
 named_where (Some Admitted) call names = named_by call names
 named_where _ call names = names
 
-abbrev pub given_by : Entry → (ℕ → List ℕ) → (ℕ → List ℕ)
-given_by e names = named_where e.reply e.call names
+abbrev pub names_given_by : Entry → (ℕ → List ℕ) → (ℕ → List ℕ)
+names_given_by e names = named_where e.reply e.call names
 
 -- the names after these entries
 abbrev pub given_by_all : List Entry → (ℕ → List ℕ) → (ℕ → List ℕ)
 given_by_all [] names = names
-given_by_all (e ∷ es) names = given_by_all es (given_by e names)
+given_by_all (e ∷ es) names = given_by_all es (names_given_by e names)
 
 -- each of these numbers has a name of 1 to 15 bytes
 abbrev pub HaveNames : List ℕ → (ℕ → List ℕ) → Type 0

@@ -6,14 +6,14 @@ use Rattle.indexmap.specs.IndexMap.{IndexMap, get}
 use Rattle.attr_check.specs.ParamsView.{ParamsView}
 use Rattle.attr_check.specs.Ratio.{cap}
 use Rattle.domain_run.specs.declared.happened.Happened.{Happened}
-use Rattle.domain_run.specs.Domain.{Domain, opened}
+use Rattle.domain_run.specs.Domain.{Domain, empty_domain}
 use Rattle.domain_run.specs.Tick.{sum_of}
 use Rattle.domain_run.specs.Sound.{IsAdmitted}
 use Rattle.domain_run.specs.Log.{LogView}
 use Rattle.domain_run.specs.Run.{run_of}
 use Rattle.calls_text.specs.SectionView.{SectionView}
-use Rattle.switch_text.specs.Names.{Names, named, HasName}
-use Rattle.switch_text.specs.Trace.{RunView, trace_of}
+use Rattle.switch_text.specs.Names.{Names, name_of_task, HasName}
+use Rattle.switch_text.specs.Trace.{SwitchesView, trace_of}
 use Rattle.switch_text.specs.Events.{ToldView, events_of}
 use Rattle.switch_text.specs.Telling.{HasToldLine, is_sooner_unless_cut}
 use Rattle.run_figures.specs.Runs as counted
@@ -29,23 +29,23 @@ use Rattle.chart.specs.Chart.{chart_text}
 use Rattle.calls_trace.specs.declared.placed_run.PlacedRun.{PlacedRun}
 use Rattle.calls_trace.specs.declared.run_text.RunText.{RunText}
 use Rattle.calls_trace.specs.declared.run_text.RunText.TheVariants.{Trace, Events, Jobs, Summary, Chart}
-use Rattle.calls_trace.specs.Replay.{names_of, no_names, calls_of}
-use Rattle.calls_trace.specs.Told.{domain_of, names_in, told_of, no_params, params_in, admitted}
-use Rattle.calls_trace.specs.Charted.{charted}
+use Rattle.calls_trace.specs.Replay.{names_of, no_names, calls_in_section}
+use Rattle.calls_trace.specs.Told.{domain_of, names_in, told_of, no_params, params_in, admitted_with_params}
+use Rattle.calls_trace.specs.Charted.{chart_row_of}
 
 -- the map gives these names
-abbrev pub Gives : Names → (ℕ → List ℕ) → Type 0
-Gives names wanted = (n : ℕ) → named names n ≡ wanted n
+abbrev pub MapGives : Names → (ℕ → List ℕ) → Type 0
+MapGives names wanted = (n : ℕ) → name_of_task names n ≡ wanted n
 
 -- each number that was admitted has a name
-abbrev pub AreNamed : Domain → Names → Type 0
-AreNamed d names = (n : ℕ) → IsAdmitted d.used n → HasName names n
+abbrev pub AdmittedHaveNames : Domain → Names → Type 0
+AdmittedHaveNames d names = (n : ℕ) → IsAdmitted d.used n → HasName names n
 
 -- the domain and the names that the calls of a section leave
 pub record IsRunOf (s : SectionView) (d : Domain) (names : Names) : Type 0 where
-  pub domain : d ≡ run_of s.cpus s.limit (calls_of s)
-  pub called : Gives names (names_of (opened s.cpus s.limit) (calls_of s) no_names)
-  pub all_named : AreNamed d names
+  pub domain : d ≡ run_of s.cpus s.limit (calls_in_section s)
+  pub called : MapGives names (names_of (empty_domain s.cpus s.limit) (calls_in_section s) no_names)
+  pub all_named : AdmittedHaveNames d names
 
 -- parameters by the tasks' numbers
 abbrev pub Given : Type 0
@@ -78,11 +78,11 @@ pub record PlacedView : Type 0 where
   pub given : ℕ → ParamsView
   pub happened : List Happened
 
-abbrev pub view_of : PlacedRun → PlacedView
-view_of r = record {
+abbrev pub placed_view_of : PlacedRun → PlacedView
+placed_view_of r = record {
   base = r.base;
   domain = r.run.state;
-  names = named r.run.names;
+  names = name_of_task r.run.names;
   given = given_in r.run.given;
   happened = heard r.run.log;
 }
@@ -106,14 +106,14 @@ views_from wanted base (s ∷ ss) = view_at wanted base s ∷ views_from wanted 
 -- lines and rises
 pub record IsPlaced (r : PlacedRun) : Type 0 where
   pub inside : r.base + r.run.state.cpus ≤ 512
-  pub named : AreNamed r.run.state r.run.names
+  pub named : AdmittedHaveNames r.run.state r.run.names
   pub lines : All (HasToldLine r.run.names r.base) (heard r.run.log)
   pub rising : AllPairs (λ a b. IsTrue (is_sooner_unless_cut a b)) (heard r.run.log)
 
 -- ---- what is written of runs
 
-abbrev pub run_in : PlacedView → RunView
-run_in v = record { base = v.base; names = v.names; switches = v.domain.switches }
+abbrev pub placed_run_view : PlacedView → SwitchesView
+placed_run_view v = record { base = v.base; names = v.names; switches = v.domain.switches }
 
 abbrev pub told_in : PlacedView → ToldView
 told_in v = record { base = v.base; names = v.names; happened = v.happened }
@@ -122,7 +122,7 @@ abbrev pub figures_in : PlacedView → counted.RunView
 figures_in v = record {
   cpus = v.domain.cpus;
   time = v.domain.time;
-  tasks = map (admitted v.given) v.domain.used;
+  tasks = map (admitted_with_params v.given) v.domain.used;
   happened = v.happened;
   switches = v.domain.switches;
 }
@@ -144,22 +144,22 @@ summary_in v = record {
 abbrev pub end_in : List PlacedView → ℕ
 end_in vs = fold (λ end v. max end v.domain.time) 0 vs
 
-abbrev pub cpus_in : List PlacedView → ℕ
-cpus_in vs = sum_by (λ v. v.domain.cpus) vs
+abbrev pub cpus_of_placed : List PlacedView → ℕ
+cpus_of_placed vs = sum_by (λ v. v.domain.cpus) vs
 
 abbrev pub rows_in : Window → PlacedView → List ChartRowView
-rows_in window v = map (charted v.names v.base) (rows_of window (figures_in v))
+rows_in window v = map (chart_row_of v.names v.base) (rows_of window (figures_in v))
 
-abbrev pub chart_in : Window → List PlacedView → List ℕ
-chart_in window vs = chart_text window (cpus_in vs) (flat_map (rows_in window) vs)
+abbrev pub chart_of_placed : Window → List PlacedView → List ℕ
+chart_of_placed window vs = chart_text window (cpus_of_placed vs) (flat_map (rows_in window) vs)
 
 -- a text of the domains of a machine
 abbrev pub text_in : RunText → List PlacedView → List ℕ
-text_in Trace vs = trace_of (map run_in vs)
-text_in Events vs = events_of (map run_in vs) (map told_in vs)
+text_in Trace vs = trace_of (map placed_run_view vs)
+text_in Events vs = events_of (map placed_run_view vs) (map told_in vs)
 text_in Jobs vs = jobs_text (map jobs_in vs)
 text_in Summary vs = summary_text (map summary_in vs)
-text_in (Chart span) vs = chart_in (window_of span (end_in vs)) vs
+text_in (Chart span) vs = chart_of_placed (window_of span (end_in vs)) vs
 
 unfoldable pub text_of_runs : RunText → List PlacedRun → List ℕ
-text_of_runs text runs = text_in text (map view_of runs)
+text_of_runs text runs = text_in text (map placed_view_of runs)

@@ -6,7 +6,7 @@ use Rattle.chart_pieces.specs.declared.row.Gap.{Gap}
 use Rattle.chart_pieces.specs.declared.row.Mark.{Mark}
 
 -- its bars, the last one first; how it stands, and since when; its gaps and marks so far
-pub record LineView : Type 0 where
+pub record ChartLineView : Type 0 where
   pub number : ℕ
   pub bars : List Bar
   pub standing : Standing

@@ -5,12 +5,12 @@ use Rattle.clap.specs.declared.builder.arg.Arg.{Arg}
 use Rattle.clap.specs.declared.builder.command.Command.{Command}
 use Rattle.clap.specs.declared.builder.command.Command.TheViews.{out-Command}
 use Rattle.clap.specs.declared.builder.value_parser.ValueParser.TheVariants.{Names}
-use Rattle.command_line.specs.Commands.{HeldNames, file, flag, option, tested}
+use Rattle.command_line.specs.Commands.{HeldNames, file, flag, option, tested_option}
 use Rattle.command_line.specs.declared.command.Choice.{Choice}
 use Rattle.command_line.specs.declared.command.Choice.TheVariants.{Open, Checked, Tested, Flag, File}
 
 -- this is what clap reads of the command, of which no argument is global
-pub record IsMade (c : Command) (app : App) : Type 0 where
+pub record IsChoiceMade (c : Command) (app : App) : Type 0 where
   pub is : app_of c ≡ app
   pub local : (out-Command c).has_globals ≡ false
 
@@ -27,20 +27,20 @@ AreInTurn is (x ∷ xs) [] = ⊥
 AreInTurn is (x ∷ xs) (y ∷ ys) = is x y × AreInTurn is xs ys
 
 -- the second list has one more at its end, of which this is true
-abbrev pub Adds : {X : Type 0} → (X → Type 0) → List X → List X → Type 0
-Adds {X} is old new = (x : X) × (new ≡ old ++ x ∷ []) × is x
+abbrev pub AddsOne : {X : Type 0} → (X → Type 0) → List X → List X → Type 0
+AddsOne {X} is old new = (x : X) × (new ≡ old ++ x ∷ []) × is x
 
 -- what clap is to read of a choice
 abbrev pub of_choice : Choice → Rule
 of_choice (Open name value default help) = option name.now default.now
 of_choice (Checked name value default test help) =
     record (option name.now default.now) { parser = Some test }
-of_choice (Tested name test help) = tested name.now test
+of_choice (Tested name test help) = tested_option name.now test
 of_choice (Flag name help) = flag name.now
 of_choice (File name help) = file name.now
 
 -- the names of which a choice takes one
-abbrev pub names_in : List Choice → HeldNames
-names_in [] = record { ref_ptr = (0, 0); now = [] }
-names_in (Checked name value default (Names names) help ∷ choices) = names
-names_in (choice ∷ choices) = names_in choices
+abbrev pub names_of_choices : List Choice → HeldNames
+names_of_choices [] = record { ref_ptr = (0, 0); now = [] }
+names_of_choices (Checked name value default (Names names) help ∷ choices) = names
+names_of_choices (choice ∷ choices) = names_of_choices choices

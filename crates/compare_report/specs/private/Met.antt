@@ -9,11 +9,11 @@ use Rattle.compare_report.specs.declared.fault.Input.{Input}
 use Rattle.compare_report.specs.Answer.{HasBadLine, HasNoSwitch}
 
 -- as a fault of the text
-abbrev pub told_of : Input → RecordedFault → CompareFault
-told_of input (recorded.BadLine n) = BadLine input n
-told_of input recorded.Read = Read input
-told_of input recorded.Endless = Endless input
-told_of input recorded.Memory = Memory
+abbrev pub fault_of_input : Input → RecordedFault → CompareFault
+fault_of_input input (recorded.BadLine n) = BadLine input n
+fault_of_input input recorded.Read = Read input
+fault_of_input input recorded.Endless = Endless input
+fault_of_input input recorded.Memory = Memory
 
 -- what it says of the text and its reader
 abbrev pub IsTextFault : Input → Side → CompareFault → Type 0

@@ -11,7 +11,7 @@ use Rattle.rtapp_scenario.specs.ScenarioView.{TaskSpecView}
 use Rattle.run_figures.specs.Accounting.{AccountingView}
 use Rattle.calls_text.specs.SectionView.{SectionView}
 use Rattle.calls_text.specs.Histories.{AreRuns, AreTold}
-use Rattle.calls_trace.specs.Heard.{AreHeard, AreRunsButSwitches}
+use Rattle.calls_trace.specs.Heard.{AreAccountings, AreRunsButSwitches}
 use Rattle.session.specs.declared.report.Finished.{Finished}
 use Rattle.session.specs.declared.report.Wanted.{Wanted}
 use Rattle.session.specs.declared.report.Wanted.TheVariants.{Switches, Happened, Figures}
@@ -35,7 +35,7 @@ IsScenarioTold found = IsOrMemory (λ e. (e ≡ Scenario found) × (found ≢ sc
 
 -- what is left of runs: the states that the histories lead to, and logs of what the histories tell,
 -- where that is wanted
-pub record AreLogged (wanted : Bool) (histories : List SectionView) (states : List Domain)
+pub record AreRunLogs (wanted : Bool) (histories : List SectionView) (states : List Domain)
     (logs : List LogView) : Type 0 where
   pub runs : AreRuns histories states
   pub as_many : length logs ≡ length histories
@@ -47,13 +47,13 @@ pub record AreFigured (histories : List SectionView) (states : List Domain)
     (heard : List AccountingView) : Type 0 where
   pub as_many : length heard ≡ length histories
   pub runs : AreRunsButSwitches histories states
-  pub all : AreHeard histories heard
+  pub all : AreAccountings histories heard
 
 -- by what is wanted
 abbrev pub AreLeftAs : Wanted → List SectionView → List Domain → List LogView
     → List AccountingView → Type 0
-AreLeftAs Switches histories states logs heard = AreLogged false histories states logs
-AreLeftAs Happened histories states logs heard = AreLogged true histories states logs
+AreLeftAs Switches histories states logs heard = AreRunLogs false histories states logs
+AreLeftAs Happened histories states logs heard = AreRunLogs true histories states logs
 AreLeftAs Figures histories states logs heard = AreFigured histories states heard
 
 -- what a run of tasks leaves: the histories and the refusals answer them, and of the runs there is

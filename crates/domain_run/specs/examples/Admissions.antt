@@ -1,12 +1,12 @@
 -- Worked rows of the calls: replies, and what they leave.
 use Rattle.std.specs.Prelude.{ℕ, pos, ◌≡◌, List, [], ◌∷◌, ◌++◌, Some, None, refl}
-use Rattle.task_script.specs.declared.script.Event.TheVariants as event
+use Rattle.task_script.specs.declared.phase.Event.TheVariants as event
 use Rattle.domain_run.specs.declared.switch.PrevState.TheVariants.{Running, Sleeping, Dead}
 use Rattle.domain_run.specs.declared.call.Call.{Call}
 use Rattle.domain_run.specs.declared.call.Call.TheVariants.{Regrade, Wake, Leave, Advance, Limit, Depart, Arrive}
 use Rattle.domain_run.specs.declared.call.Reply.TheVariants.{Admitted, Changed, Woken, Left, Done, Set, Departed, Twice, Busy, NotListed, NotWaiting}
 use Rattle.task_script.specs.script.ScriptView.{ScriptView}
-use Rattle.domain_run.specs.Domain.{opened}
+use Rattle.domain_run.specs.Domain.{empty_domain}
 use Rattle.domain_run.specs.Run.{run_of, replies_to}
 use Rattle.domain_run.specs.examples.Calling.{plain, admit, switch, sum_after, server_in, zero_lag_in}
 use Rattle.task_script.specs.Examples.{once, forever}
@@ -21,7 +21,7 @@ full =
     admit 1 (plain 500 1000 1000) short ∷ admit 2 (plain 2 100 100) short
     ∷ admit 3 (plain 2 4000000 4000000) short ∷ []
 
-full_replies : replies_to (opened 1 524288) full ≡ Admitted ∷ Busy 524288 ∷ Admitted ∷ []
+full_replies : replies_to (empty_domain 1 524288) full ≡ Admitted ∷ Busy 524288 ∷ Admitted ∷ []
 full_replies = refl
 
 full_sum : sum_after (run_of 1 524288 full) ≡ 524288
@@ -34,7 +34,7 @@ thirds =
     ∷ admit 3 (plain 10000 30000 30000) short
     ∷ admit 4 (plain 2 2000000 2000000) short ∷ admit 5 (plain 2 2000000 2000000) short ∷ []
 
-thirds_replies : replies_to (opened 1 1048576) thirds
+thirds_replies : replies_to (empty_domain 1 1048576) thirds
     ≡ Admitted ∷ Admitted ∷ Admitted ∷ Admitted ∷ Busy 1048576 ∷ []
 thirds_replies = refl
 
@@ -48,7 +48,7 @@ twice =
     admit 1 (plain 1 2 2) short ∷ admit 1 (plain 2 2 2) short ∷ Advance 9
     ∷ admit 1 (plain 1 2 2) short ∷ []
 
-twice_replies : replies_to (opened 1 1048576) twice ≡ Admitted ∷ Twice ∷ Done 9 ∷ Twice ∷ []
+twice_replies : replies_to (empty_domain 1 1048576) twice ≡ Admitted ∷ Twice ∷ Done 9 ∷ Twice ∷ []
 twice_replies = refl
 
 -- WAITING: the second wake finds it no longer waiting
@@ -57,7 +57,7 @@ waiting =
     admit 1 (plain 2 10 10) (forever (event.Wait ∷ event.Run 1 ∷ [])) ∷ Advance 3 ∷ Wake 1 ∷ Wake 1
     ∷ Wake 2 ∷ Advance 3 ∷ []
 
-waiting_replies : replies_to (opened 1 1048576) waiting
+waiting_replies : replies_to (empty_domain 1 1048576) waiting
     ≡ Admitted ∷ Done 3 ∷ Woken ∷ NotWaiting ∷ NotListed ∷ Done 3 ∷ []
 waiting_replies = refl
 
@@ -74,7 +74,7 @@ regrade =
     admit 1 (plain 2 8 8) short ∷ Regrade 1 (plain 4 8 8) None ∷ Regrade 1 (plain 5 8 8) None
     ∷ Regrade 7 (plain 2 8 8) None ∷ []
 
-regrade_replies : replies_to (opened 1 524288) regrade
+regrade_replies : replies_to (empty_domain 1 524288) regrade
     ≡ Admitted ∷ Changed ∷ Busy 524288 ∷ NotListed ∷ []
 regrade_replies = refl
 
@@ -82,7 +82,7 @@ regrade_sum : sum_after (run_of 1 524288 regrade) ≡ 524288
 regrade_sum = refl
 
 -- the domain's bandwidth word refuses what the sum would allow, and nothing changes
-regrade_by_the_word : replies_to (opened 1 524288)
+regrade_by_the_word : replies_to (empty_domain 1 524288)
     (admit 1 (plain 2 8 8) short ∷ Regrade 1 (plain 4 8 8) (Some 393216) ∷ [])
     ≡ Admitted ∷ Busy 393216 ∷ []
 regrade_by_the_word = refl
@@ -94,7 +94,7 @@ limits =
     ∷ admit 2 (plain 2 8 8) short
     ∷ Limit 1048576 None ∷ admit 3 (plain 2 8 8) short ∷ []
 
-limit_replies : replies_to (opened 1 524288) limits
+limit_replies : replies_to (empty_domain 1 524288) limits
     ≡ Admitted ∷ Busy 262144 ∷ Set ∷ Busy 262144 ∷ Set ∷ Admitted ∷ []
 limit_replies = refl
 
@@ -102,7 +102,7 @@ limit_sum : sum_after (run_of 1 524288 limits) ≡ 524288
 limit_sum = refl
 
 -- the domain's bandwidth word refuses what the sum would allow, and nothing changes
-limit_by_the_word : replies_to (opened 1 524288) (Limit 131072 (Some 262144) ∷ [])
+limit_by_the_word : replies_to (empty_domain 1 524288) (Limit 131072 (Some 262144) ∷ [])
     ≡ Busy 262144 ∷ []
 limit_by_the_word = refl
 
@@ -113,7 +113,7 @@ leaving n =
     admit 1 (plain 4 8 8) (once (event.Run 100 ∷ [])) ∷ Advance 2 ∷ Leave 1 ∷ Leave 1 ∷ Advance n
     ∷ []
 
-leaving_replies : replies_to (opened 1 1048576) (leaving 2)
+leaving_replies : replies_to (empty_domain 1 1048576) (leaving 2)
     ≡ Admitted ∷ Done 2 ∷ Left ∷ NotListed ∷ Done 2 ∷ []
 leaving_replies = refl
 
@@ -149,7 +149,7 @@ abbrev goer : List Call
 goer =
     admit 1 (plain 4 8 8) (forever (event.Run 2 ∷ event.Sleep 6 ∷ [])) ∷ Advance 1 ∷ Depart 1 ∷ []
 
-goer_replies : replies_to (opened 1 1048576)
+goer_replies : replies_to (empty_domain 1 1048576)
     (goer ++ Depart 1 ∷ Advance 2 ∷ admit 1 (plain 4 8 8) short ∷ [])
     ≡ Admitted ∷ Done 1 ∷ Departed ∷ NotListed ∷ Done 2 ∷ Twice ∷ []
 goer_replies = refl
@@ -166,7 +166,7 @@ comer n =
     Advance 5 ∷ Arrive 1 (84 ∷ []) (plain 4 8 8) (forever (event.Run 2 ∷ event.Sleep 6 ∷ []))
     ∷ Advance n ∷ []
 
-comer_replies : replies_to (opened 1 1048576) (comer 3) ≡ Done 5 ∷ Admitted ∷ Done 3 ∷ []
+comer_replies : replies_to (empty_domain 1 1048576) (comer 3) ≡ Done 5 ∷ Admitted ∷ Done 3 ∷ []
 comer_replies = refl
 
 comer_switches : (run_of 1 1048576 (comer 3)).switches

@@ -1,12 +1,12 @@
 -- Worked rows of what happens: one for each kind, and for their order.
 use Rattle.std.specs.Prelude.{ℕ, ◌≡◌, List, [], ◌∷◌, None, refl}
-use Rattle.task_script.specs.declared.script.Event.TheVariants.{Run, Sleep, Timer}
+use Rattle.task_script.specs.declared.phase.Event.TheVariants.{Run, Sleep, Timer}
 use Rattle.domain_run.specs.declared.happened.What.{What}
 use Rattle.domain_run.specs.declared.happened.What.TheVariants.{JobEnds, NextReleased, Spent, Cut, Replenished, Released, WokenSpent}
 use Rattle.domain_run.specs.declared.happened.Happened.{Happened}
 use Rattle.domain_run.specs.declared.call.Call.{Call}
 use Rattle.domain_run.specs.declared.call.Call.TheVariants.{Leave, Advance, Regrade}
-use Rattle.domain_run.specs.Domain.{opened}
+use Rattle.domain_run.specs.Domain.{empty_domain}
 use Rattle.domain_run.specs.Happened.{told_by_calls}
 use Rattle.domain_run.specs.examples.Calling.{plain, admit}
 use Rattle.task_script.specs.Examples.{once, forever}
@@ -16,7 +16,7 @@ abbrev at : ℕ → ℕ → ℕ → What → Happened
 at time number cpu what = record { time = time; what = what; number = number; cpu = cpu }
 
 abbrev told_on : ℕ → List Call → List Happened
-told_on cpus calls = told_by_calls (opened cpus 1048576) calls
+told_on cpus calls = told_by_calls (empty_domain cpus 1048576) calls
 
 -- THROTTLED INSIDE A JOB: 2 us in each 5, and 4 us of work. Its end ends the job
 throttled : told_on 1 (admit 1 (plain 2 5 5) (once (Run 4 ∷ [])) ∷ Advance 11 ∷ [])

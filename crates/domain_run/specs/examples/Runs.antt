@@ -1,13 +1,13 @@
 -- Worked rows of whole runs.
 use Rattle.std.specs.Prelude.{ℕ, pos, neg_ℤ, ◌≡◌, List, [], ◌∷◌, Option, Some, None, option_map, refl}
-use Rattle.task_script.specs.declared.script.Event.TheVariants.{Run, Sleep, Timer}
+use Rattle.task_script.specs.declared.phase.Event.TheVariants.{Run, Sleep, Timer}
 use Rattle.cbs_rules.specs.declared.server.Server.{Server}
 use Rattle.domain_run.specs.declared.task.Condition.TheVariants.{Throttled, Blocked}
 use Rattle.domain_run.specs.declared.switch.PrevState.TheVariants.{Running, Preempted, Sleeping, Dead}
 use Rattle.domain_run.specs.declared.call.Call.{Call}
 use Rattle.domain_run.specs.declared.call.Call.TheVariants.{Advance, Limit}
 use Rattle.domain_run.specs.Domain.{Domain}
-use Rattle.domain_run.specs.Tick.{begun, rate_of}
+use Rattle.domain_run.specs.Tick.{with_tick_begun, rate_of}
 use Rattle.domain_run.specs.Run.{run_of}
 use Rattle.domain_run.specs.examples.Calling.{plain, reclaiming, admit, switch, sum_after, server_in, condition_in, zero_lag_in, task_in}
 use Rattle.task_script.specs.Examples.{once, forever}
@@ -85,10 +85,10 @@ woken_blocked = refl
 woken_zero_lag : zero_lag_in (woken 4) 1 ≡ Some (Some 4)
 woken_zero_lag = refl
 
-woken_kept : server_in (begun (woken 4)) 1 ≡ left_by 8 2097152
+woken_kept : server_in (with_tick_begun (woken 4)) 1 ≡ left_by 8 2097152
 woken_kept = refl
 
-woken_settled : zero_lag_in (begun (woken 4)) 1 ≡ Some None
+woken_settled : zero_lag_in (with_tick_begun (woken 4)) 1 ≡ Some None
 woken_settled = refl
 
 -- SPENT WHILE BLOCKING: at 6 it wakes with no budget before its deadline of 8
@@ -138,7 +138,7 @@ slower n = Limit 786432 None ∷ Advance n ∷ []
 
 -- the rate of a task in the next tick
 abbrev rate_next : Domain → ℕ → Option ℕ
-rate_next d number = option_map (rate_of (begun d)) (task_in (begun d) number)
+rate_next d number = option_map (rate_of (with_tick_begun d)) (task_in (with_tick_begun d) number)
 
 slowed_rate_at_4 : rate_next (slowed []) 1 ≡ Some 524288
 slowed_rate_at_4 = refl

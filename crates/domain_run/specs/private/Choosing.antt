@@ -7,7 +7,7 @@ use Rattle.edf_pick.specs.Places.{Places}
 use Rattle.domain_run.specs.declared.task.Task.{Task}
 use Rattle.domain_run.specs.Switch.{Switch}
 use Rattle.domain_run.specs.Sound.{occupant}
-use Rattle.domain_run.specs.Switches.{state_of}
+use Rattle.domain_run.specs.Switches.{prev_state_of}
 use Rattle.domain_run.specs.Tick.{shares}
 use Rattle.domain_run.specs.private.Roster.{homed_here}
 use Rattle.domain_run.specs.private.RunQueue.{IsRoster}
@@ -33,16 +33,17 @@ pub record IsHome (o : Option ℕ) (cpu place : ℕ) (tasks : List Task) : Type 
   pub home : (d : Task) → (slice_index_or tasks place d).cpu ≡ cpu
 
 -- who stands on one of these CPUs belongs to it
-abbrev pub homed_by : Places → List Moved → Task → Task
-homed_by places moves t = fold (λ (u : Task) m. homed_here (occupant places m.cpu) m.cpu u) t moves
+abbrev pub task_homed_by : Places → List Moved → Task → Task
+task_homed_by places moves t =
+    fold (λ (u : Task) m. homed_here (occupant places m.cpu) m.cpu u) t moves
 
 -- the switch of a CPU that another one has
-abbrev pub switch_of : ℕ → List Task → Places → Moved → Switch
-switch_of time tasks places m =
+abbrev pub switch_made : ℕ → List Task → Places → Moved → Switch
+switch_made time tasks places m =
     record {
       time = time;
       prev = m.before;
       next = occupant places m.cpu;
       cpu = m.cpu;
-      state = state_of tasks m.before;
+      state = prev_state_of tasks m.before;
     }

@@ -6,8 +6,8 @@ use Rattle.domain_run.specs.Conditions.{is_contending, is_leaving}
 use Rattle.domain_run.specs.Domain.{Domain}
 use Rattle.due_times.specs.declared.seats.Seat.{Seat}
 use Rattle.edf_pick.specs.Places.{Places}
-use Rattle.domain_run.specs.private.Roster.{bared, leapt}
-use Rattle.domain_run.specs.private.Waiting.{passed}
+use Rattle.domain_run.specs.private.Roster.{without_zero_lag, leapt}
+use Rattle.domain_run.specs.private.Waiting.{time_passed}
 
 -- a task with the zero-lag time that was put aside for it, where it does not contend and that time
 -- has not come
@@ -32,7 +32,7 @@ pub record IsBare (t : Task) : Type 0 where
   pub lag : t.zero_lag ≡ None
   pub fixed : t.params.reclaim ≡ false
 
-pub record IsPlain (t : Task) : Type 0 where
+pub record IsWithoutLag (t : Task) : Type 0 where
   pub lag : t.zero_lag ≡ None
   pub stays : is_leaving t.condition ≡ false
   pub fixed : t.params.reclaim ≡ false
@@ -48,8 +48,8 @@ pub record MayDoze (time : ℕ) (t : Task) : Type 0 where
 -- a task once so many ticks have passed, up to a time, without the zero-lag time with which it
 -- stops
 abbrev pub passed_bare : ℕ → ℕ → List (Option Seat) → Task → Task
-passed_bare time ticks seats t = bared (passed time ticks seats t)
+passed_bare time ticks seats t = without_zero_lag (time_passed time ticks seats t)
 
 abbrev pub leapt_bare : ℕ → ℕ → Places → ℕ → ℕ → List Task → Task → Task
 leapt_bare time ticks places cpus limit tasks t =
-    bared (leapt time ticks places cpus limit tasks t)
+    without_zero_lag (leapt time ticks places cpus limit tasks t)

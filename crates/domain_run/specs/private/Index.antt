@@ -4,15 +4,15 @@ use Rattle.domain_run.specs.declared.task.Task.{Task}
 
 -- what an index keeps: a place for each number, and the room that it was opened with, so it takes
 -- no more
-pub record IsIndex (noted : List ℕ) (capacity : ℕ) : Type 0 where
+pub record IsNumberIndex (noted : List ℕ) (capacity : ℕ) : Type 0 where
   pub all : length noted ≡ 65536
   pub room : capacity ≡ 65536
 
 -- the task of a number is at a place
-pub record IsAt (tasks : List Task) (number place : ℕ) : Type 0 where
+pub record IsListedAt (tasks : List Task) (number place : ℕ) : Type 0 where
   pub within : place < length tasks
   pub is : (d : Task) → (slice_index_or tasks place d).number ≡ number
 
 -- no task has the number
-abbrev pub IsAbsent : List Task → ℕ → Type 0
-IsAbsent tasks number = All (λ t. t.number ≢ number) tasks
+abbrev pub IsUnlisted : List Task → ℕ → Type 0
+IsUnlisted tasks number = All (λ t. t.number ≢ number) tasks

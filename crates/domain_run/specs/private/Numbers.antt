@@ -2,12 +2,13 @@
 use Rattle.std.specs.Prelude.{ℕ, ◌≡◌, ◌+◌, Bool, if◌then◌else◌, List, [], ◌∷◌}
 
 -- the places of the marks, where the first place is `from`
-abbrev pub marked : ℕ → List Bool → List ℕ
-marked from [] = []
-marked from (b ∷ bs) = if b then from ∷ marked (from + 1) bs else marked (from + 1) bs
+abbrev pub numbers_marked : ℕ → List Bool → List ℕ
+numbers_marked from [] = []
+numbers_marked from (b ∷ bs) =
+    if b then from ∷ numbers_marked (from + 1) bs else numbers_marked (from + 1) bs
 
 -- what such a set keeps: a mark for each number below 65536, and the room for so many that it was
 -- opened with, so it takes no more
-pub record AreMarks (count capacity : ℕ) : Type 0 where
+pub record AreNumberMarks (count capacity : ℕ) : Type 0 where
   pub len : count ≡ 65536
   pub room : capacity ≡ 65536

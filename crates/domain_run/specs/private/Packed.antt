@@ -51,15 +51,15 @@ handover_of Dead None = DeadToIdle
 handover_of Dead (Some n) = DeadToTask
 
 -- the number that is kept of an occupant: 0 of idle
-abbrev pub number_of : Option ℕ → ℕ
-number_of None = 0
-number_of (Some n) = n
+abbrev pub number_or_0 : Option ℕ → ℕ
+number_or_0 None = 0
+number_or_0 (Some n) = n
 
 -- what the kept numbers are: the lower 32 bits of a time, and 0 where idle leaves or comes
 pub record IsPacked (handover : Handover) (low leaves comes : ℕ) : Type 0 where
   pub lower : low < 2 ^ 32
-  pub prev : number_of (prev_in handover leaves) ≡ leaves
-  pub next : number_of (next_in handover comes) ≡ comes
+  pub prev : number_or_0 (prev_in handover leaves) ≡ leaves
+  pub next : number_or_0 (next_in handover comes) ≡ comes
 
 -- nothing of a handover is lost
 pub handed_over : (h : Handover) (n : ℕ) → handover_of (state_in h) (next_in h n) ≡ h

@@ -9,7 +9,7 @@ use Rattle.domain_run.specs.declared.run_queue.RunQueue.{RunQueue}
 use Rattle.domain_run.specs.declared.standing.Standing.{Standing}
 use Rattle.domain_run.specs.Conditions.{is_ready, is_waiting}
 use Rattle.domain_run.specs.Parts.{replenish_due, settled, unblocked, with_cpu}
-use Rattle.domain_run.specs.Calls.{of_number, regraded, released, ended}
+use Rattle.domain_run.specs.Calls.{of_number, with_new_params, blocked_until, ended_at}
 use Rattle.domain_run.specs.private.Paying.{ran_until}
 use Rattle.domain_run.specs.private.RunQueue.{IsCounted, standing_of}
 use Rattle.domain_run.specs.private.Timers.{due_of}
@@ -22,7 +22,7 @@ use Rattle.domain_run.specs.Tick.{shares, sum_of, prepared}
 use Rattle.due_times.specs.declared.doubts.Doubts.{Doubts}
 use Rattle.domain_run.specs.private.Doubts.{AreSettled}
 use Rattle.due_times.specs.Seats.{SeatsView}
-use Rattle.domain_run.specs.private.Waiting.{owed_all, AllWait, left_of, runner_of, seat_of, IsRight, Lasts}
+use Rattle.domain_run.specs.private.Waiting.{owed_all, AllWait, seats_without, runner_of, seat_of_task, IsRight, Lasts}
 use Rattle.edf_pick.specs.declared.moves.Moved.{Moved}
 use Rattle.edf_pick.specs.Places.{Places, stands}
 use Rattle.domain_run.specs.Sound.{occupant}
@@ -42,8 +42,8 @@ pub record RosterView : Type 0 where
 abbrev pub HasLeft : ℕ → RosterView → RosterView → Type 0
 HasLeft place old new =
     (new ≡ old)
-    ⊎ ((d : Task) → new.seats ≡ left_of (slice_index_or new.tasks place d)
-    (left_of (slice_index_or old.tasks place d) old.seats))
+    ⊎ ((d : Task) → new.seats ≡ seats_without (slice_index_or new.tasks place d)
+    (seats_without (slice_index_or old.tasks place d) old.seats))
 
 -- what a roster keeps: its run queue counts its list, each seat has its task's charges, who stands
 -- on a CPU that is not in doubt sits there rightly, and there is a place for each CPU
@@ -66,22 +66,22 @@ abbrev pub quit : Task → Task
 quit t = record t { condition = Leaving; zero_lag = None }
 
 -- a task without its zero-lag time
-abbrev pub bared : Task → Task
-bared t = record t { zero_lag = None }
+abbrev pub without_zero_lag : Task → Task
+without_zero_lag t = record t { zero_lag = None }
 
 -- CHANGES of one task at a time: what a part of a tick does to it, or a call
-abbrev pub after_change : ℕ → Change → Task → Task
-after_change time Replenish t = replenish_due time t
-after_change time Settle t = settled time t
-after_change time Unblock t = unblocked time t
-after_change time (Run ticks left) t = ran_until time ticks left t
-after_change time (RunAside ticks left) t = bared (ran_until time ticks left t)
-after_change time PutAside t = bared t
-after_change time (TakeBack lag) t = record t { zero_lag = Some lag }
-after_change time (Regrade params) t = regraded params t
-after_change time Release t = released time t
-after_change time End t = ended time t
-after_change time Depart t = quit t
+abbrev pub task_after : ℕ → Change → Task → Task
+task_after time Replenish t = replenish_due time t
+task_after time Settle t = settled time t
+task_after time Unblock t = unblocked time t
+task_after time (Run ticks left) t = ran_until time ticks left t
+task_after time (RunAside ticks left) t = without_zero_lag (ran_until time ticks left t)
+task_after time PutAside t = without_zero_lag t
+task_after time (TakeBack lag) t = record t { zero_lag = Some lag }
+task_after time (Regrade params) t = with_new_params params t
+task_after time Release t = blocked_until time t
+task_after time End t = ended_at time t
+task_after time Depart t = quit t
 
 -- what so many ticks of running need, up to a time, with what they leave of the budget
 pub record MayRun (time ticks : ℕ) (left : ℤ) (t : Task) : Type 0 where
@@ -143,11 +143,11 @@ HasStood (Some s) before after = s ≡ standing_of before
 pub record IsPart (time : ℕ) (change : Change) : Type 0 where
   pub fits : (cpus : ℕ) → Fits cpus change
   pub may : (t : Task) → MayMake time change t
-  pub passes : (t : Task) → time < due_of t → after_change time change t ≡ t
+  pub passes : (t : Task) → time < due_of t → task_after time change t ≡ t
 
 -- parts 1 and 2 of one task
-abbrev pub served : ℕ → Task → Task
-served time t = settled time (replenish_due time t)
+abbrev pub timers_served : ℕ → Task → Task
+timers_served time t = settled time (replenish_due time t)
 
 -- parts 1 to 3 of the task at a place, and the place behind what is left there: none, where it has
 -- left
@@ -183,7 +183,7 @@ basis_in cpus limit tasks cpu =
 -- a task of the list has the seat that those who stand on the CPUs give it
 abbrev pub IsSeated : Places → ℕ → ℕ → List Task → List (Option Seat) → Task → Type 0
 IsSeated places cpus limit tasks seats t =
-    IsRight (occupant places t.cpu) t.number (rate_in cpus limit tasks t) (seat_of seats t)
+    IsRight (occupant places t.cpu) t.number (rate_in cpus limit tasks t) (seat_of_task seats t)
 
 -- a task after so many ticks, up to a time: where it stands on a CPU it has run in each
 abbrev pub leapt : ℕ → ℕ → Places → ℕ → ℕ → List Task → Task → Task

@@ -3,7 +3,7 @@ use Rattle.std.specs.Prelude.{ℕ, ◌+◌, ◌-◌, ◌<◌, ◌≤◌, ◌^◌
 use Rattle.grub_rules.specs.Accounts.{AreAccounts, Holds, Exchanges}
 use Rattle.grub_rules.specs.declared.share.Share.{Share}
 use Rattle.edf_pick.specs.declared.candidate.Candidate.{Candidate}
-use Rattle.edf_pick.specs.Order.{ordered, with_candidate, without_candidate}
+use Rattle.edf_pick.specs.Order.{by_deadline, with_candidate, without_candidate}
 use Rattle.edf_pick.specs.Schedule.{IsAtHome}
 use Rattle.domain_run.specs.declared.task.Task.{Task}
 use Rattle.domain_run.specs.declared.standing.Standing.{Standing}
@@ -48,9 +48,9 @@ ready_of t = candidate_at t.number t.cpu (ready_at t)
 
 -- THE INVARIANT: the sums are those of the list, the schedule has its ready tasks in order, and the
 -- timers tell when each is due
-pub record Counts (queue : RunQueue) (tasks : List Task) : Type 0 where
+pub record QueueCounts (queue : RunQueue) (tasks : List Task) : Type 0 where
   pub sums : AreAccounts queue.accounts (shares tasks)
-  pub order : queue.schedule.queue ≡ ordered (candidates tasks)
+  pub order : queue.schedule.queue ≡ by_deadline (candidates tasks)
   pub due : queue.timers ≡ map due_of tasks
 
 -- what a list of tasks keeps so that the sums fit, and the queue has each task once
@@ -66,7 +66,7 @@ AreHomed places tasks = All (λ t. with_last_cpu places t ≡ t) tasks
 -- a run queue of so many CPUs counts this list, and who stands on a CPU belongs to it
 pub record IsCounted (cpus : ℕ) (queue : RunQueue) (tasks : List Task) : Type 0 where
   pub wide : length queue.accounts.all ≡ cpus
-  pub counts : Counts queue tasks
+  pub counts : QueueCounts queue tasks
   pub roster : IsRoster tasks
   pub homed : AreHomed queue.schedule.places tasks
 

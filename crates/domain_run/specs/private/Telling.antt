@@ -11,7 +11,7 @@ use Rattle.domain_run.specs.declared.happened.Happened.{Happened}
 use Rattle.domain_run.specs.declared.telling.Before.{Before}
 use Rattle.domain_run.specs.declared.telling.Told.{Told}
 use Rattle.domain_run.specs.Conditions.{is_ready, is_throttled, is_contending, is_over}
-use Rattle.domain_run.specs.Happened.{told, due, job_due, told_by_work, told_by_budget, told_by_replenishment, told_by_unblocking, rank, in_order, at_home}
+use Rattle.domain_run.specs.Happened.{happened_to, due, job_due, told_by_work, told_by_budget, told_by_replenishment, told_by_unblocking, kind_rank, in_order, with_its_cpu}
 use Rattle.task_script.specs.script.Segments.{passes_late_timer}
 use Rattle.domain_run.specs.Parts.{replenish_due, settled, is_listed}
 use Rattle.domain_run.specs.private.Paying.{ran_until, index_of}
@@ -59,7 +59,7 @@ told_of_parts time tasks = flat_map (told_by_replenishment time) tasks
 
 -- behind the placement of part 4
 abbrev pub told_at_home : Places → ℕ → List Task → List Happened
-told_at_home places time tasks = in_order (map (at_home places) (told_of_parts time tasks))
+told_at_home places time tasks = in_order (map (with_its_cpu places) (told_of_parts time tasks))
 
 -- part 6 of a list, so many ticks at once
 abbrev pub told_in_pay : ℕ → List ℕ → ℕ → List ℤ → List Task → List Happened
@@ -88,29 +88,29 @@ abbrev pub look_of : ℕ → Change → Task → Before
 look_of time change t =
     record { condition = t.condition; is_late = is_late_in time change t }
 
-abbrev pub told_if : Bool → ℕ → Task → What → Option Happened
-told_if test time t what = if test then Some (told time t what) else None
+abbrev pub told_where : Bool → ℕ → Task → What → Option Happened
+told_where test time t what = if test then Some (happened_to time t what) else None
 
 abbrev pub nothing : Told
 nothing = record { first = None; second = None; third = None }
 
 abbrev pub told_behind : ℕ → Change → Before → Task → Told
 told_behind time Replenish before t = record nothing {
-  first = told_if (is_throttled before.condition && is_ready t.condition) time t
+  first = told_where (is_throttled before.condition && is_ready t.condition) time t
       (Replenished (due t));
 }
 told_behind time Settle before t = nothing
 told_behind time Unblock before t = record nothing {
-  first = told_if (is_over time before.condition && is_contending t.condition) time t
+  first = told_where (is_over time before.condition && is_contending t.condition) time t
       (Released (job_due time t));
-  second = told_if (is_over time before.condition && is_throttled t.condition) time t
+  second = told_where (is_over time before.condition && is_throttled t.condition) time t
       (WokenSpent (due t));
 }
 told_behind time (Run ticks left) before t = record {
-  first = told_if (not (is_contending t.condition) || before.is_late) time t JobEnds;
-  second = told_if (is_contending t.condition && before.is_late) time t
+  first = told_where (not (is_contending t.condition) || before.is_late) time t JobEnds;
+  second = told_where (is_contending t.condition && before.is_late) time t
       (NextReleased (job_due time t));
-  third = told_if (is_throttled t.condition) time t (Spent (due t));
+  third = told_where (is_throttled t.condition) time t (Spent (due t));
 }
 told_behind time (RunAside ticks left) before t = nothing
 told_behind time PutAside before t = nothing
@@ -124,12 +124,12 @@ abbrev pub one_of : Option Happened → List Happened
 one_of None = []
 one_of (Some h) = h ∷ []
 
-abbrev pub all_of : Told → List Happened
-all_of t = one_of t.first ++ (one_of t.second ++ one_of t.third)
+abbrev pub all_of_told : Told → List Happened
+all_of_told t = one_of t.first ++ (one_of t.second ++ one_of t.third)
 
 -- THE ORDER. Two of one time are apart by what happens, or by their task
 abbrev pub IsApart : Happened → Happened → Type 0
-IsApart a b = (rank a.what ≢ rank b.what) ⊎ (a.number ≢ b.number)
+IsApart a b = (kind_rank a.what ≢ kind_rank b.what) ⊎ (a.number ≢ b.number)
 
 -- what is there from this place on is put in its order, where each two of it are apart
 abbrev pub InOrderFrom : ℕ → List Happened → List Happened → Type 0
@@ -140,4 +140,4 @@ InOrderFrom from before after = (base others : List Happened) → length base �
 abbrev pub GoHome : Places → ℕ → List Happened → List Happened → Type 0
 GoHome places from before after = (base others : List Happened) → length base ≡ from
     → before ≡ base ++ others → AllPairs IsApart others
-    → after ≡ base ++ in_order (map (at_home places) others)
+    → after ≡ base ++ in_order (map (with_its_cpu places) others)

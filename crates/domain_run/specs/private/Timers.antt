@@ -4,18 +4,18 @@ use Rattle.domain_run.specs.declared.task.Task.{Task}
 use Rattle.domain_run.specs.Jump.{replenished_at, asks_at, gone_at}
 
 -- a time that may come; the last number stands for none
-abbrev pub moment_of : Option ℕ → ℕ
-moment_of None = 2 ^ 64 - 1
-moment_of (Some u) = u
+abbrev pub due_moment : Option ℕ → ℕ
+due_moment None = 2 ^ 64 - 1
+due_moment (Some u) = u
 
 -- the first time at which parts 1 to 3 have something to do to a task
 abbrev pub due_of : Task → ℕ
 due_of t =
-    min (min (moment_of (replenished_at t)) (moment_of t.zero_lag))
-    (min (moment_of (asks_at t.condition)) (moment_of (gone_at t)))
+    min (min (due_moment (replenished_at t)) (due_moment t.zero_lag))
+    (min (due_moment (asks_at t.condition)) (due_moment (gone_at t)))
 
 -- the task at a place has changed, and no other
-pub record IsStep (f : Task → Task) (place : ℕ) (old new : List Task) : Type 0 where
+pub record IsTimerStep (f : Task → Task) (place : ℕ) (old new : List Task) : Type 0 where
   pub is : (d : Task) → new ≡ slice_set old place (f (slice_index_or old place d))
 
 -- the tasks at the places from this one on, up to that, are not due

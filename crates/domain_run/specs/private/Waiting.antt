@@ -10,15 +10,15 @@ use Rattle.edf_pick.specs.Places.{Places}
 use Rattle.domain_run.specs.Conditions.{is_ready}
 use Rattle.domain_run.specs.Sound.{occupant}
 use Rattle.domain_run.specs.private.Paying.{ran_until}
-use Rattle.due_times.specs.Seats.{SeatsView, seat_by, left}
+use Rattle.due_times.specs.Seats.{SeatsView, seat_by, without_seat}
 
 -- the seat of a task: that of the CPU to which it belongs, where it is the task's
-abbrev pub seat_of : List (Option Seat) → Task → Option Seat
-seat_of seats t = seat_by t.number (slice_index_or seats t.cpu None)
+abbrev pub seat_of_task : List (Option Seat) → Task → Option Seat
+seat_of_task seats t = seat_by t.number (slice_index_or seats t.cpu None)
 
 -- without that of a task
-abbrev pub left_of : Task → List (Option Seat) → List (Option Seat)
-left_of t seats = left t.cpu t.number seats
+abbrev pub seats_without : Task → List (Option Seat) → List (Option Seat)
+seats_without t seats = without_seat t.cpu t.number seats
 
 -- a task that ran for so many ticks at a rate, in which neither its work nor its budget ended
 abbrev pub slid_for : ℕ → ℕ → Task → Task
@@ -30,7 +30,7 @@ owed_by upto None t = t
 owed_by upto (Some s) t = slid_for (upto - s.since) s.rate t
 
 abbrev pub owed : ℕ → List (Option Seat) → Task → Task
-owed upto seats t = owed_by upto (seat_of seats t) t
+owed upto seats t = owed_by upto (seat_of_task seats t) t
 
 -- a task charged by the seat of a CPU, where it belongs to that
 abbrev pub charged_on : ℕ → ℕ → Seat → Task → Task
@@ -57,7 +57,7 @@ pub record Waits (s : Seat) (t : Task) : Type 0 where
   pub rated : IsRatedBy s.basis s.rate t
 
 abbrev pub WaitsIf : List (Option Seat) → Task → Type 0
-WaitsIf seats t = IfSome (seat_of seats t) (λ s. Waits s t)
+WaitsIf seats t = IfSome (seat_of_task seats t) (λ s. Waits s t)
 
 abbrev pub AllWait : List (Option Seat) → List Task → Type 0
 AllWait seats tasks = All (WaitsIf seats) tasks
@@ -110,8 +110,8 @@ abbrev pub passed_by : ℕ → ℕ → Option Seat → Task → Task
 passed_by time ticks None t = t
 passed_by time ticks (Some s) t = ran_until time ticks (t.server.left -ℤ pos (s.rate * ticks)) t
 
-abbrev pub passed : ℕ → ℕ → List (Option Seat) → Task → Task
-passed time ticks seats t = passed_by time ticks (seat_of seats t) t
+abbrev pub time_passed : ℕ → ℕ → List (Option Seat) → Task → Task
+time_passed time ticks seats t = passed_by time ticks (seat_of_task seats t) t
 
 -- who stands on a CPU may sit there
 abbrev pub MaySitOn : Places → List Task → Type 0

@@ -38,7 +38,7 @@ pub(super) fn occupant_of(places: &[Option<u32>], cpu: usize) -> Option<u32>
 #[inline(always)]
 pub(super) fn state_of(tasks: &SlotList<Task>, index: &Index, occupant: Option<u32>) -> PrevState
     requires numbered { AllPairs (λ a b. a.number ≢ b.number) tasks.now }
-    ensures { result ≡ switches_spec.state_of tasks.now occupant }
+    ensures { result ≡ switches_spec.prev_state_of tasks.now occupant }
 {
     match occupant {
         None => PrevState::Running,
@@ -62,8 +62,8 @@ fn start(task: &mut Task, accounts: &mut Accounts, seats: &mut Seats, cpu: usize
         (tick_spec.share_of (waiting.owed seats.old.upto seats.old.seats task.old) ∷ [])
         (tick_spec.share_of task.new ∷ []) }
     ensures seats { seats.new ≡ record seats.old {
-      seats = seats_spec.left cpu task.old.number
-          (seats_spec.left task.old.cpu task.old.number seats.old.seats);
+      seats = seats_spec.without_seat cpu task.old.number
+          (seats_spec.without_seat task.old.cpu task.old.number seats.old.seats);
     } }
 {
     let (number, before) = (task.number, task.cpu);
@@ -133,7 +133,7 @@ pub(super) fn home_all(
     ensures wide { length accounts.new.all ≡ length accounts.old.all }
     ensures counts { spec.AreCounted accounts.new seats.new tasks.new }
     ensures tasks { waiting.owed_all seats.new tasks.new
-        ≡ map (spec.homed_by schedule.now.places schedule.now.moves)
+        ≡ map (spec.task_homed_by schedule.now.places schedule.now.moves)
         (waiting.owed_all seats.old tasks.old) }
     ensures clock { seats.new.upto ≡ seats.old.upto }
     ensures seats { length seats.new.seats ≡ length seats.old.seats }

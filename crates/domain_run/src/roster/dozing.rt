@@ -8,8 +8,8 @@ ghost use Rattle.domain_run.specs.declared.task.Task.{Task};
 ghost use Rattle.domain_run.specs.Conditions.{is_contending};
 ghost use Rattle.domain_run.specs.Sound.{IsSound};
 ghost use Rattle.domain_run.specs.private.Dozing.{with_lag, with_lags, IsBare, MayDoze, passed_bare};
-ghost use Rattle.domain_run.specs.private.Roster.{bared};
-ghost use Rattle.domain_run.specs.private.Timers.{IsStep};
+ghost use Rattle.domain_run.specs.private.Roster.{without_zero_lag};
+ghost use Rattle.domain_run.specs.private.Timers.{IsTimerStep};
 ghost use Rattle.domain_run.specs.private.Waiting as spec;
 
 use super::Roster;
@@ -61,7 +61,7 @@ impl Roster {
         requires sound { All (IsSound time) self.old.tasks }
         ensures cpus { self.new.cpus ≡ self.old.cpus }
         ensures places { self.new.places ≡ self.old.places }
-        ensures step { IsStep bared place self.old.tasks self.new.tasks }
+        ensures step { IsTimerStep without_zero_lag place self.old.tasks self.new.tasks }
         ensures sound { All (IsSound time) self.new.tasks }
         ensures lag { (d : Task) → result ≡ (slice_index_or self.old.tasks place d).zero_lag }
     {
@@ -77,7 +77,7 @@ impl Roster {
         requires sound { All (IsSound time) self.old.tasks }
         ensures cpus { self.new.cpus ≡ self.old.cpus }
         ensures places { self.new.places ≡ self.old.places }
-        ensures tasks { self.new.tasks ≡ map bared self.old.tasks }
+        ensures tasks { self.new.tasks ≡ map without_zero_lag self.old.tasks }
         ensures sound { All (IsSound time) self.new.tasks }
         ensures lags { (i : ℕ) (d : Task) → i < length self.old.tasks
             → slice_index_or lags.new i None ≡ (slice_index_or self.old.tasks i d).zero_lag }
@@ -95,7 +95,7 @@ impl Roster {
         requires sound { All (IsSound time) self.old.tasks }
         ensures cpus { self.new.cpus ≡ self.old.cpus }
         ensures places { self.new.places ≡ self.old.places }
-        ensures step { IsStep (with_lag past lag) place self.old.tasks self.new.tasks }
+        ensures step { IsTimerStep (with_lag past lag) place self.old.tasks self.new.tasks }
         ensures sound { All (IsSound time) self.new.tasks }
     {
         let Some(lag) = lag else {
@@ -137,8 +137,9 @@ impl Roster {
         ensures tasks { map (passed_bare time ticks self.new.seats) self.new.tasks
             ≡ map (passed_bare time ticks self.old.seats) self.old.tasks }
         ensures lags { (past : ℕ) → past ≤ time
-            → map (spec.passed time ticks self.new.seats) (with_lags past lags.new self.new.tasks)
-            ≡ map (spec.passed time ticks self.old.seats)
+            → map (spec.time_passed time ticks self.new.seats)
+            (with_lags past lags.new self.new.tasks)
+            ≡ map (spec.time_passed time ticks self.old.seats)
             (with_lags past lags.old self.old.tasks) }
         ensures sound { All (IsSound time) self.new.tasks }
         ensures bare { All IsBare self.new.tasks }
@@ -171,7 +172,7 @@ impl Roster {
         ensures tasks { self.new.tasks
             ≡ map (passed_bare time ticks self.old.seats) self.old.tasks }
         ensures lags { (past : ℕ) → past ≤ time → with_lags past lags.new self.new.tasks
-            ≡ map (spec.passed time ticks self.old.seats)
+            ≡ map (spec.time_passed time ticks self.old.seats)
             (with_lags past lags.old self.old.tasks) }
         ensures sound { All (IsSound time) self.new.tasks }
     {

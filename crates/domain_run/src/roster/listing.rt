@@ -7,7 +7,7 @@ ghost use Rattle.domain_run.specs.Conditions.{is_ready};
 ghost use Rattle.domain_run.specs.Parts as parts_spec;
 ghost use Rattle.domain_run.specs.Calls.{is_other};
 ghost use Rattle.domain_run.specs.Tick as tick_spec;
-ghost use Rattle.domain_run.specs.private.Index.{IsAbsent};
+ghost use Rattle.domain_run.specs.private.Index.{IsUnlisted};
 ghost use Rattle.domain_run.specs.private.RunQueue.{IsCounted};
 ghost use Rattle.domain_run.specs.private.Timers as timers_spec;
 
@@ -26,7 +26,7 @@ pub(super) fn push_task(tasks: &mut SlotList<Task>, queue: &mut RunQueue, task: 
     requires idle { is_ready task.condition ≡ false }
     requires home { task.cpu < length queue.old.accounts.all }
     requires short { task.params.bw ≤ 2 ^ 26 }
-    requires absent { IsAbsent tasks.old task.number }
+    requires absent { IsUnlisted tasks.old task.number }
     requires homed { parts_spec.with_last_cpu queue.old.schedule.places task ≡ task }
     requires counted { IsCounted (length queue.old.accounts.all) queue.old tasks.old }
     ensures tasks { tasks.new ≡ tasks.old ++ task ∷ [] }

@@ -2,7 +2,7 @@
 
 ghost use Rattle.std.specs.Prelude.{◌≡◌, ◌<◌, ◌≤◌, ◌+◌, ◌^◌, ◌*◌, ◌-◌, ◌<ℤ◌, ◌≤ℤ◌, ◌-ℤ◌, pos, ℕ, All, IfSome, IfNone, None, map, slice_index_or, slice_set};
 ghost use Rattle.domain_run.specs.Sound.{IsSound};
-ghost use Rattle.domain_run.specs.private.Index.{IsAt};
+ghost use Rattle.domain_run.specs.private.Index.{IsListedAt};
 ghost use Rattle.domain_run.specs.private.Waiting as spec;
 ghost use Rattle.domain_run.specs.declared.task.Task.{Task};
 
@@ -33,7 +33,7 @@ pub(super) fn left_after(left: i128, used: u64) -> i128
 impl Roster {
     /// The place of the task of a number, where it is listed and belongs to a CPU.
     pub(super) fn place_on(&self, number: u32, cpu: usize) -> Option<usize>
-        ensures there { IfSome result (IsAt self.now.tasks number) }
+        ensures there { IfSome result (IsListedAt self.now.tasks number) }
         ensures home { IfSome result
             (λ place. (d : Task) → (slice_index_or self.now.tasks place d).cpu ≡ cpu) }
         ensures absent { IfNone result
@@ -55,7 +55,7 @@ impl Roster {
         ensures most { result ≤ most }
         ensures ends { (cpu : ℕ) → IfSome (slice_index_or self.now.seats cpu None)
             (λ s. self.now.clock + result ≤ s.end) }
-        ensures lasts { All (λ t. IfSome (spec.seat_of self.now.seats t)
+        ensures lasts { All (λ t. IfSome (spec.seat_of_task self.now.seats t)
             (λ s. spec.Lasts result s.rate t)) self.now.tasks }
     {
         (self.seats.first_end() - self.seats.upto()).min(most)
@@ -74,8 +74,8 @@ impl Roster {
         ensures places { self.new.places ≡ self.old.places }
         ensures clock { self.new.clock ≡ self.old.clock }
         ensures seats { self.new.seats ≡ slice_set self.old.seats cpu None }
-        ensures tasks { map (spec.passed time ticks self.new.seats) self.new.tasks
-            ≡ map (spec.passed time ticks self.old.seats) self.old.tasks }
+        ensures tasks { map (spec.time_passed time ticks self.new.seats) self.new.tasks
+            ≡ map (spec.time_passed time ticks self.old.seats) self.old.tasks }
         ensures sound { All (IsSound time) self.new.tasks }
     {
         let Some(seat) = self.seats.get(cpu) else {
@@ -104,7 +104,7 @@ impl Roster {
         ensures cpus { self.new.cpus ≡ self.old.cpus }
         ensures places { self.new.places ≡ self.old.places }
         ensures tasks { self.new.tasks
-            ≡ map (spec.passed time ticks self.old.seats) self.old.tasks }
+            ≡ map (spec.time_passed time ticks self.old.seats) self.old.tasks }
         ensures sound { All (IsSound time) self.new.tasks }
     {
         let end = self.seats.upto() + ticks;

@@ -1,11 +1,11 @@
 //! Who sits on which CPU: nobody is charged by it, as callers see it.
 
-ghost use Rattle.std.specs.Prelude.{◌≡◌, ◌≢◌, ◌<◌, ◌≤◌, ◌^◌, ◌*◌, ◌-◌, ℕ, All, IfSome, IsTrue, None, Some, false, length, pos, slice_index_or, slice_set};
+ghost use Rattle.std.specs.Prelude.{◌≡◌, ◌≢◌, ◌<◌, ◌≤◌, ◌^◌, ℕ, All, IfSome, IsTrue, None, Some, length, slice_index_or, slice_set};
 ghost use Rattle.std.specs.Int.{bit_at};
 ghost use Rattle.attr_check.specs.Ratio.{cap};
 ghost use Rattle.domain_run.specs.Domain.{IsLimit};
 ghost use Rattle.domain_run.specs.Tick.{sum_of};
-ghost use Rattle.domain_run.specs.private.Index.{IsAt};
+ghost use Rattle.domain_run.specs.private.Index.{IsListedAt};
 ghost use Rattle.domain_run.specs.private.Doubts.{IsSettled};
 ghost use Rattle.domain_run.specs.private.Roster.{rate_in, basis_in, IsSeated};
 ghost use Rattle.due_times.specs.Seats.{IsAhead};
@@ -13,129 +13,8 @@ ghost use Rattle.domain_run.specs.private.Waiting as spec;
 
 use super::Roster;
 use crate::roster::starting;
-use crate::roster::turning::charge;
 use crate::task::Task;
-use attr_check::UNIT;
-use due_times::{Basis, Rating, Seat};
-
-/// A task is charged what the seat of a CPU owes, where it belongs to that.
-pub(super) fn charge_on(task: &mut Task, cpu: usize, seat: Seat, upto: u64)
-    requires ahead { IsAhead upto seat }
-    requires waits { task.old.cpu ≡ cpu → spec.Waits seat task.old }
-    ensures { task.new ≡ spec.charged_on cpu upto seat task.old }
-{
-    if task.cpu == cpu {
-        charge(task, seat, upto);
-    }
-}
-
-/// What is left of the budget of a task, which is above 0.
-fn left_in(task: &Task) -> u64
-    requires { spec.MaySit task.now }
-    ensures left { pos result ≡ task.now.server.left }
-    ensures some { 0 < result }
-    ensures high { result ≤ 2 ^ 52 }
-{
-    task.server.left as u64
-}
-
-/// For how many ticks a budget lasts at the rate one, the last of them included: a shift, and no
-/// division.
-#[inline(always)]
-fn lasting_at_one(left: u64) -> u64
-    requires left { 0 < left }
-    requires high { left ≤ 2 ^ 52 }
-    ensures some { 0 < result }
-    ensures most { result ≤ left }
-    ensures lasted { 1048576 * (result - 1) < left }
-{
-    (left + (UNIT - 1)) / UNIT
-}
-
-/// For how many ticks a budget lasts at a rate, the last of them included, or for some of them: at a
-/// rate of at most one it lasts as long as at one, which is a shift. That does where no more ticks
-/// are wanted, and where it lasts for long: the seat is made anew when they have passed.
-#[inline(always)]
-fn lasting(left: u64, rate: u64, wanted: u64) -> u64
-    requires left { 0 < left }
-    requires high { left ≤ 2 ^ 52 }
-    requires turns { 0 < rate }
-    ensures some { 0 < result }
-    ensures most { result ≤ left }
-    ensures lasted { rate * (result - 1) < left }
-{
-    if rate <= UNIT {
-        let at_one = lasting_at_one(left);
-        if wanted <= at_one || rate == UNIT || left > u64::from(u32::MAX) {
-            return at_one;
-        }
-    }
-    left.div_ceil(rate)
-}
-
-/// The rate of a task that does not reclaim: one on every basis.
-#[inline(always)]
-pub(super) fn rated_at_one(task: &Task) -> Rating
-    requires { task.now.params.reclaim ≡ false }
-    ensures rate { result.rate ≡ 1048576 }
-    ensures basis { result.basis ≡ None }
-    ensures rated { spec.IsRatedBy result.basis result.rate task.now }
-{
-    Rating {
-        rate: UNIT,
-        basis: None,
-    }
-}
-
-/// The rate of a task on a basis, which is kept.
-#[inline(always)]
-pub(super) fn rated_on(task: &Task, basis: Basis) -> Rating
-    requires uinact { basis.uinact ≤ 2 ^ 26 }
-    requires cpus { (0 < basis.cpus) × (basis.cpus ≤ 64) }
-    requires limit { IsLimit basis.limit }
-    requires within { basis.sum ≤ cap basis.cpus basis.limit }
-    ensures some { 0 < result.rate }
-    ensures slow { result.rate ≤ 2 ^ 27 }
-    ensures basis { result.basis ≡ Some basis }
-    ensures rated { spec.IsRatedBy result.basis result.rate task.now }
-{
-    let rate = grub_rules::rate(
-        &task.params,
-        basis.uinact,
-        basis.sum,
-        basis.cpus,
-        basis.limit,
-    );
-    Rating {
-        rate,
-        basis: Some(basis),
-    }
-}
-
-/// A seat for a task, from a time on, at a rate.
-#[inline(always)]
-pub(super) fn seat_for(task: &Task, upto: u64, rating: Rating) -> Seat
-    requires may { spec.MaySit task.now }
-    requires turns { 0 < rating.rate }
-    requires slow { rating.rate ≤ 2 ^ 27 }
-    requires rated { spec.IsRatedBy rating.basis rating.rate task.now }
-    requires early { upto ≤ 2 ^ 62 }
-    ensures number { result.number ≡ task.now.number }
-    ensures since { result.since ≡ upto }
-    ensures rate { result.rate ≡ rating.rate }
-    ensures basis { result.basis ≡ rating.basis }
-    ensures ahead { IsAhead upto result }
-    ensures waits { spec.Waits result task.now }
-{
-    let spent = lasting(left_in(task), rating.rate, task.work);
-    Seat {
-        number: task.number,
-        since: upto,
-        rate: rating.rate,
-        basis: rating.basis,
-        end: upto + task.work.min(spent),
-    }
-}
+use due_times::{Basis, Seat};
 
 impl Roster {
     /// As `vacate`, where it is known who sits there, and at which place of the list that task is.
@@ -143,7 +22,7 @@ impl Roster {
     pub(super) fn vacate_at(&mut self, cpu: usize, place: usize, seat: Seat)
         requires there { cpu < self.old.cpus }
         requires sits { slice_index_or self.old.seats cpu None ≡ Some seat }
-        requires at { IsAt self.old.tasks seat.number place }
+        requires at { IsListedAt self.old.tasks seat.number place }
         requires ahead { IsAhead self.old.clock seat }
         ensures { self.new ≡ record self.old { seats = slice_set self.old.seats cpu None } }
     {
@@ -194,7 +73,7 @@ impl Roster {
             → slice_index_or self.new.seats d None ≡ slice_index_or self.old.seats d None }
         ensures right { All (λ t. t.cpu ≡ cpu
             → spec.IsRight (slice_index_or self.old.places cpu None) t.number
-            (rate_in self.old.cpus limit self.old.tasks t) (spec.seat_of self.new.seats t))
+            (rate_in self.old.cpus limit self.old.tasks t) (spec.seat_of_task self.new.seats t))
             self.new.tasks }
     {
         starting::sit_at(
@@ -286,7 +165,7 @@ impl Roster {
         ensures roster { self.new ≡ self.old }
         ensures right { All (λ t. t.cpu ≡ cpu
             → spec.IsRight (slice_index_or self.old.places cpu None) t.number
-            (rate_in self.old.cpus limit self.old.tasks t) (spec.seat_of self.old.seats t))
+            (rate_in self.old.cpus limit self.old.tasks t) (spec.seat_of_task self.old.seats t))
             self.old.tasks }
     {
         let is_rated = self.seats.is_rated(cpu);
@@ -311,7 +190,7 @@ impl Roster {
         ensures others { (d : ℕ) → d ≢ cpu
             → slice_index_or self.new.seats d None ≡ slice_index_or self.old.seats d None }
         ensures right { All (λ t. t.cpu ≡ cpu → spec.IsRight (Some number) t.number
-            (rate_in self.old.cpus limit self.old.tasks t) (spec.seat_of self.new.seats t))
+            (rate_in self.old.cpus limit self.old.tasks t) (spec.seat_of_task self.new.seats t))
             self.new.tasks }
     {
         self.leave_free(cpu);
@@ -337,7 +216,7 @@ impl Roster {
         ensures others { (d : ℕ) → d ≢ cpu
             → slice_index_or self.new.seats d None ≡ slice_index_or self.old.seats d None }
         ensures right { All (λ t. t.cpu ≡ cpu → spec.IsRight occupant t.number
-            (rate_in self.old.cpus limit self.old.tasks t) (spec.seat_of self.new.seats t))
+            (rate_in self.old.cpus limit self.old.tasks t) (spec.seat_of_task self.new.seats t))
             self.new.tasks }
     {
         match occupant {
@@ -366,7 +245,7 @@ impl Roster {
             → slice_index_or self.new.seats d None ≡ slice_index_or self.old.seats d None }
         ensures right { All (λ t. t.cpu ≡ cpu
             → spec.IsRight (slice_index_or self.old.places cpu None) t.number
-            (rate_in self.old.cpus limit self.old.tasks t) (spec.seat_of self.new.seats t))
+            (rate_in self.old.cpus limit self.old.tasks t) (spec.seat_of_task self.new.seats t))
             self.new.tasks }
     {
         let occupant = self.occupant(cpu);

@@ -8,7 +8,7 @@ ghost use Rattle.domain_run.specs.Sound.{occupant as occupant_in};
 ghost use Rattle.domain_run.specs.Tick.{sum_of};
 ghost use Rattle.domain_run.specs.private.Choosing as spec;
 ghost use Rattle.domain_run.specs.private.Doubts as doubts_spec;
-ghost use Rattle.domain_run.specs.private.Index.{IsAt};
+ghost use Rattle.domain_run.specs.private.Index.{IsListedAt};
 ghost use Rattle.domain_run.specs.private.Roster.{basis_in, homed_here};
 ghost use Rattle.due_times.specs.Seats.{IsAhead};
 ghost use Rattle.domain_run.specs.private.Waiting as waiting;
@@ -16,7 +16,7 @@ ghost use Rattle.grub_rules.specs.Accounts.{inactive_at};
 
 use crate::index::Index;
 use crate::roster::choosing::{home_on, occupant_of, state_of};
-use crate::roster::seating::{charge_on, rated_at_one, rated_on, seat_for};
+use crate::roster::rating::{charge_on, rated_at_one, rated_on, seat_for};
 use crate::switch::{Switch, switch_of};
 use crate::task::Task;
 use due_times::{Basis, Doubts, Rating, Seat, Seats};
@@ -44,7 +44,7 @@ pub(super) fn vacate_place(
 )
     requires there { cpu < length seats.old.seats }
     requires sits { slice_index_or seats.old.seats cpu None ≡ Some seat }
-    requires at { IsAt tasks.old seat.number place }
+    requires at { IsListedAt tasks.old seat.number place }
     requires ahead { IsAhead seats.old.upto seat }
     requires numbered { AllPairs (λ a b. a.number ≢ b.number) tasks.old }
     requires waits { waiting.AllWait seats.old.seats tasks.old }
@@ -263,14 +263,14 @@ pub(super) fn seat_moved(
     ensures wide { length accounts.new.all ≡ length accounts.old.all }
     ensures counts { spec.AreCounted accounts.new seats.new tasks.new }
     ensures tasks { waiting.owed_all seats.new tasks.new
-        ≡ map (spec.homed_by schedule.now.places schedule.now.moves)
+        ≡ map (spec.task_homed_by schedule.now.places schedule.now.moves)
         (waiting.owed_all seats.old tasks.old) }
     ensures clock { seats.new.upto ≡ seats.old.upto }
     ensures seats { length seats.new.seats ≡ length seats.old.seats }
     ensures settled { doubts_spec.AreSettled doubts.new (length accounts.old.all)
         schedule.now.places seats.new.seats (waiting.owed_all seats.new tasks.new) }
     ensures switches { switches.new.items ≡ switches.old.items
-        ++ map (spec.switch_of moment.time (waiting.owed_all seats.old tasks.old)
+        ++ map (spec.switch_made moment.time (waiting.owed_all seats.old tasks.old)
         schedule.now.places) schedule.now.moves }
     ensures spare { vec_capacity switches.new ≡ vec_capacity switches.old }
 {

@@ -4,11 +4,11 @@
 ghost use Rattle.std.specs.Prelude.{◌≡◌, ◌<◌, ◌≤◌, ◌^◌, ◌*◌, ◌-◌, ◌<ℤ◌, ◌-ℤ◌, pos, All, None, Some, is_some, length, slice_index_or};
 ghost use Rattle.domain_run.specs.declared.task.Task.{Task};
 ghost use Rattle.domain_run.specs.Sound.{IsSound};
-ghost use Rattle.domain_run.specs.private.Roster.{after_change, put_aside, MayMake, Fits};
+ghost use Rattle.domain_run.specs.private.Roster.{task_after, put_aside, MayMake, Fits};
 ghost use Rattle.domain_run.specs.private.RunQueue as spec;
 ghost use Rattle.due_times.specs.Seats as seats_spec;
 ghost use Rattle.domain_run.specs.private.Waiting as waiting;
-ghost use Rattle.domain_run.specs.private.Timers.{IsStep};
+ghost use Rattle.domain_run.specs.private.Timers.{IsTimerStep};
 
 use crate::change::{Change, make};
 use crate::run_queue::RunQueue;
@@ -47,9 +47,9 @@ pub(super) fn settle(task: &mut Task, seats: &mut Seats) -> bool
     requires { waiting.WaitsIf seats.old.seats task.old }
     ensures task { task.new ≡ waiting.owed seats.old.upto seats.old.seats task.old }
     ensures seats { seats.new ≡ record seats.old {
-      seats = seats_spec.left task.old.cpu task.old.number seats.old.seats;
+      seats = seats_spec.without_seat task.old.cpu task.old.number seats.old.seats;
     } }
-    ensures sat { result ≡ is_some (waiting.seat_of seats.old.seats task.old) }
+    ensures sat { result ≡ is_some (waiting.seat_of_task seats.old.seats task.old) }
 {
     if !task.condition.is_ready() {
         return false;
@@ -77,8 +77,8 @@ pub(super) fn turn_settled(
     requires may { MayMake time change.now task.old }
     requires turns { spec.MayTurn place task.old.number task.old.cpu queue.old
         (spec.standing_of task.old)
-        (spec.standing_of (after_change time change.now task.old)) }
-    ensures task { task.new ≡ after_change time change.now task.old }
+        (spec.standing_of (task_after time change.now task.old)) }
+    ensures task { task.new ≡ task_after time change.now task.old }
     ensures sound { IsSound time task.new }
     ensures turned { spec.HasTurned place task.old.number task.old.cpu
         (spec.standing_of task.old) (spec.standing_of task.new) queue.old queue.new }
@@ -96,7 +96,8 @@ pub(super) fn turn_settled(
 #[inline(always)]
 pub(super) fn leave_other(seats: &mut Seats, left: usize, cpu: usize, number: u32)
     requires left { seats_spec.seat_by number (slice_index_or seats.old.seats left None) ≡ None }
-    ensures { seats.new ≡ record seats.old { seats = seats_spec.left cpu number seats.old.seats } }
+    ensures { seats.new
+        ≡ record seats.old { seats = seats_spec.without_seat cpu number seats.old.seats } }
 {
     if cpu != left {
         seats.leave(cpu, number);
@@ -124,9 +125,9 @@ fn turn_one(
         (waiting.owed seats.old.upto seats.old.seats task.old).cpu queue.old
         (spec.standing_of (waiting.owed seats.old.upto seats.old.seats task.old))
         (spec.standing_of
-        (after_change time change.now (waiting.owed seats.old.upto seats.old.seats task.old))) }
+        (task_after time change.now (waiting.owed seats.old.upto seats.old.seats task.old))) }
     ensures task { task.new
-        ≡ after_change time change.now (waiting.owed seats.old.upto seats.old.seats task.old) }
+        ≡ task_after time change.now (waiting.owed seats.old.upto seats.old.seats task.old) }
     ensures sound { IsSound time task.new }
     ensures turned { spec.HasTurned place
         (waiting.owed seats.old.upto seats.old.seats task.old).number
@@ -134,9 +135,9 @@ fn turn_one(
         (spec.standing_of (waiting.owed seats.old.upto seats.old.seats task.old))
         (spec.standing_of task.new) queue.old queue.new }
     ensures seats { seats.new ≡ record seats.old {
-      seats = seats_spec.left task.old.cpu task.old.number seats.old.seats;
+      seats = seats_spec.without_seat task.old.cpu task.old.number seats.old.seats;
     } }
-    ensures sat { result ≡ is_some (waiting.seat_of seats.old.seats task.old) }
+    ensures sat { result ≡ is_some (waiting.seat_of_task seats.old.seats task.old) }
 {
     let sat = settle(task, seats);
     turn_settled(task, queue, place, time, change);
@@ -162,7 +163,7 @@ pub(super) fn turn_task(
         (slice_index_or (waiting.owed_all seats.old tasks.old) place d) }
     requires counted { spec.IsCounted (length queue.old.accounts.all) queue.old
         (waiting.owed_all seats.old tasks.old) }
-    ensures step { IsStep (after_change time change.now) place
+    ensures step { IsTimerStep (task_after time change.now) place
         (waiting.owed_all seats.old tasks.old)
         (waiting.owed_all seats.new tasks.new) }
     ensures sound { All (IsSound time) (waiting.owed_all seats.new tasks.new) }
@@ -170,14 +171,14 @@ pub(super) fn turn_task(
         (waiting.owed_all seats.new tasks.new) }
     ensures waits { waiting.AllWait seats.new.seats tasks.new }
     ensures seats { (d : Task) → seats.new.seats
-        ≡ waiting.left_of (slice_index_or (waiting.owed_all seats.new tasks.new) place d)
-        (waiting.left_of (slice_index_or (waiting.owed_all seats.old tasks.old) place d)
+        ≡ waiting.seats_without (slice_index_or (waiting.owed_all seats.new tasks.new) place d)
+        (waiting.seats_without (slice_index_or (waiting.owed_all seats.old tasks.old) place d)
         seats.old.seats) }
     ensures places { queue.new.schedule.places ≡ queue.old.schedule.places }
     ensures clock { seats.new.upto ≡ seats.old.upto }
     ensures wide { length seats.new.seats ≡ length seats.old.seats }
     ensures sat { (d : Task) → result
-        ≡ is_some (waiting.seat_of seats.old.seats (slice_index_or tasks.old place d)) }
+        ≡ is_some (waiting.seat_of_task seats.old.seats (slice_index_or tasks.old place d)) }
 {
     turn_one(tasks.at_mut(place), queue, seats, place, time, change)
 }

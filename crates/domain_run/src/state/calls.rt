@@ -50,7 +50,8 @@ impl State {
     fn change(&mut self, number: u32, params: &Params)
         requires { calls.regrade_reply self.old params.now None (calls.task_of self.old number)
             ≡ Reply.Changed }
-        ensures { self.new ≡ calls.changed self.old number (calls.regraded params.now) }
+        ensures { self.new
+            ≡ calls.with_task_changed self.old number (calls.with_new_params params.now) }
     {
         let change = Change::Regrade { params: *params };
         self.roster.turn_number(number, self.time, &change);
@@ -87,7 +88,8 @@ impl State {
 
     fn release(&mut self, number: u32)
         requires { calls.wake_reply (calls.task_of self.old number) ≡ Reply.Woken }
-        ensures { self.new ≡ calls.changed self.old number (calls.released self.old.time) }
+        ensures { self.new
+            ≡ calls.with_task_changed self.old number (calls.blocked_until self.old.time) }
     {
         self.roster.turn_number(number, self.time, &Change::Release);
     }
@@ -116,7 +118,8 @@ impl State {
     }
 
     fn end(&mut self, number: u32)
-        ensures { self.new ≡ calls.changed self.old number (calls.ended self.old.time) }
+        ensures { self.new
+            ≡ calls.with_task_changed self.old number (calls.ended_at self.old.time) }
     {
         self.roster.turn_number(number, self.time, &Change::End);
     }
@@ -194,7 +197,7 @@ impl State {
     }
 
     fn take_off(&mut self, number: u32)
-        ensures { self.new ≡ calls.departed self.old number }
+        ensures { self.new ≡ calls.after_departure self.old number }
     {
         self.roster.take_off(number, self.time);
     }

@@ -4,7 +4,7 @@ ghost use Rattle.std.specs.Prelude.{◌≡◌, ◌≤◌};
 ghost use Rattle.domain_run.specs.declared.call.Call.TheVariants as Call;
 ghost use Rattle.domain_run.specs.Calls as calls;
 ghost use Rattle.domain_run.specs.Happened.{told_by_cut, told_by_call};
-ghost use Rattle.domain_run.specs.Log.{Tells, HasRoom};
+ghost use Rattle.domain_run.specs.Log.{Tells, LogHasRoom};
 ghost use Rattle.domain_run.specs.private.Telling.{one_of};
 
 use super::State;
@@ -30,7 +30,7 @@ impl State {
     /// As [`State::leave`], and where the task has left, the log is told that its job is cut. Takes
     /// no memory: room for one more is there.
     pub fn leave_told(&mut self, number: u32, log: &mut Log) -> Reply
-        requires room { HasRoom 1 log.old }
+        requires room { LogHasRoom 1 log.old }
         ensures reply { result ≡ calls.reply_to self.old (Call.Leave number) }
         ensures domain { self.new ≡ calls.after_call self.old (Call.Leave number) }
         ensures told { Tells log.old (told_by_call self.old (Call.Leave number)) log.new }
@@ -47,7 +47,7 @@ impl State {
     /// As [`State::depart`], and where the task is off the list, the log is told that its job is
     /// cut. Takes no memory: room for one more is there.
     pub fn depart_told(&mut self, number: u32, log: &mut Log) -> Reply
-        requires room { HasRoom 1 log.old }
+        requires room { LogHasRoom 1 log.old }
         ensures reply { result ≡ calls.reply_to self.old (Call.Depart number) }
         ensures domain { self.new ≡ calls.after_call self.old (Call.Depart number) }
         ensures told { Tells log.old (told_by_call self.old (Call.Depart number)) log.new }

@@ -6,7 +6,7 @@ ghost use Rattle.domain_run.specs.Domain.{Domain};
 ghost use Rattle.domain_run.specs.Jump as jump;
 ghost use Rattle.domain_run.specs.Tick as tick;
 ghost use Rattle.domain_run.specs.Sound.{IsDomain};
-ghost use Rattle.domain_run.specs.private.Dozing.{awake, IsBare, IsPlain, MayDoze};
+ghost use Rattle.domain_run.specs.private.Dozing.{awake, IsBare, IsWithoutLag, MayDoze};
 
 use super::State;
 use crate::roster::Lags;
@@ -29,7 +29,7 @@ impl State {
         requires bare { All IsBare self.old.tasks }
         ensures some { 0 < result }
         ensures most { result ≤ most }
-        ensures domain { (d : Domain) → self.old ≡ jump.under_way d → All IsPlain d.tasks
+        ensures domain { (d : Domain) → self.old ≡ jump.under_way d → All IsWithoutLag d.tasks
             → awake lags.new self.new ≡ tick.ticks result (awake lags.old d) }
         ensures bare { All IsBare self.new.tasks }
     {
@@ -42,7 +42,7 @@ impl State {
     fn leap_aside(&mut self, most: u64, lags: &mut Lags) -> u64
         requires some { 0 < most }
         requires early { self.old.time + most ≤ 2 ^ 42 }
-        requires plain { All IsPlain self.old.tasks }
+        requires plain { All IsWithoutLag self.old.tasks }
         ensures most { result ≤ most }
         ensures ticks { awake lags.new self.new ≡ tick.ticks result (awake lags.old self.old) }
         ensures bare { All IsBare self.new.tasks }
@@ -58,7 +58,7 @@ impl State {
     /// put aside.
     fn all_stay(&self) -> bool
         requires bare { All IsBare self.now.tasks }
-        ensures { IsTrue result → All IsPlain self.now.tasks }
+        ensures { IsTrue result → All IsWithoutLag self.now.tasks }
     {
         !self.roster.may_be_due(0)
     }

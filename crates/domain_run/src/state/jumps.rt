@@ -6,7 +6,7 @@ ghost use Rattle.domain_run.specs.Tick as tick;
 ghost use Rattle.domain_run.specs.Jump as jump;
 ghost use Rattle.domain_run.specs.Sound.{IsDomain};
 ghost use Rattle.domain_run.specs.Happened.{told_by_beginning, told_by_last_end, told_by_ticks};
-ghost use Rattle.domain_run.specs.Log.{Tells, HasRoom, HasRoomToEnd};
+ghost use Rattle.domain_run.specs.Log.{Tells, LogHasRoom, HasRoomToEnd};
 
 use super::State;
 use crate::log::Log;
@@ -22,7 +22,7 @@ impl State {
     #[inline(always)]
     pub(super) fn begin_in_room(&mut self, log: &mut Log) -> bool
         requires early { self.old.time < 2 ^ 42 }
-        requires log { HasRoom (9 * length self.old.tasks + 192) log.old }
+        requires log { LogHasRoom (9 * length self.old.tasks + 192) log.old }
         ensures some { self.old.switches ≡ [] → result ≡ true }
         ensures ok { result ≡ true → self.new ≡ jump.under_way self.old }
         ensures begun { result ≡ true → jump.IsUnderWay self.new }

@@ -13,9 +13,9 @@ use crate::{sweep, to_event};
 use no_memory::NoMemory;
 
 impl State {
-    /// Ends the tick that has begun, and as many ticks in all as pass up to the first end of a seat,
-    /// and at most so many, which are at most [`State::quiet`]. The domain is then as after so many
-    /// single ticks from where it was before [`State::begin`].
+    /// Ends the tick that has begun, and as many ticks in all as pass up to the first end of a
+    /// seat, and at most so many, which are at most [`State::quiet`]. The domain is then as after
+    /// so many single ticks from where it was before [`State::begin`].
     fn run(&mut self, most: u64) -> u64
         requires begun { jump.IsUnderWay self.old }
         requires some { 0 < most }

@@ -19,7 +19,7 @@ impl State {
     pub fn tick(&mut self) -> Result<(), NoMemory>
         requires { self.old.time < 2 ^ 42 }
         ensures ok { OnOk result (self.new ≡ tick.ticked self.old) }
-        ensures placed { OnOk result (IsPlacement (tick.begun self.old)) }
+        ensures placed { OnOk result (IsPlacement (tick.with_tick_begun self.old)) }
         ensures keys { OnOk result (AreKept self.old.tasks self.new.tasks) }
         ensures err { OnErr result (self.new ≡ self.old) }
     {

@@ -18,8 +18,8 @@ pub record IsTreeBut (at : ℕ) (nodes : List ℕ) : Type 0 where
   pub each : (i : ℕ) → 1 ≤ i → i < length nodes / 4 → i ≢ at → IsLeast nodes i
 
 -- each inner node
-abbrev pub IsTree : List ℕ → Type 0
-IsTree nodes = IsTreeBut 0 nodes
+abbrev pub IsTournamentTree : List ℕ → Type 0
+IsTournamentTree nodes = IsTreeBut 0 nodes
 
 -- each inner node but those from one up to another
 pub record IsTreeOutside (from end : ℕ) (nodes : List ℕ) : Type 0 where
@@ -32,7 +32,7 @@ leaves nodes = drop (length nodes / 2) nodes
 
 -- what a tournament keeps: the room for 512 nodes that it was opened with, so it takes no more
 pub record IsTournament (nodes : List ℕ) (capacity : ℕ) : Type 0 where
-  pub tree : IsTree nodes
+  pub tree : IsTournamentTree nodes
   pub size : IsSize (length nodes / 2)
   pub most : length nodes ≤ 512
   pub room : capacity ≡ 512

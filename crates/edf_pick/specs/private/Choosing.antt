@@ -8,7 +8,7 @@ use Rattle.edf_pick.specs.Order.{IsRising}
 use Rattle.edf_pick.specs.Places.{Places, stands}
 use Rattle.edf_pick.specs.Schedule.{IsAtHome}
 use Rattle.edf_pick.specs.private.First.{is_home}
-use Rattle.edf_pick.specs.private.Waiting.{held, AreOn}
+use Rattle.edf_pick.specs.private.Waiting.{all_held, AreOn}
 
 -- a task that has been chosen stays where it stands
 abbrev pub chosen_stays : Places → Candidate → List (Option Candidate) → List (Option Candidate)
@@ -23,19 +23,20 @@ chosen_movers places c movers = if is_home places c then movers else movers ++ c
 pub record IsChoosing (stays : List (Option Candidate)) (movers waiting : List Candidate)
     (places : Places) : Type 0 where
   pub len : length stays ≡ length places
-  pub numbered : AllPairs (λ a b. a.number ≢ b.number) (held stays ++ (movers ++ waiting))
+  pub numbered : AllPairs (λ a b. a.number ≢ b.number) (all_held stays ++ (movers ++ waiting))
   pub on : AreOn stays places
   pub away : All (λ c. stands c.number places ≡ false) movers
   pub homed : All (IsAtHome places) waiting
   pub rising : IsRising movers
   pub waits : IsRising waiting
   pub before : All (λ a. All (λ b. is_before a b ≡ true) waiting) movers
-  pub few : length (held stays) + length movers ≤ length places
+  pub few : length (all_held stays) + length movers ≤ length places
 
 -- nobody waits, or each CPU has a chosen task
-abbrev pub AreAll : List (Option Candidate) → List Candidate → List Candidate → Places → Type 0
-AreAll stays movers waiting places =
-    (waiting ≡ []) ⊎ (length (held stays) + length movers ≡ length places)
+abbrev pub AreAllSeated : List (Option Candidate) → List Candidate → List Candidate → Places
+    → Type 0
+AreAllSeated stays movers waiting places =
+    (waiting ≡ []) ⊎ (length (all_held stays) + length movers ≡ length places)
 
 -- the chosen tasks are before all who wait
 abbrev pub AreBefore : List Candidate → List Candidate → Type 0
@@ -45,8 +46,8 @@ AreBefore chosen waiting = All (λ a. All (λ b. is_before a b ≡ true) waiting
 pub record IsChosen (stays : List (Option Candidate)) (movers waiting : List Candidate)
     (places : Places) : Type 0 where
   pub choosing : IsChoosing stays movers waiting places
-  pub all : AreAll stays movers waiting places
-  pub first : AreBefore (held stays) waiting
+  pub all : AreAllSeated stays movers waiting places
+  pub first : AreBefore (all_held stays) waiting
 
 -- deadlines and numbers, as one number: it falls where a chosen task gives way to an earlier one
 abbrev pub total : List Candidate → ℕ

@@ -34,17 +34,18 @@ abbrev pub AreMovers : List Candidate → Places → ℕ → Type 0
 AreMovers chosen places marks = (i : ℕ) → bit_at marks i ≡ moves places (slice_get chosen i)
 
 -- the tasks at the marked places
-abbrev pub marked : (ℕ → ℕ) → List Candidate → List Candidate
-marked mark [] = []
-marked mark (c ∷ chosen) =
-    if mark 0 == 1 then c ∷ marked (λ i. mark (suc i)) chosen else marked (λ i. mark (suc i)) chosen
+abbrev pub those_marked : (ℕ → ℕ) → List Candidate → List Candidate
+those_marked mark [] = []
+those_marked mark (c ∷ chosen) =
+    if mark 0 == 1 then c ∷ those_marked (λ i. mark (suc i)) chosen
+    else those_marked (λ i. mark (suc i)) chosen
 
 -- marked are the CPUs from which somebody goes, and no CPU where a chosen task is at home; who
 -- stands on a marked CPU stays only as a mover
 pub record AreLeaving (chosen : List Candidate) (places : Places) (movers marks : ℕ) : Type 0 where
   pub within : (cpu : ℕ) → bit_at marks cpu ≡ 1 → cpu < length places
   pub only : (cpu : ℕ) → bit_at marks cpu ≡ 1
-      → staying (marked (bit_at movers) chosen) (slice_index_or places cpu None)
+      → staying (those_marked (bit_at movers) chosen) (slice_index_or places cpu None)
       ≡ staying chosen (slice_index_or places cpu None)
   pub others : (cpu : ℕ) → bit_at marks cpu ≡ 0
       → staying chosen (slice_index_or places cpu None) ≡ slice_index_or places cpu None

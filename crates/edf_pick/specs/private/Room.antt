@@ -5,14 +5,14 @@ use Rattle.edf_pick.specs.declared.room.Room.{Room}
 use Rattle.edf_pick.specs.Order.{IsRising}
 
 -- the tasks from one place up to another
-abbrev pub between : ℕ → ℕ → List Candidate → List Candidate
-between front end places = take (end - front) (drop front places)
+abbrev pub tasks_between : ℕ → ℕ → List Candidate → List Candidate
+tasks_between front end places = take (end - front) (drop front places)
 
-abbrev pub tasks_in : Room → List Candidate
-tasks_in room = between room.front room.end room.tasks.items
+abbrev pub tasks_in_room : Room → List Candidate
+tasks_in_room room = tasks_between room.front room.end room.tasks.items
 
 -- there are 1,024 places, and the tasks stand within them
-pub record IsRoom (room : Room) : Type 0 where
+pub record IsTaskRoom (room : Room) : Type 0 where
   pub forward : room.front ≤ room.end
   pub within : room.end ≤ 1024
   pub full : length room.tasks.items ≡ 1024
@@ -26,5 +26,5 @@ pub record IsQueue (queue : List Candidate) (capacity : ℕ) : Type 0 where
 
 -- what a queue keeps
 pub record HoldsQueue (room : Room) (capacity : ℕ) : Type 0 where
-  pub queue : IsQueue (tasks_in room) capacity
-  pub is : IsRoom room
+  pub queue : IsQueue (tasks_in_room room) capacity
+  pub is : IsTaskRoom room

@@ -4,7 +4,7 @@ use Rattle.std.specs.Prelude.{ℕ, suc, ◌≡◌, ◌<◌, ◌≤◌, ◌+◌, 
 use Rattle.std.specs.Int.{bit_at}
 use Rattle.edf_pick.specs.declared.candidate.Candidate.{Candidate}
 use Rattle.edf_pick.specs.Choice.{is_before}
-use Rattle.edf_pick.specs.private.Waiting.{held}
+use Rattle.edf_pick.specs.private.Waiting.{all_held}
 
 -- the key where nobody stays: no task is before it
 abbrev pub bare_key : Candidate
@@ -30,7 +30,7 @@ pub record IsStaying (cpus busy marks : ℕ) (keys most : List Candidate) (unkno
   pub few : cpus ≤ 64
   pub full : length keys ≡ 64
   pub eight : length most ≡ 8
-  pub many : busy ≡ length (held (stays_of (bit_at marks) (take cpus keys)))
+  pub many : busy ≡ length (all_held (stays_of (bit_at marks) (take cpus keys)))
   pub within : (cpu : ℕ) → bit_at marks cpu ≡ 1 → cpu < cpus
   pub home : (cpu : ℕ) → bit_at marks cpu ≡ 1 → (slice_index_or keys cpu bare_key).home ≡ cpu
   pub bare : (cpu : ℕ) → bit_at marks cpu ≡ 0 → slice_index_or keys cpu bare_key ≡ bare_key

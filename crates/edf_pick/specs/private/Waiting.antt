@@ -2,33 +2,33 @@
 use Rattle.std.specs.Prelude.{ℕ, ◌≡◌, ◌≢◌, ◌++◌, List, [], ◌∷◌, map, length, slice_index_or, All, AllPairs, Option, Some, None, Bool, false}
 use Rattle.std.specs.List.Sorted.{IsPermutation}
 use Rattle.edf_pick.specs.declared.candidate.Candidate.{Candidate}
-use Rattle.edf_pick.specs.Order.{is_same, has_candidate, without_candidate, ordered}
+use Rattle.edf_pick.specs.Order.{is_same, has_candidate, without_candidate, by_deadline}
 use Rattle.edf_pick.specs.Places.{Places}
 use Rattle.edf_pick.specs.Schedule.{IsAtHome}
 use Rattle.edf_pick.specs.private.First.{seated_all}
 
 -- the tasks that stay, CPU by CPU
-abbrev pub held : List (Option Candidate) → List Candidate
-held [] = []
-held (None ∷ stays) = held stays
-held (Some c ∷ stays) = c ∷ held stays
+abbrev pub all_held : List (Option Candidate) → List Candidate
+all_held [] = []
+all_held (None ∷ stays) = all_held stays
+all_held (Some c ∷ stays) = c ∷ all_held stays
 
 -- who stays on a CPU, as its occupant
-abbrev pub number_of : Option Candidate → Option ℕ
-number_of None = None
-number_of (Some c) = Some c.number
+abbrev pub candidate_number : Option Candidate → Option ℕ
+candidate_number None = None
+candidate_number (Some c) = Some c.number
 
 -- the occupants that stay; on another CPU nobody
 abbrev pub staying_on : List (Option Candidate) → Places
-staying_on stays = map number_of stays
+staying_on stays = map candidate_number stays
 
 -- a task, wherever it belongs
-abbrev pub bare : Candidate → Candidate
-bare c = record c { home = 0 }
+abbrev pub without_home : Candidate → Candidate
+without_home c = record c { home = 0 }
 
 -- all tasks, in the order of the choice
-abbrev pub all_of : List (Option Candidate) → List Candidate → List Candidate
-all_of stays waiting = ordered (held stays ++ waiting)
+abbrev pub all_waiting : List (Option Candidate) → List Candidate → List Candidate
+all_waiting stays waiting = by_deadline (all_held stays ++ waiting)
 
 -- who stays on a CPU belongs to it and stands there
 abbrev pub AreOn : List (Option Candidate) → Places → Type 0
@@ -40,7 +40,7 @@ AreOn stays places = (cpu : ℕ) (c : Candidate) → slice_index_or stays cpu No
 pub record IsWaiting (stays : List (Option Candidate)) (waiting : List Candidate) (places : Places)
     : Type 0 where
   pub len : length stays ≡ length places
-  pub numbered : AllPairs (λ a b. a.number ≢ b.number) (held stays ++ waiting)
+  pub numbered : AllPairs (λ a b. a.number ≢ b.number) (all_held stays ++ waiting)
   pub on : AreOn stays places
   pub homed : All (IsAtHome places) waiting
 
@@ -51,7 +51,8 @@ pub record AreSeated (stays : List (Option Candidate)) (movers : List Candidate)
   pub seated : places ≡ seated_all movers (staying_on stays)
   pub staying : staying_on now ≡ places
   pub on : AreOn now places
-  pub same : IsPermutation (map bare (held now)) (map bare (held stays ++ movers))
+  pub same : IsPermutation (map without_home (all_held now))
+      (map without_home (all_held stays ++ movers))
 
 -- the task of the deadline and the number of c stays there
 abbrev pub is_there : Candidate → Option Candidate → Bool
@@ -60,8 +61,9 @@ is_there c (Some d) = is_same d c
 
 -- the task of the deadline and the number of c is there no more, and it is known whether it was;
 -- who stays and who waits is at home as before
-pub record HasLeft (c : Candidate) (stays : List (Option Candidate)) (waiting : List Candidate)
+pub record HasLeftWaiting (c : Candidate) (stays : List (Option Candidate))
+    (waiting : List Candidate)
     (now : List (Option Candidate)) (rest : List Candidate) (was : Bool) : Type 0 where
-  pub all : all_of now rest ≡ without_candidate c (all_of stays waiting)
-  pub there : was ≡ has_candidate c (all_of stays waiting)
+  pub all : all_waiting now rest ≡ without_candidate c (all_waiting stays waiting)
+  pub there : was ≡ has_candidate c (all_waiting stays waiting)
   pub is : (places : Places) → IsWaiting stays waiting places → IsWaiting now rest places

@@ -11,8 +11,8 @@ use Rattle.json_order.specs.declared.place.Part.TheVariants.{Minus, Zero, Whole,
 use Rattle.json_order.specs.declared.place.Escape.{Escape}
 
 -- from one place to the other, over the characters that stand before what is left
-abbrev pub Takes : Place → Place → List ℕ → List ℕ → Type 0
-Takes p q before after =
+abbrev pub TakesTo : Place → Place → List ℕ → List ℕ → Type 0
+TakesTo p q before after =
     (cs : List ℕ) × (before ≡ encode_utf8_all cs ++ after)
     × ((fs : List Frame) → run strict (Ok (state p fs)) cs ≡ Ok (state q fs))
 
@@ -26,8 +26,8 @@ MovesPlain old new before after =
 -- characters that stand before what is left
 abbrev pub TakesQuoted : List ℕ → Escape → List ℕ → Escape → List ℕ → List ℕ → Type 0
 TakesQuoted old e new f before after =
-    Takes (in_string old e) (in_string new f) before after
-    × ((es : Entries) → Takes (in_key es old e) (in_key es new f) before after)
+    TakesTo (in_string old e) (in_string new f) before after
+    × ((es : Entries) → TakesTo (in_key es old e) (in_key es new f) before after)
 
 -- how far a number is read behind these characters
 abbrev pub parts_after : Part → List ℕ → Option Part

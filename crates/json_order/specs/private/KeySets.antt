@@ -11,26 +11,26 @@ use Rattle.json_order.specs.Grammar.{has_key}
 use Rattle.json_order.specs.private.Marks.{mark_of}
 
 -- the key at this place, from 0, is this one
-abbrev pub named : List (List ℕ) → ℕ → List ℕ → Bool
-named [] n key = false
-named (k ∷ ks) zero key = bytes_eq k key
-named (k ∷ ks) (suc n) key = named ks n key
+abbrev pub is_key_named : List (List ℕ) → ℕ → List ℕ → Bool
+is_key_named [] n key = false
+is_key_named (k ∷ ks) zero key = bytes_eq k key
+is_key_named (k ∷ ks) (suc n) key = is_key_named ks n key
 
 -- the slot has the mark, and its member, by its number from 1, the key
-abbrev pub is_at : List (List ℕ) → ℕ → List ℕ → Slot → Bool
-is_at ks mark key s = (s.mark == mark) && named ks (s.number - 1) key
+abbrev pub is_key_at : List (List ℕ) → ℕ → List ℕ → Slot → Bool
+is_key_at ks mark key s = (s.mark == mark) && is_key_named ks (s.number - 1) key
 
 -- how many slots in front are taken
-abbrev pub taken : List Slot → ℕ
-taken [] = 0
-taken (s ∷ ss) = if s.number == 0 then 0 else suc (taken ss)
+abbrev pub slots_taken : List Slot → ℕ
+slots_taken [] = 0
+slots_taken (s ∷ ss) = if s.number == 0 then 0 else suc (slots_taken ss)
 
 -- whether the key stands in the taken slots in front, none where all are taken, and not by it
 abbrev pub finds : List Slot → List (List ℕ) → ℕ → List ℕ → Option Bool
 finds [] ks mark key = None
 finds (s ∷ ss) ks mark key =
     if s.number == 0 then Some false else
-    if is_at ks mark key s then Some true else finds ss ks mark key
+    if is_key_at ks mark key s then Some true else finds ss ks mark key
 
 -- the first slot for a mark, of so many
 abbrev pub start_of : ℕ → ℕ → ℕ

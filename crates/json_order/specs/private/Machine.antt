@@ -19,8 +19,8 @@ use Rattle.json_order.specs.declared.place.Part.TheVariants.{Minus, Zero, Whole,
 abbrev pub Entries : Type 0
 Entries = List (List ℕ × Json)
 
-abbrev pub keys : Entries → List (List ℕ)
-keys es = map (λ e. e.0) es
+abbrev pub entry_keys : Entries → List (List ℕ)
+entry_keys es = map (λ e. e.0) es
 
 -- where in a text the reader stands, apart from what is open around it
 pub data Place : Type 0 where
@@ -91,13 +91,13 @@ pub data Quote : Type 0 where
   going : List ℕ → Escape → Quote
   closed : List ℕ → Quote
 
-abbrev pub spelled : List ℕ → Option ℕ → Option Quote
-spelled text None = None
-spelled text (Some c) = Some (going (text ++ encode_utf8 c) Outside)
+abbrev pub quote_spelled : List ℕ → Option ℕ → Option Quote
+quote_spelled text None = None
+quote_spelled text (Some c) = Some (going (text ++ encode_utf8 c) Outside)
 
 abbrev pub first_unit : List ℕ → ℕ → Option Quote
 first_unit text n =
-    if is_high_surrogate n then Some (going text (High n)) else spelled text (Some n)
+    if is_high_surrogate n then Some (going text (High n)) else quote_spelled text (Some n)
 
 -- a hexadecimal digit of a unit
 abbrev pub digit_quote : List ℕ → Escape → ℕ → Option Quote
@@ -116,7 +116,7 @@ digit_quote text (Low0 h) d = if d == 0xD then Some (going text (Low1 h)) else N
 digit_quote text (Low1 h) d =
     if is_in_range 0xDC 0xDF (0xD0 + d) then Some (going text (Low2 h (0xD0 + d))) else None
 digit_quote text (Low2 h v) d = Some (going text (Low3 h (16 * v + d)))
-digit_quote text (Low3 h v) d = spelled text (Some (surrogate_pair_char h (16 * v + d)))
+digit_quote text (Low3 h v) d = quote_spelled text (Some (surrogate_pair_char h (16 * v + d)))
 
 abbrev pub hex_step : List ℕ → Escape → ℕ → Option Quote
 hex_step text e c = if nat_lt (digit_value c) 16 then digit_quote text e (digit_value c) else None
@@ -124,9 +124,9 @@ hex_step text e c = if nat_lt (digit_value c) 16 then digit_quote text e (digit_
 abbrev pub quote_step : List ℕ → Escape → ℕ → Option Quote
 quote_step text Outside c =
     if c == 34 then Some (closed text) else if c == 92 then Some (going text Slash)
-    else if nat_le 32 c then spelled text (Some c) else None
+    else if nat_le 32 c then quote_spelled text (Some c) else None
 quote_step text Slash c =
-    if c == 117 then Some (going text Unit0) else spelled text (short_escape c)
+    if c == 117 then Some (going text Unit0) else quote_spelled text (short_escape c)
 quote_step text Unit0 c = hex_step text Unit0 c
 quote_step text (Unit1 v) c = hex_step text (Unit1 v) c
 quote_step text (Unit2 v) c = hex_step text (Unit2 v) c
@@ -196,7 +196,7 @@ behind_move v fs c = if is_space c then goes (state (behind v) fs) else next_mov
 abbrev pub key_move : Entries → List Frame → Option Quote → Move
 key_move es fs None = stops
 key_move es fs (Some (going text e)) = goes (state (in_key es text e) fs)
-key_move es fs (Some (closed text)) = names (keys es) text (state (behind_key es text) fs)
+key_move es fs (Some (closed text)) = names (entry_keys es) text (state (behind_key es text) fs)
 
 abbrev pub string_move : List Frame → Option Quote → Move
 string_move fs None = stops
@@ -234,14 +234,15 @@ move (in_number text p) fs c = number_move text fs c (is_done p) (part_step p c)
 move (in_word ls v) fs c = word_move ls v fs c
 
 -- what the rules say to a move
-abbrev pub judged : Rules → Move → Result State JsonKind
-judged rules (goes s) = Ok s
-judged rules (opens s) = if nat_lt (length s.frames) rules.limit then Ok s else Err Depth
-judged rules (names earlier key s) = if may_follow rules earlier key then Ok s else Err Duplicate
-judged rules stops = Err Syntax
+abbrev pub under_rules : Rules → Move → Result State JsonKind
+under_rules rules (goes s) = Ok s
+under_rules rules (opens s) = if nat_lt (length s.frames) rules.limit then Ok s else Err Depth
+under_rules rules (names earlier key s) =
+    if may_follow rules earlier key then Ok s else Err Duplicate
+under_rules rules stops = Err Syntax
 
 abbrev pub step : Rules → State → ℕ → Result State JsonKind
-step rules s c = judged rules (move s.place s.frames c)
+step rules s c = under_rules rules (move s.place s.frames c)
 
 abbrev pub start : State
 start = state at_value []
@@ -256,18 +257,18 @@ run rules r [] = r
 run rules r (c ∷ cs) = run rules (run_on rules r c) cs
 
 -- the value of a text that ends in this state
-abbrev pub ended : Place → List Frame → Option Json
-ended at_value fs = None
-ended at_first_item fs = None
-ended (behind v) [] = Some v
-ended (behind v) (f ∷ fs) = None
-ended at_first_key fs = None
-ended (at_next_key es) fs = None
-ended (in_key es text e) fs = None
-ended (behind_key es key) fs = None
-ended (in_string text e) fs = None
-ended (in_number text p) [] = if is_done p then Some (number text) else None
-ended (in_number text p) (f ∷ fs) = None
-ended (in_word [] v) [] = Some v
-ended (in_word (l ∷ ls) v) [] = None
-ended (in_word ls v) (f ∷ fs) = None
+abbrev pub ended_value : Place → List Frame → Option Json
+ended_value at_value fs = None
+ended_value at_first_item fs = None
+ended_value (behind v) [] = Some v
+ended_value (behind v) (f ∷ fs) = None
+ended_value at_first_key fs = None
+ended_value (at_next_key es) fs = None
+ended_value (in_key es text e) fs = None
+ended_value (behind_key es key) fs = None
+ended_value (in_string text e) fs = None
+ended_value (in_number text p) [] = if is_done p then Some (number text) else None
+ended_value (in_number text p) (f ∷ fs) = None
+ended_value (in_word [] v) [] = Some v
+ended_value (in_word (l ∷ ls) v) [] = None
+ended_value (in_word ls v) (f ∷ fs) = None

@@ -44,40 +44,40 @@ Misses o Duplicate = ⊥
 Misses o Utf8 = ⊥
 
 -- members as keys and values
-abbrev pub entries_of : List (String Global × Tree) → Entries
-entries_of ms = map (λ m. (string_bytes m.0, json_of m.1)) ms
+abbrev pub entries_of_tree : List (String Global × Tree) → Entries
+entries_of_tree ms = map (λ m. (string_bytes m.0, json_of m.1)) ms
 
-abbrev pub place_of : CodePlace → Place
-place_of Value = at_value
-place_of FirstItem = at_first_item
-place_of (Behind t) = behind (json_of t)
-place_of FirstKey = at_first_key
-place_of (NextKey ms) = at_next_key (entries_of ms.list.items)
-place_of (Key ms s e) = in_key (entries_of ms.list.items) (string_bytes s) e
-place_of (Colon ms s) = behind_key (entries_of ms.list.items) (string_bytes s)
-place_of (Text s e) = in_string (string_bytes s) e
-place_of (Number s p) = in_number (string_bytes s) p
-place_of (WordPlace w n) = in_word (letters_from w n) (value_of w)
+abbrev pub code_place : CodePlace → Place
+code_place Value = at_value
+code_place FirstItem = at_first_item
+code_place (Behind t) = behind (json_of t)
+code_place FirstKey = at_first_key
+code_place (NextKey ms) = at_next_key (entries_of_tree ms.list.items)
+code_place (Key ms s e) = in_key (entries_of_tree ms.list.items) (string_bytes s) e
+code_place (Colon ms s) = behind_key (entries_of_tree ms.list.items) (string_bytes s)
+code_place (Text s e) = in_string (string_bytes s) e
+code_place (Number s p) = in_number (string_bytes s) p
+code_place (WordPlace w n) = in_word (letters_from w n) (value_of w)
 
 abbrev pub frame_of : CodeFrame → Frame
 frame_of (ListFrame v) = in_list (map json_of v.items)
-frame_of (ObjectFrame ms key) = in_object (entries_of ms.list.items) (string_bytes key)
+frame_of (ObjectFrame ms key) = in_object (entries_of_tree ms.list.items) (string_bytes key)
 
 -- the last frame of the stack is the innermost
 abbrev pub frames_of : List CodeFrame → List Frame
 frames_of fs = reverse (map frame_of fs)
 
-abbrev pub state_of : CodePlace → List CodeFrame → State
-state_of p fs = state (place_of p) (frames_of fs)
+abbrev pub code_state : CodePlace → List CodeFrame → State
+code_state p fs = state (code_place p) (frames_of fs)
 
 -- the reader's kind is that of the move, unless memory ran out
-abbrev pub Says : Result State JsonKind → JsonKind → Type 0
-Says o Memory = Unit {0}
-Says o Syntax = o ≡ Err Syntax
-Says o End = o ≡ Err End
-Says o Depth = o ≡ Err Depth
-Says o Duplicate = o ≡ Err Duplicate
-Says o Utf8 = o ≡ Err Utf8
+abbrev pub OutcomeSays : Result State JsonKind → JsonKind → Type 0
+OutcomeSays o Memory = Unit {0}
+OutcomeSays o Syntax = o ≡ Err Syntax
+OutcomeSays o End = o ≡ Err End
+OutcomeSays o Depth = o ≡ Err Depth
+OutcomeSays o Duplicate = o ≡ Err Duplicate
+OutcomeSays o Utf8 = o ≡ Err Utf8
 
 -- the innermost frame is that of an object
 abbrev pub IsInObject : List Frame → Type 0

@@ -17,23 +17,23 @@ Crosses depth s t before after =
     × ((fs : List Frame) → length fs + depth ≤ 16 → run strict (Ok (s fs)) cs ≡ Ok (t fs))
 
 -- the place behind a value, where a number's end is not yet seen
-abbrev pub IsBehind : Place → Json → Type 0
-IsBehind at_value v = ⊥
-IsBehind at_first_item v = ⊥
-IsBehind (behind w) v = w ≡ v
-IsBehind at_first_key v = ⊥
-IsBehind (at_next_key es) v = ⊥
-IsBehind (in_key es text e) v = ⊥
-IsBehind (behind_key es key) v = ⊥
-IsBehind (in_string text e) v = ⊥
-IsBehind (in_number text p) v = (is_done p ≡ true) × (number text ≡ v)
-IsBehind (in_word [] w) v = w ≡ v
-IsBehind (in_word (l ∷ ls) w) v = ⊥
+abbrev pub IsBehindValue : Place → Json → Type 0
+IsBehindValue at_value v = ⊥
+IsBehindValue at_first_item v = ⊥
+IsBehindValue (behind w) v = w ≡ v
+IsBehindValue at_first_key v = ⊥
+IsBehindValue (at_next_key es) v = ⊥
+IsBehindValue (in_key es text e) v = ⊥
+IsBehindValue (behind_key es key) v = ⊥
+IsBehindValue (in_string text e) v = ⊥
+IsBehindValue (in_number text p) v = (is_done p ≡ true) × (number text ≡ v)
+IsBehindValue (in_word [] w) v = w ≡ v
+IsBehindValue (in_word (l ∷ ls) w) v = ⊥
 
 -- the value stands in front
 abbrev pub ReadsValue : ℕ → Json → List ℕ → List ℕ → Type 0
 ReadsValue depth v before after =
-    (p : Place) × IsBehind p v × Crosses depth (state at_value) (state p) before after
+    (p : Place) × IsBehindValue p v × Crosses depth (state at_value) (state p) before after
 
 -- a number stands in front
 abbrev pub ReadsNumber : Json → List ℕ → List ℕ → Type 0
@@ -67,5 +67,5 @@ ReadsKey es key before after =
     Crosses 0 (before_key es) (λ fs. state at_value (in_object es key ∷ fs)) before after
 
 -- the whole text is read, and the reader stands behind this value
-abbrev pub IsWhole : List ℕ → Json → Type 0
-IsWhole text v = (p : Place) × IsBehind p v × Stands text (state p []) []
+abbrev pub IsWholeText : List ℕ → Json → Type 0
+IsWholeText text v = (p : Place) × IsBehindValue p v × Stands text (state p []) []

@@ -9,9 +9,9 @@ module _ {E : Type 0} where
   first_entries (p ∷ rest) = p.entries
 
   -- the entries of the first pass that some views have
-  abbrev pub entries_of : List (View E) → List E
-  entries_of [] = []
-  entries_of (v ∷ views) = first_entries v.passes
+  abbrev pub pass_entries : List (View E) → List E
+  pass_entries [] = []
+  pass_entries (v ∷ views) = first_entries v.passes
 
   -- the view of a pass
   abbrev pub pass_view : ℕ → List E → View E

@@ -1,17 +1,17 @@
 -- What an accounting keeps of the run that it heard.
 use Rattle.std.specs.Prelude.{ℕ, ◌≡◌, ◌-◌, ◌<◌, ◌≤◌, ◌^◌, List, length, map, All, AllPairs, IsTrue}
 use Rattle.std.specs.List.{range_with_len}
-use Rattle.domain_run.specs.Switches.{is_before}
+use Rattle.domain_run.specs.Switches.{is_switch_before}
 use Rattle.run_figures.specs.declared.told.Told.{Told}
 use Rattle.run_figures.specs.declared.ran.Ran.{Ran}
 use Rattle.run_figures.specs.declared.ran.Cpu.{Cpu}
 use Rattle.run_figures.specs.declared.accounting.Heard.{Heard}
 use Rattle.run_figures.specs.Accounting.{AccountingView}
-use Rattle.run_figures.specs.private.Telling.{told_by, IsWithin}
+use Rattle.run_figures.specs.private.Telling.{told_by, IsToldWithin}
 use Rattle.run_figures.specs.private.Running.{ran_by, cpu_by}
 
-abbrev pub view_of : Heard → List ℕ → AccountingView
-view_of h tasks = record {
+abbrev pub accounting_view_of : Heard → List ℕ → AccountingView
+accounting_view_of h tasks = record {
   cpus = h.cpus;
   time = h.time;
   tasks = tasks;
@@ -20,10 +20,10 @@ view_of h tasks = record {
 }
 
 -- its tables are what the definitions make of all that was heard
-pub record IsKept (a : AccountingView) (ts : List Told) (rs : List Ran) (cs : List Cpu)
+pub record IsAccountingKept (a : AccountingView) (ts : List Told) (rs : List Ran) (cs : List Cpu)
     : Type 0 where
   pub told : ts ≡ map (told_by a.time a.happened a.switches) a.tasks
-  pub within : All (IsWithin (length a.happened)) ts
+  pub within : All (IsToldWithin (length a.happened)) ts
   pub ran : rs ≡ map (ran_by a.time a.switches) a.tasks
   pub cpus : cs ≡ map (cpu_by a.time a.switches) (range_with_len 0 a.cpus)
 
@@ -33,6 +33,6 @@ pub record IsOfRun (a : AccountingView) : Type 0 where
   pub cpus : a.cpus ≤ 64
   pub past : All (λ s. s.time ≤ a.time) a.switches
   pub inside : All (λ s. s.cpu < a.cpus) a.switches
-  pub rising : AllPairs (λ a b. IsTrue (is_before a b)) a.switches
+  pub rising : AllPairs (λ a b. IsTrue (is_switch_before a b)) a.switches
   pub few_happened : length a.happened < 2 ^ 64 - 1
   pub few_switches : length a.switches < 2 ^ 64 - 1

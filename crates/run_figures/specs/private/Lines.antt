@@ -2,26 +2,26 @@
 use Rattle.std.specs.Prelude.{ℕ, ◌≤◌, ◌++◌, List, [], fold, None, IfSome}
 use Rattle.std.specs.Option.{option_to_list}
 use Rattle.domain_run.specs.declared.happened.Happened.{Happened}
-use Rattle.run_figures.specs.Jobs.{over_by, under_way}
-use Rattle.run_figures.specs.private.LineView.{LineView}
+use Rattle.run_figures.specs.Jobs.{over_by, job_after}
+use Rattle.run_figures.specs.private.LineView.{JobLineView}
 use Rattle.run_figures.specs.Places.{if_number}
 
-abbrev pub line_after : Happened → LineView → LineView
+abbrev pub line_after : Happened → JobLineView → JobLineView
 line_after h l = record {
   number = l.number;
   over = l.over ++ option_to_list (over_by h.time h.what l.job);
-  job = under_way h.time h.what l.job;
+  job = job_after h.time h.what l.job;
 }
 
-abbrev pub line_if : LineView → Happened → LineView
+abbrev pub line_if : JobLineView → Happened → JobLineView
 line_if l h = if_number (λ l. l.number) h.number (line_after h) l
 
-abbrev pub line_all : List Happened → LineView → LineView
+abbrev pub line_all : List Happened → JobLineView → JobLineView
 line_all hs l = fold line_if l hs
 
-abbrev pub no_line : ℕ → LineView
+abbrev pub no_line : ℕ → JobLineView
 no_line number = record { number = number; over = []; job = None }
 
 -- throttled at most so often
-abbrev pub IsLineWithin : ℕ → LineView → Type 0
+abbrev pub IsLineWithin : ℕ → JobLineView → Type 0
 IsLineWithin n l = IfSome l.job (λ j. j.throttled ≤ n)

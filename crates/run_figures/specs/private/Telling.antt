@@ -9,9 +9,9 @@ use Rattle.run_figures.specs.declared.counting.Ended.{Ended}
 use Rattle.run_figures.specs.declared.counting.Counts.{Counts}
 use Rattle.run_figures.specs.declared.throttle.Throttle.{Throttle}
 use Rattle.run_figures.specs.declared.told.Told.{Told}
-use Rattle.run_figures.specs.Jobs.{over_by, under_way}
+use Rattle.run_figures.specs.Jobs.{over_by, job_after}
 use Rattle.run_figures.specs.Figures.{Outcome, outcome_at, is_late}
-use Rattle.run_figures.specs.Stays.{is_task}
+use Rattle.edf_pick.specs.Places.{is_task}
 use Rattle.run_figures.specs.Throttling.{throttles, frees, wants_it, preempts, preemptions}
 use Rattle.run_figures.specs.Places.{if_number}
 
@@ -66,20 +66,20 @@ throttle_by time what t =
 -- A TASK, where the run ends at this time
 abbrev pub told_after : ℕ → Happened → Told → Told
 told_after time h t = record t {
-  job = under_way h.time h.what t.job;
+  job = job_after h.time h.what t.job;
   counts = with_over time t.counts (over_by h.time h.what t.job);
   throttle = throttle_by h.time h.what t.throttle;
 }
 
-abbrev pub told_if : ℕ → Told → Happened → Told
-told_if time t h = if_number (λ t. t.number) h.number (told_after time h) t
+abbrev pub told_to_task : ℕ → Told → Happened → Told
+told_to_task time t h = if_number (λ t. t.number) h.number (told_after time h) t
 
 abbrev pub told_all : ℕ → List Happened → Told → Told
-told_all time hs t = fold (told_if time) t hs
+told_all time hs t = fold (told_to_task time) t hs
 
 -- nothing is told yet
-abbrev pub untold : ℕ → Told
-untold number = record {
+abbrev pub nothing_told : ℕ → Told
+nothing_told number = record {
   number = number;
   job = None;
   counts = record { ended = None; late = 0 };
@@ -93,12 +93,12 @@ pub record IsWithinEnded (n : ℕ) (e : Ended) : Type 0 where
   pub count : e.count ≤ n
   pub total : e.total ≤ n * 2 ^ 64
 
-pub record IsUnderWay (n : ℕ) (j : Job) : Type 0 where
+pub record IsJobUnderWay (n : ℕ) (j : Job) : Type 0 where
   pub throttled : j.throttled ≤ n
   pub going : j.ended ≡ None
 
-pub record IsWithin (n : ℕ) (t : Told) : Type 0 where
-  pub job : IfSome t.job (IsUnderWay n)
+pub record IsToldWithin (n : ℕ) (t : Told) : Type 0 where
+  pub job : IfSome t.job (IsJobUnderWay n)
   pub ended : IfSome t.counts.ended (IsWithinEnded n)
   pub late : t.counts.late ≤ n
   pub times : t.throttle.times ≤ n
@@ -108,7 +108,7 @@ pub record IsWithin (n : ℕ) (t : Told) : Type 0 where
 pub record HaveRoomFor (n : ℕ) (ts : List Told) : Type 0 where
   pub used : ℕ
   pub fits : used + n < 2 ^ 64
-  pub within : All (IsWithin used) ts
+  pub within : All (IsToldWithin used) ts
 
 -- A SWITCH
 abbrev pub leaver_wanting : Switch → Option ℕ
@@ -122,12 +122,12 @@ with_preemption s t =
 -- what happened up to a place, and the switches up to a place
 abbrev pub so_far : ℕ → List Happened → List Switch → ℕ → ℕ → ℕ → Told
 so_far time happened switches j k number = record
-    (told_all time (take j happened) (untold number)) {
+    (told_all time (take j happened) (nothing_told number)) {
       preempted = count_by (preempts happened number) (take k switches);
     }
 
 -- all that happened, and all switches
 abbrev pub told_by : ℕ → List Happened → List Switch → ℕ → Told
-told_by time happened switches number = record (told_all time happened (untold number)) {
+told_by time happened switches number = record (told_all time happened (nothing_told number)) {
   preempted = preemptions happened switches number;
 }

@@ -14,10 +14,11 @@ abbrev pub own_tasks : ℕ → ℕ → List TaskSpecView → List TaskSpecView
 own_tasks n i tasks = filter (is_own_task n i) tasks
 
 -- each task with its answer
-abbrev pub answered : List TaskSpecView → List Answer → List Asked
-answered [] answers = []
-answered (t ∷ tasks) [] = []
-answered (t ∷ tasks) (a ∷ answers) = record { task = t; answer = a } ∷ answered tasks answers
+abbrev pub with_answers : List TaskSpecView → List Answer → List Asked
+with_answers [] answers = []
+with_answers (t ∷ tasks) [] = []
+with_answers (t ∷ tasks) (a ∷ answers) =
+    record { task = t; answer = a } ∷ with_answers tasks answers
 
 -- there is an answer for each
 abbrev pub AreAnswers : ℕ → ℕ → List TaskSpecView → List Answer → Type 0
@@ -28,7 +29,7 @@ AreAnswers n i tasks answers = length answers ≡ length (own_tasks n i tasks)
 pub record AsksOwn (id : SessionId) (n i : ℕ) (tasks : List TaskSpecView) (c c' : ClientView)
     (answers : List Answer) : Type 0 where
   pub each : AreAnswers n i tasks answers
-  pub asks : Asks id c c' (answered (own_tasks n i tasks) answers)
+  pub asks : Asks id c c' (with_answers (own_tasks n i tasks) answers)
 
 -- a client at its place among so many, with room for so many answers
 pub record SeatView : Type 0 where
@@ -54,7 +55,7 @@ pub record IsSeat (tasks : List TaskSpecView) (n i : ℕ) (c : ClientView)
   pub room : HasRoom tasks s
 
 -- the clients in their order, each at its place
-pub record AreSeats (tasks : List TaskSpecView) (clients : List ClientView)
+pub record HaveSeats (tasks : List TaskSpecView) (clients : List ClientView)
     (seats : List SeatView) : Type 0 where
   pub count : length seats ≡ length clients
   pub each : (i : ℕ) (x : ClientView) (s : SeatView) → i < length clients
@@ -78,4 +79,4 @@ pub record IsUnion (tasks : List TaskSpecView) (shares : List (List Answer))
   pub refused_are : refused ≡ refused_in asked
   pub own : (i : ℕ) (x : List Answer) → i < length shares
       → own_asked (length shares) i asked
-      ≡ answered (own_tasks (length shares) i tasks) (slice_index_or shares i x)
+      ≡ with_answers (own_tasks (length shares) i tasks) (slice_index_or shares i x)

@@ -1,6 +1,6 @@
 -- What comes home at a session's end.
 use Rattle.std.specs.Prelude.{◌≡◌, ℕ, ◌*◌, ◌<◌, ◌≤◌, List, [], length, All, vec_capacity, slice_index_or}
-use Rattle.bw_gate.specs.Pieces.{GateId, TicketView, sum_of}
+use Rattle.bw_gate.specs.Pieces.{GateId, TicketView, bw_of_tickets}
 use Rattle.domain_run.specs.Domain.{Domain}
 use Rattle.domain_run.specs.Run.{run_of}
 use Rattle.calls_text.specs.SectionView.{SectionView}
@@ -24,7 +24,7 @@ AreHistories id clients histories =
 abbrev pub AreSums : List SectionView → List TicketView → Type 0
 AreSums histories tickets =
     (d : ℕ) (x : SectionView) → d < length histories
-    → sum_of d tickets ≡ sum_left (slice_index_or histories d x)
+    → bw_of_tickets d tickets ≡ sum_left (slice_index_or histories d x)
 
 -- what a closed book leaves: its history, and the state that this leads to, without its switches
 -- where they were heard
@@ -41,7 +41,7 @@ pub record HaveEnded (books : List EndingView) (histories : List SectionView)
       (slice_index_or states d x)
 
 -- nothing yet, with room for the end of so many domains
-pub record IsRoom (domains : ℕ) (r : Room) : Type 0 where
+pub record IsClosingRoom (domains : ℕ) (r : Room) : Type 0 where
   pub no_tickets : r.tickets.items ≡ []
   pub no_histories : r.histories.items ≡ []
   pub no_states : r.states.items ≡ []

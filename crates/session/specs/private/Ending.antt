@@ -11,7 +11,7 @@ use Rattle.call_book.specs.Ending.{EndingView}
 use Rattle.session.specs.declared.ending_run.Told.{Told}
 use Rattle.session.specs.declared.report.Wanted.{Wanted}
 use Rattle.session.specs.declared.report.Wanted.TheVariants.{Switches, Happened as WhatHappened, Figures}
-use Rattle.session.specs.Asks.{ClientView, Makes, made_by, pass_in}
+use Rattle.session.specs.Asks.{ClientView, Makes, made_by, client_pass_in}
 use Rattle.session.specs.RunEnd.{EndsWith, IsLogOf, told_at_end}
 
 -- a client has entered one advance of so many ticks, all made, in a domain, and nothing else
@@ -63,19 +63,19 @@ pub record IsFullAmong (duration : ℕ) (books : List BookView) (c c' : ClientVi
   pub place : domain < length books
   pub full : (b : BookView) → IsFull (slice_index_or books domain b)
   pub number : c'.number ≡ c.number
-  pub kept : pass_in c' domain ≡ pass_in c domain
+  pub kept : client_pass_in c' domain ≡ client_pass_in c domain
 
 -- ---- books at their end
 
-abbrev pub unheard : BookView → EndingView
-unheard b = record { book = b; heard = false }
+abbrev pub unheard_ending : BookView → EndingView
+unheard_ending b = record { book = b; heard = false }
 
 abbrev pub books_of : List EndingView → List BookView
 books_of books = map (λ e. e.book) books
 
 -- all of them were heard, or none was
-abbrev pub AreAll : Bool → List EndingView → Type 0
-AreAll heard books =
+abbrev pub AreAllHeard : Bool → List EndingView → Type 0
+AreAllHeard heard books =
     (d : ℕ) (e : EndingView) → d < length books → (slice_index_or books d e).heard ≡ heard
 
 -- all that an accounting heard of the run of a book whose last so many ticks were heard
@@ -92,8 +92,8 @@ pub record AreHeardEnds (ticks : ℕ) (books : List BookView)
 -- what is told of them, by what is wanted
 abbrev pub AreToldAs : ℕ → Wanted → List EndingView → Told → Type 0
 AreToldAs ticks Switches books t =
-    AreAll false books × AreEndLogs false ticks (books_of books) t.logs.items
+    AreAllHeard false books × AreEndLogs false ticks (books_of books) t.logs.items
 AreToldAs ticks WhatHappened books t =
-    AreAll false books × AreEndLogs true ticks (books_of books) t.logs.items
+    AreAllHeard false books × AreEndLogs true ticks (books_of books) t.logs.items
 AreToldAs ticks Figures books t =
-    AreAll true books × AreHeardEnds ticks (books_of books) t.heard.items
+    AreAllHeard true books × AreHeardEnds ticks (books_of books) t.heard.items

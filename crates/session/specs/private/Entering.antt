@@ -18,7 +18,7 @@ use Rattle.call_book.specs.Book.{BookView, IsMember, IsFull, AdmissionView, admi
 use Rattle.session.specs.declared.refusal.Refusal.TheVariants as refusals
 use Rattle.session.specs.declared.locked_book.Ask.{Ask}
 use Rattle.session.specs.declared.locked_book.Ask.TheVariants as asks
-use Rattle.session.specs.SessionId.{SessionId, cpus_of, spine_of, IsDomainIndex}
+use Rattle.session.specs.SessionId.{SessionId, cpu_set_of, spine_of, IsDomainIndex}
 use Rattle.session.specs.Asks.{Answer, ClientView, Makes, made_by, IsOverCap, IsRegradeReply, MakesRegrade, IsLimitReply, MakesAdvance, RefusesOnlyFull, RefusesOnlyFullOrMemory}
 
 -- the book of a domain of the session
@@ -26,7 +26,7 @@ pub record IsSessionBook (id : SessionId) (d : ℕ) (b : BookView) : Type 0 wher
   pub gate : b.gate ≡ id.gate
   pub domain : b.domain ≡ d
   pub spine : b.spine ≡ spine_of id d
-  pub cpus : b.cpus ≡ length (cpus_of id d)
+  pub cpus : b.cpus ≡ length (cpu_set_of id d)
   pub limit : b.limit ≡ id.limit
   pub clients : b.clients ≡ id.clients
   pub room : b.room ≡ id.max_calls
@@ -73,15 +73,15 @@ IsBookVerdict cpus bw (Err refusals.Twice) = Unit {0}
 IsBookVerdict cpus bw (Err _) = ⊥
 
 -- and by the gate before it, or for want of memory
-abbrev pub IsVerdict : ℕ → ℕ → Answer → Type 0
-IsVerdict cpus bw (Ok replies.Admitted) = Unit {0}
-IsVerdict cpus bw (Ok (replies.Busy seen)) = IsOverCap cpus bw seen
-IsVerdict cpus bw (Ok _) = ⊥
-IsVerdict cpus bw (Err refusals.Full) = Unit {0}
-IsVerdict cpus bw (Err refusals.Twice) = Unit {0}
-IsVerdict cpus bw (Err refusals.Enomem) = Unit {0}
-IsVerdict cpus bw (Err (refusals.Busy seen)) = IsOverCap cpus bw seen
-IsVerdict cpus bw (Err _) = ⊥
+abbrev pub IsEntryVerdict : ℕ → ℕ → Answer → Type 0
+IsEntryVerdict cpus bw (Ok replies.Admitted) = Unit {0}
+IsEntryVerdict cpus bw (Ok (replies.Busy seen)) = IsOverCap cpus bw seen
+IsEntryVerdict cpus bw (Ok _) = ⊥
+IsEntryVerdict cpus bw (Err refusals.Full) = Unit {0}
+IsEntryVerdict cpus bw (Err refusals.Twice) = Unit {0}
+IsEntryVerdict cpus bw (Err refusals.Enomem) = Unit {0}
+IsEntryVerdict cpus bw (Err (refusals.Busy seen)) = IsOverCap cpus bw seen
+IsEntryVerdict cpus bw (Err _) = ⊥
 
 -- the book of the same domain, with other entries and pieces
 pub record SameBook (old new : BookView) : Type 0 where
@@ -182,13 +182,13 @@ IsAdvancedBy p q n (Err _) = ⊥
 abbrev pub IsDone : SessionId → ℕ → PassView Entry → PassView Entry → Ask → Answer
     → Option BlankView → Type 0
 IsDone id d p q (asks.Admit prepared ticket) answer blank =
-    IsOffered (length (cpus_of id d)) p q prepared answer
+    IsOffered (length (cpu_set_of id d)) p q prepared answer
 IsDone id d p q (asks.Regrade number params) answer blank =
-    IsRegradedBy id.gate d (length (cpus_of id d)) id.limit p q number params answer
+    IsRegradedBy id.gate d (length (cpu_set_of id d)) id.limit p q number params answer
 IsDone id d p q (asks.Wake number) answer blank = IsReplied p q (calls.Wake number) answer
 IsDone id d p q (asks.Leave number) answer blank = IsReplied p q (calls.Leave number) answer
 IsDone id d p q (asks.Limit piece limit) answer blank =
-    IsLimitedBy d (length (cpus_of id d)) id.limit p q piece limit answer blank
+    IsLimitedBy d (length (cpu_set_of id d)) id.limit p q piece limit answer blank
 
 -- ---- what it comes to for a client
 
@@ -198,13 +198,13 @@ pub record MakesLimitWith (id : SessionId) (c e : ClientView) (d limit : ℕ) (p
   pub word : Option ℕ
   pub made : Makes c e (made_by d (calls.Limit limit word) answer)
   pub reply : IfOk answer
-      (IsLimitReply d (length (cpus_of id d)) id.limit limit piece word e.hand)
+      (IsLimitReply d (length (cpu_set_of id d)) id.limit limit piece word e.hand)
   pub unasked : IfErr answer (λ _. e.hand ≡ Some piece)
 
 abbrev pub IsDoneFor : SessionId → ℕ → ClientView → ClientView → Ask → Answer → Type 0
 IsDoneFor id d c e (asks.Admit prepared ticket) answer =
     Makes c e (made_by d (admission prepared) answer)
-    × IsBookVerdict (length (cpus_of id d)) prepared.params.bw answer
+    × IsBookVerdict (length (cpu_set_of id d)) prepared.params.bw answer
     × IsGivenBack ticket answer e.hand
 IsDoneFor id d c e (asks.Regrade number params) answer =
     MakesRegrade id c e d number params answer × RefusesOnlyFull answer

@@ -11,12 +11,12 @@ use Rattle.call_book.specs.declared.book.domain.moving.MoveFault.TheVariants as 
 use Rattle.call_book.specs.Pieces.{IsTicketOf}
 use Rattle.domain_run.specs.Calls.{reply_to}
 use Rattle.call_book.specs.Book.{BookView, AdmissionView, IsMember, IsFull, state_of, with_entry}
-use Rattle.call_book.specs.MoveAnswers.{moving_as, arrival, HasRoom, IsAsPrepared, IsStale, LacksRoom}
+use Rattle.call_book.specs.MoveAnswers.{moving_as, arrival, BothHaveRoom, IsAsPrepared, IsStale, LacksRoom}
 use Rattle.session.specs.declared.refusal.Refusal.{Refusal}
 use Rattle.session.specs.declared.refusal.Refusal.TheVariants as refusals
-use Rattle.session.specs.SessionId.{SessionId, cpus_of, spine_of}
+use Rattle.session.specs.SessionId.{SessionId, cpu_set_of, spine_of}
 use Rattle.session.specs.Asks.{IsOverCap, ClientView, Makes}
-use Rattle.session.specs.Moves.{moved, WasListed, WouldReply, WasChanged}
+use Rattle.session.specs.Moves.{calls_of_move, WasListed, WouldReply, WasChanged}
 use Rattle.session.specs.private.Entering.{IsPassAt}
 
 -- ---- what a move needs
@@ -80,7 +80,7 @@ IsWhyRefused id from to a (refusals.Stale now) = WasChanged id from a.number (mo
 IsWhyRefused id from to a refusals.Twice = WouldReply id to (arrival a) replies.Twice
 IsWhyRefused id from to a (refusals.Busy seen) =
     WouldReply id to (arrival a) (replies.Busy seen)
-    × IsOverCap (length (cpus_of id to)) a.params.bw seen
+    × IsOverCap (length (cpu_set_of id to)) a.params.bw seen
 IsWhyRefused id from to a _ = ⊥
 
 -- the same of the two books as they were, by the tests in their order
@@ -89,18 +89,18 @@ abbrev pub IsWhyNotMoved : {T : Type 0} → BookView → BookView → AdmissionV
 IsWhyNotMoved from to a (Err refusals.Full) =
     IsFull from ⊎ IsFull to ⊎ (reply_to (state_of to) (arrival a) ≡ replies.Full)
 IsWhyNotMoved from to a (Err refusals.Esrch) =
-    HasRoom from to a × (reply_to (state_of from) (Depart a.number) ≡ replies.NotListed)
-IsWhyNotMoved from to a (Err (refusals.Stale now)) = HasRoom from to a × IsStale from a now
+    BothHaveRoom from to a × (reply_to (state_of from) (Depart a.number) ≡ replies.NotListed)
+IsWhyNotMoved from to a (Err (refusals.Stale now)) = BothHaveRoom from to a × IsStale from a now
 IsWhyNotMoved from to a (Err refusals.Twice) =
-    HasRoom from to a × IsAsPrepared from a
+    BothHaveRoom from to a × IsAsPrepared from a
     × (reply_to (state_of to) (arrival a) ≡ replies.Twice)
 IsWhyNotMoved from to a (Err (refusals.Busy seen)) =
-    HasRoom from to a × IsAsPrepared from a × LacksRoom to a seen
+    BothHaveRoom from to a × IsAsPrepared from a × LacksRoom to a seen
 IsWhyNotMoved from to a (Err _) = ⊥
 IsWhyNotMoved from to a (Ok _) = IsAsPrepared from a
 
 -- neither has an entry, and the new ticket was given back
-pub record IsRefusedBy (id : SessionId) (from to : ℕ) (old new : PassPair) (a : AdmissionView)
+pub record IsMoveRefusedBy (id : SessionId) (from to : ℕ) (old new : PassPair) (a : AdmissionView)
     (ticket : TicketView) (blank : BlankView) (refusal : Refusal) : Type 0 where
   pub same : new ≡ old
   pub given : IsGive ticket blank
@@ -110,7 +110,7 @@ abbrev pub IsBooksAnswer : {T : Type 0} → SessionId → ℕ → ℕ → PassPa
     → TicketView → BlankView → Result T Refusal → Type 0
 IsBooksAnswer id from to old new a ticket blank (Ok _) = IsMovedBy id from to old new a blank
 IsBooksAnswer id from to old new a ticket blank (Err refusal) =
-    IsRefusedBy id from to old new a ticket blank refusal
+    IsMoveRefusedBy id from to old new a ticket blank refusal
 
 -- ---- among all passes of a client
 
@@ -133,7 +133,7 @@ pub record PassesMove {T : Type 0} (id : SessionId) (from to : ℕ) (old new : L
 
 pub record HasMovedFor (id : SessionId) (from to : ℕ) (c e : ClientView) (a : AdmissionView)
     : Type 0 where
-  pub made : Makes c e (moved a.number (moving_as a) from to)
+  pub made : Makes c e (calls_of_move a.number (moving_as a) from to)
   pub listed : WasListed id from a.number (moving_as a)
   pub ticket : TicketView
   pub own : IsTicketOf id.gate from ticket

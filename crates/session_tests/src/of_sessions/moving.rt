@@ -354,8 +354,8 @@ fn counted(first: &[u64; 100], second: &[u64; 100]) -> ((u64, u64), usize, usize
     (sums, one, both)
 }
 
-// Whether each word is the sum of its domain's tasks, each task that was admitted is listed in one domain,
-// and every piece came home.
+// Whether each word is the sum of its domain's tasks, each task that was admitted is listed in one
+// domain, and every piece came home.
 fn agree(report: &Report, many: u32) -> bool {
     let [first, second] = report.histories.as_slice() else {
         return false;

@@ -11,8 +11,8 @@ use Rattle.switch_text.specs.Trace.{Entry}
 use Rattle.switch_text.specs.Runs.{views}
 use Rattle.switch_text.specs.Events.{Event, in_sequence, lines_of_events}
 use Rattle.switch_text.specs.Telling.{told_views}
-use Rattle.switch_text.specs.private.Merging.{left_of, stepped, next_entry, IsPrinted, IsRunAt}
-use Rattle.switch_text.specs.private.ToldMerging.{is_shown, left_told, count_left, next_told_event, IsShown}
+use Rattle.switch_text.specs.private.Merging.{entries_left, places_stepped, next_entry, IsPrinted, IsRunAt}
+use Rattle.switch_text.specs.private.ToldMerging.{is_line_told, left_told, count_left, next_told_event, IsShown}
 
 -- how far each domain has gone, in its switches and in what happens
 pub record EventPlaces : Type 0 where
@@ -29,36 +29,40 @@ of_entry e = record { time = e.time; rank = 7; cpu = e.cpu; number = 0; line = e
 -- what happens, and then the switches, of each domain from its places on
 abbrev pub left_events : List Run → List Told → EventPlaces → List Event
 left_events runs told p = left_told (told_views told) p.told
-    ++ map of_entry (left_of (views runs) p.switches)
+    ++ map of_entry (entries_left (views runs) p.switches)
 
 -- how much is left, cuts too
 abbrev pub count_events : List Run → List Told → EventPlaces → ℕ
 count_events runs told p = count_left (told_views told) p.told + length
-    (left_of (views runs) p.switches)
+    (entries_left (views runs) p.switches)
 
 -- the places behind the next
 abbrev pub after_next : EventPlaces → NextEvent → EventPlaces
-after_next p (NextEvent.Told n) = record { switches = p.switches; told = stepped p.told n.index }
-after_next p (NextEvent.Switch n) = record { switches = stepped p.switches n.index; told = p.told }
+after_next p (NextEvent.Told n) =
+    record { switches = p.switches; told = places_stepped p.told n.index }
+after_next p (NextEvent.Switch n) =
+    record { switches = places_stepped p.switches n.index; told = p.told }
 
 -- the line of the next, where it has one
 abbrev pub line_of_next : NextEvent → List ℕ
-line_of_next (NextEvent.Told n) = if is_shown n.happened.now then (next_told_event n).line else []
+line_of_next (NextEvent.Told n) =
+    if is_line_told n.happened.now then (next_told_event n).line else []
 line_of_next (NextEvent.Switch n) = (next_entry n).line
 
 -- what happens goes before a switch of its time or of a later one, and a cut at once
 abbrev pub goes_first : NextTold → Next → Bool
-goes_first n s = not (is_shown n.happened.now) || not (nat_lt s.switch.now.time n.happened.now.time)
+goes_first n s =
+    not (is_line_told n.happened.now) || not (nat_lt s.switch.now.time n.happened.now.time)
 
-abbrev pub first_of : Option NextTold → Option Next → Option NextEvent
-first_of None None = None
-first_of None (Some s) = Some (NextEvent.Switch s)
-first_of (Some n) None = Some (NextEvent.Told n)
-first_of (Some n) (Some s) = if goes_first n s then Some (NextEvent.Told n)
+abbrev pub first_event_of : Option NextTold → Option Next → Option NextEvent
+first_event_of None None = None
+first_event_of None (Some s) = Some (NextEvent.Switch s)
+first_event_of (Some n) None = Some (NextEvent.Told n)
+first_event_of (Some n) (Some s) = if goes_first n s then Some (NextEvent.Told n)
     else Some (NextEvent.Switch s)
 
 -- the line goes first, and then the lines of what is left behind it
-pub record IsStep (before after : List Event) (line : List ℕ) : Type 0 where
+pub record IsEventStep (before after : List Event) (line : List ℕ) : Type 0 where
   pub lines : lines_of_events (in_sequence before) ≡ line ++ lines_of_events (in_sequence after)
   pub count : length line ≤ 512 → length line + 512 * length after ≤ 512 * length before
 
@@ -69,12 +73,12 @@ CanStep p (NextEvent.Switch n) = (n.index < 8) × (slice_index p.switches n.inde
 
 -- its line, if it has one, can be made
 abbrev pub CanShow : List Run → NextEvent → Type 0
-CanShow runs (NextEvent.Told n) = IsTrue (is_shown n.happened.now) → IsShown n
+CanShow runs (NextEvent.Told n) = IsTrue (is_line_told n.happened.now) → IsShown n
 CanShow runs (NextEvent.Switch n) = IsPrinted n × IsRunAt runs n
 
 pub record IsNextEvent (runs : List Run) (told : List Told) (p : EventPlaces) (n : NextEvent)
     : Type 0 where
-  pub step : IsStep (left_events runs told p) (left_events runs told (after_next p n))
+  pub step : IsEventStep (left_events runs told p) (left_events runs told (after_next p n))
       (line_of_next n)
   pub smaller : count_events runs told (after_next p n) < count_events runs told p
   pub places : CanStep p n

@@ -10,21 +10,21 @@ use Rattle.switch_text.specs.declared.ready.Middles.{Middles}
 use Rattle.switch_text.specs.declared.ready.Lane.{Lane}
 use Rattle.switch_text.specs.declared.piece.ShortPiece.{ShortPiece}
 use Rattle.switch_text.specs.declared.ready.Texts.{Texts}
-use Rattle.switch_text.specs.Names.{named, SameNames}
+use Rattle.switch_text.specs.Names.{name_of_task, SameNames}
 use Rattle.switch_text.specs.Line.{task_part, cpu_part}
 use Rattle.switch_text.specs.private.Parts.{second_part, leaving_part, state_part, coming_part}
-use Rattle.switch_text.specs.private.Pieces.{text_of, short_text_of}
+use Rattle.switch_text.specs.private.Pieces.{piece_text, short_text_of}
 
 -- the texts of a task, or of an idle CPU
-pub record IsReady (names : ℕ → List ℕ) (cpu : ℕ) (task : Option ℕ) (s : Slot) : Type 0 where
+pub record IsSlotReady (names : ℕ → List ℕ) (cpu : ℕ) (task : Option ℕ) (s : Slot) : Type 0 where
   pub head : short_text_of s.head ≡ task_part names task
-  pub leaving : text_of s.leaving ≡ leaving_part names cpu task
-  pub coming : text_of s.coming ≡ coming_part names cpu task
+  pub leaving : piece_text s.leaving ≡ leaving_part names cpu task
+  pub coming : piece_text s.coming ≡ coming_part names cpu task
 
 -- how the tasks of a run, by its place among the runs, are named
 abbrev pub names_at : List Run → ℕ → ℕ → List ℕ
 names_at [] i = λ number. []
-names_at (r ∷ runs) zero = named r.names.now
+names_at (r ∷ runs) zero = name_of_task r.names.now
 names_at (r ∷ runs) (suc i) = names_at runs i
 
 -- on this CPU of the machine, a task of this run, or the idle task
@@ -33,16 +33,16 @@ who_of run cpu None = Idle cpu
 who_of run cpu (Some number) = Task run number
 
 -- by the place of their run and their number, the tasks that leave and come there are named so
-abbrev pub AreNamed : (ℕ → ℕ → List ℕ) → List Run → Type 0
-AreNamed names runs = (i : ℕ) (r : Run) → i < length runs → r ≡ slice_index_or runs i r
-    → All (SameNames (named r.names.now) (names i)) r.switches.now
+abbrev pub RunsHaveNames : (ℕ → ℕ → List ℕ) → List Run → Type 0
+RunsHaveNames names runs = (i : ℕ) (r : Run) → i < length runs → r ≡ slice_index_or runs i r
+    → All (SameNames (name_of_task r.names.now) (names i)) r.switches.now
 
 -- the texts are those of whom they name: an idle task has no name of a run, and a task's name is
 -- the same on each CPU
 abbrev pub IsFor : (ℕ → ℕ → List ℕ) → Who → Slot → Type 0
 IsFor names Nobody s = Unit {0}
-IsFor names (Idle cpu) s = (others : ℕ → List ℕ) → IsReady others cpu None s
-IsFor names (Task run number) s = (cpu : ℕ) → IsReady (names run) cpu (Some number) s
+IsFor names (Idle cpu) s = (others : ℕ → List ℕ) → IsSlotReady others cpu None s
+IsFor names (Task run number) s = (cpu : ℕ) → IsSlotReady (names run) cpu (Some number) s
 
 -- so many places are there at least
 abbrev pub fewest : ℕ

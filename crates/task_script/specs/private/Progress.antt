@@ -1,11 +1,11 @@
 -- How far a cursor is in its script, for the code's own contracts.
 use Rattle.std.specs.Prelude.{ℕ, zero, suc, ◌≡◌, ◌+◌, ◌*◌, ◌<◌, ◌≤◌, Bool, false, nat_le, if◌then◌else◌, List, [], ◌∷◌, length, slice_get, Option, Some, None, IfSome}
 use Rattle.task_script.specs.declared.progress.Progress.{Progress}
-use Rattle.task_script.specs.declared.script.Event.{Event}
+use Rattle.task_script.specs.declared.phase.Event.{Event}
 use Rattle.task_script.specs.script.ScriptView.{PhaseView, ScriptView, CursorView, IsScript, IsEvent, IsCursor, phase_len, round_len}
 use Rattle.task_script.specs.script.Unrolled.{event_at}
-use Rattle.task_script.specs.private.Steps.{laps_at, first_of}
-use Rattle.task_script.specs.script.Segments.{first_place, kept_cursor, moved, is_late}
+use Rattle.task_script.specs.private.Steps.{laps_at, first_step_of}
+use Rattle.task_script.specs.script.Segments.{first_place, kept_cursor, at_next_event, is_timer_over}
 
 -- how many events of a round are behind: those of so many phases, and in the next phase those of so
 -- many laps, and so many of the lap after them
@@ -15,13 +15,13 @@ events_behind (p ∷ ps) zero lap event = lap * length p.events + event
 events_behind (p ∷ ps) (suc phase) lap event = phase_len p + events_behind ps phase lap event
 
 -- the place to which the counters come
-abbrev pub place_of : ScriptView → Progress → ℕ
-place_of s p = p.round * round_len s + events_behind s.phases p.phase p.lap p.event
+abbrev pub progress_place : ScriptView → Progress → ℕ
+progress_place s p = p.round * round_len s + events_behind s.phases p.phase p.lap p.event
 
 -- the rounds are all behind; without a number they never are
-abbrev pub is_over : Option ℕ → ℕ → Bool
-is_over None round = false
-is_over (Some n) round = nat_le n round
+abbrev pub is_last_round : Option ℕ → ℕ → Bool
+is_last_round None round = false
+is_last_round (Some n) round = nat_le n round
 
 -- behind a round; without end each is like the first
 abbrev pub next_round : Option ℕ → ℕ → ℕ
@@ -36,16 +36,16 @@ pub record IsInPhase (q : PhaseView) (p : Progress) : Type 0 where
 -- what the counters of a cursor keep
 pub record IsProgress (s : ScriptView) (p : Progress) : Type 0 where
   pub phase : p.phase < length s.phases
-  pub first : p.first ≡ first_of s.phases p.phase
+  pub first : p.first ≡ first_step_of s.phases p.phase
   pub there : (q : PhaseView) → slice_get s.phases p.phase ≡ Some q → IsInPhase q p
   pub kept : (reference : ℕ) → IsCursor
-      (record { script = s; place = place_of s p; reference = reference })
+      (record { script = s; place = progress_place s p; reference = reference })
 
 -- what a cursor keeps: its counters, and the event to which they come
-pub record Comes (s : ScriptView) (p : Progress) (coming : Option Event) : Type 0 where
+pub record IsComing (s : ScriptView) (p : Progress) (coming : Option Event) : Type 0 where
   pub script : IsScript s
   pub stands : IsProgress s p
-  pub is : coming ≡ event_at s (place_of s p)
+  pub is : coming ≡ event_at s (progress_place s p)
   pub event : IfSome coming IsEvent
 
 -- the event of the script to which the counters come
@@ -64,15 +64,16 @@ pub record IsLastOfLap (s : ScriptView) (p : Progress) (laps : ℕ) : Type 0 whe
   pub count : (q : PhaseView) → slice_get s.phases p.phase ≡ Some q → q.count ≡ laps
 
 -- the counters behind the event where they stood
-pub record IsBehind (s : ScriptView) (p after : Progress) : Type 0 where
+pub record IsNextProgress (s : ScriptView) (p after : Progress) : Type 0 where
   pub stands : IsProgress s after
-  pub place : place_of s after ≡ first_place s.rounds (round_len s) (place_of s p + 1)
+  pub place : progress_place s after ≡ first_place s.rounds (round_len s) (progress_place s p + 1)
 
 -- a cursor where it stands, with another reference
 abbrev pub at_reference : CursorView → ℕ → CursorView
 at_reference c reference = record { script = c.script; place = c.place; reference = reference }
 
 -- where a cursor gives an event: behind a timer that is late
-abbrev pub passed : CursorView → ℕ → CursorView
-passed c time =
-    if is_late (event_at c.script c.place) c.reference time then kept_cursor (moved c time) else c
+abbrev pub timer_passed : CursorView → ℕ → CursorView
+timer_passed c time =
+    if is_timer_over (event_at c.script c.place) c.reference time
+    then kept_cursor (at_next_event c time) else c

@@ -1,7 +1,7 @@
 -- The events of a script one behind the other, for the code's own contracts.
 use Rattle.std.specs.Prelude.{ℕ, zero, suc, ◌≡◌, ◌+◌, ◌<◌, nat_le, if◌then◌else◌, List, [], ◌∷◌, ◌++◌, length, slice_index_or}
-use Rattle.task_script.specs.declared.script.Event.{Event}
-use Rattle.task_script.specs.declared.script.Event.TheVariants.{Run, Sleep, Timer, Wait}
+use Rattle.task_script.specs.declared.phase.Event.{Event}
+use Rattle.task_script.specs.declared.phase.Event.TheVariants.{Run, Sleep, Timer, Wait}
 use Rattle.task_script.specs.declared.steps.Brief.{Brief}
 use Rattle.task_script.specs.declared.steps.Brief.TheVariants.{Run as BriefRun, Sleep as BriefSleep, Timer as BriefTimer, Wait as BriefWait}
 use Rattle.task_script.specs.script.ScriptView.{PhaseView, ScriptView, IsScript}
@@ -20,13 +20,14 @@ full BriefWait = Wait
 abbrev pub laps_at : PhaseView → ℕ → ℕ
 laps_at q event = if nat_le (length q.events) (event + 1) then q.count else 0
 
-abbrev pub step_of : PhaseView → ℕ → StepView
-step_of q event = record { event = slice_index_or q.events event Wait; laps = laps_at q event }
+abbrev pub step_in_phase : PhaseView → ℕ → StepView
+step_in_phase q event =
+    record { event = slice_index_or q.events event Wait; laps = laps_at q event }
 
 -- of the first events of a phase, so many
 abbrev pub steps_of_phase : PhaseView → ℕ → List StepView
 steps_of_phase q zero = []
-steps_of_phase q (suc n) = steps_of_phase q n ++ step_of q n ∷ []
+steps_of_phase q (suc n) = steps_of_phase q n ++ step_in_phase q n ∷ []
 
 abbrev pub no_phase : PhaseView
 no_phase = record { count = 0; events = [] }
@@ -41,12 +42,15 @@ steps_of_phases phases (suc n) =
     steps_of_phases phases n ++ all_of_phase (slice_index_or phases n no_phase)
 
 -- how many steps are before a phase
-abbrev pub first_of : List PhaseView → ℕ → ℕ
-first_of phases n = length (steps_of_phases phases n)
+abbrev pub first_step_of : List PhaseView → ℕ → ℕ
+first_step_of phases n = length (steps_of_phases phases n)
 
--- the steps of a script, or none
+-- the steps of these phases, or none
+abbrev pub AreSteps : List PhaseView → List StepView → Type 0
+AreSteps phases steps = 0 < length steps → steps ≡ steps_of_phases phases (length phases)
+
 abbrev pub IsSteps : ScriptView → List StepView → Type 0
-IsSteps s steps = 0 < length steps → steps ≡ steps_of_phases s.phases (length s.phases)
+IsSteps s steps = AreSteps s.phases steps
 
 -- what every script keeps, its steps with it
 pub record IsLaid (s : ScriptView) (laid : List StepView) : Type 0 where

@@ -1,7 +1,7 @@
 -- What a task does next, by the events of its script (own; rt-app's phases and loops).
 use Rattle.std.specs.Prelude.{ℕ, ℤ, pos, negsuc, ◌<◌, ◌≤◌, ◌^◌, ◌≡◌, ◌+◌, ◌%◌, Bool, false, nat_le, if◌then◌else◌, List, [], ◌∷◌, Option, Some, None}
-use Rattle.task_script.specs.declared.script.Event.{Event}
-use Rattle.task_script.specs.declared.script.Event.TheVariants.{Run, Sleep, Timer, Wait}
+use Rattle.task_script.specs.declared.phase.Event.{Event}
+use Rattle.task_script.specs.declared.phase.Event.TheVariants.{Run, Sleep, Timer, Wait}
 use Rattle.task_script.specs.declared.script.Segment.{Segment}
 use Rattle.task_script.specs.declared.script.Segment.TheVariants.{Run as RunFor, Until, Wait as WaitFor, End}
 use Rattle.task_script.specs.script.ScriptView.{ScriptView, CursorView, round_len}
@@ -25,45 +25,45 @@ abbrev pub begun_at : ScriptView → ℕ → CursorView
 begun_at s start = record { script = s; place = 0; reference = start }
 
 -- behind an event the place goes up by one, for ever
-abbrev pub moved : CursorView → ℕ → CursorView
-moved c reference = record { script = c.script; place = c.place + 1; reference = reference }
+abbrev pub at_next_event : CursorView → ℕ → CursorView
+at_next_event c reference = record { script = c.script; place = c.place + 1; reference = reference }
 
 -- a segment, and the cursor behind its event
-pub record Asked : Type 0 where
+pub record SegmentAndCursor : Type 0 where
   pub segment : Segment
   pub cursor : CursorView
 
 -- what an event gives at a time. A timer gives the end of its period, counted from the reference
-abbrev pub given_by : CursorView → ℕ → Option Event → Asked
-given_by c time (Some (Run n)) = record { segment = RunFor n; cursor = moved c c.reference }
+abbrev pub given_by : CursorView → ℕ → Option Event → SegmentAndCursor
+given_by c time (Some (Run n)) = record { segment = RunFor n; cursor = at_next_event c c.reference }
 given_by c time (Some (Sleep n)) =
-    record { segment = Until (time + n); cursor = moved c c.reference }
+    record { segment = Until (time + n); cursor = at_next_event c c.reference }
 given_by c time (Some (Timer n)) =
-    record { segment = Until (c.reference + n); cursor = moved c (c.reference + n) }
-given_by c time (Some Wait) = record { segment = WaitFor; cursor = moved c c.reference }
+    record { segment = Until (c.reference + n); cursor = at_next_event c (c.reference + n) }
+given_by c time (Some Wait) = record { segment = WaitFor; cursor = at_next_event c c.reference }
 given_by c time None = record { segment = End; cursor = c }
 
-abbrev pub given_at : CursorView → ℕ → Asked
+abbrev pub given_at : CursorView → ℕ → SegmentAndCursor
 given_at c time = given_by c time (event_at c.script c.place)
 
 -- a timer whose period is over already
-abbrev pub is_late : Option Event → ℕ → ℕ → Bool
-is_late (Some (Timer n)) reference time = nat_le (reference + n) time
-is_late (Some (Run n)) reference time = false
-is_late (Some (Sleep n)) reference time = false
-is_late (Some Wait) reference time = false
-is_late None reference time = false
+abbrev pub is_timer_over : Option Event → ℕ → ℕ → Bool
+is_timer_over (Some (Timer n)) reference time = nat_le (reference + n) time
+is_timer_over (Some (Run n)) reference time = false
+is_timer_over (Some (Sleep n)) reference time = false
+is_timer_over (Some Wait) reference time = false
+is_timer_over None reference time = false
 
 -- it stands at such a timer
 abbrev pub passes_late_timer : CursorView → ℕ → Bool
-passes_late_timer c time = is_late (event_at c.script c.place) c.reference time
+passes_late_timer c time = is_timer_over (event_at c.script c.place) c.reference time
 
 -- what a task does next. At a late timer the reference becomes the time, and the next place is
 -- asked: no timer from there is late, since its period is at least 1
-abbrev pub answered : CursorView → ℕ → Asked
-answered c time =
-    if is_late (event_at c.script c.place) c.reference time then given_at (moved c time) time
-    else given_at c time
+abbrev pub segment_at : CursorView → ℕ → SegmentAndCursor
+segment_at c time =
+    if is_timer_over (event_at c.script c.place) c.reference time
+    then given_at (at_next_event c time) time else given_at c time
 
 -- without end each round is like the first, so from any place the same events follow as from one
 -- place of the first round: there a cursor is kept
@@ -80,19 +80,22 @@ kept_cursor c =
     }
 
 -- what a task does next, and its cursor as it is kept
-abbrev pub asked : CursorView → ℕ → Asked
-asked c time =
-    record { segment = (answered c time).segment; cursor = kept_cursor (answered c time).cursor }
+abbrev pub next_segment : CursorView → ℕ → SegmentAndCursor
+next_segment c time =
+    record {
+      segment = (segment_at c time).segment;
+      cursor = kept_cursor (segment_at c time).cursor;
+    }
 
 -- what a cursor gives, asked at one time after another
-abbrev pub segments : (CursorView → ℕ → Asked) → CursorView → List ℕ → List Segment
+abbrev pub segments : (CursorView → ℕ → SegmentAndCursor) → CursorView → List ℕ → List Segment
 segments ask c [] = []
 segments ask c (t ∷ ts) = (ask c t).segment ∷ segments ask (ask c t).cursor ts
 
 -- that cursors are kept is never seen: at any times they give what a place that goes up by one for
 -- ever gives
 abbrev pub GivesAsWritten : CursorView → Type 0
-GivesAsWritten c = (times : List ℕ) → segments asked c times ≡ segments answered c times
+GivesAsWritten c = (times : List ℕ) → segments next_segment c times ≡ segments segment_at c times
 
 -- what every segment keeps
 abbrev pub IsSegment : Segment → Type 0

@@ -1,7 +1,7 @@
 -- A script written out: a list of events by place (own; rt-app's phases and loops).
 use Rattle.std.specs.Prelude.{ℕ, ◌+◌, List, slice_get, Option, Some, None}
 use Rattle.std.specs.List.{flat_map, repeat}
-use Rattle.task_script.specs.declared.script.Event.{Event}
+use Rattle.task_script.specs.declared.phase.Event.{Event}
 use Rattle.task_script.specs.script.ScriptView.{PhaseView, ScriptView}
 
 -- a round: the phases one behind the other, the events of each so many times over

@@ -7,7 +7,7 @@ use Rattle.recorded_text.specs.declared.step.Step.{Step}
 use Rattle.trace_compare.specs.declared.run.Run.{Run}
 use Rattle.trace_compare.specs.Runs.{next_time, is_of, run_until, raw_runs, runs_of, IsShort}
 use Rattle.trace_compare.specs.declared.task.TaskRuns.{TaskRuns}
-use Rattle.trace_compare.specs.Tasks.{IsSound}
+use Rattle.trace_compare.specs.Tasks.{AreSoundRuns}
 
 abbrev pub Lists : Type 0
 Lists = List (Vec Run Global)
@@ -25,14 +25,14 @@ abbrev pub run_at : ℕ → Step → Option ℕ → Option Run
 run_at j s time = if is_of j s then option_map (run_until s) time else None
 
 -- the run is added to its task
-pub record Takes (old : Lists) (s : Step) (time : Option ℕ) (new : Lists) : Type 0 where
+pub record TakesStep (old : Lists) (s : Step) (time : Option ℕ) (new : Lists) : Type 0 where
   pub same_len : length new ≡ length old
   pub each : (j : ℕ) (d : Vec Run Global) → j < length old
       → (slice_index_or new j d).items ≡ (slice_index_or old j d).items
       ++ option_to_list (run_at j s time)
 
 -- of these switches, the time of the first on each CPU, and each task's runs, the last first
-pub record IsBehind (next : List (Option ℕ)) (runs : Lists) (steps : List Step) : Type 0 where
+pub record AreRunsBehind (next : List (Option ℕ)) (runs : Lists) (steps : List Step) : Type 0 where
   pub times : (cpu : ℕ) → cpu < 65536 → slice_index_or next cpu None ≡ next_time cpu steps
   pub lists : (j : ℕ) (d : Vec Run Global) → j < length runs
       → reverse (slice_index_or runs j d).items ≡ raw_runs j steps
@@ -47,7 +47,7 @@ abbrev pub AreShortLists : Lists → Type 0
 AreShortLists runs = All (λ rs. All IsShort rs.items) runs
 
 -- the first n tasks have their runs, joined
-pub record AreSettled (noise : ℕ) (model recorded : Lists) (n : ℕ) (tasks : List TaskRuns)
+pub record AreRunsSettled (noise : ℕ) (model recorded : Lists) (n : ℕ) (tasks : List TaskRuns)
     : Type 0 where
   pub as_many : length tasks ≡ n
   pub of_model : (j : ℕ) (t : TaskRuns) (d : Vec Run Global) → j < n
@@ -56,4 +56,4 @@ pub record AreSettled (noise : ℕ) (model recorded : Lists) (n : ℕ) (tasks : 
   pub of_recorded : (j : ℕ) (t : TaskRuns) (d : Vec Run Global) → j < n
       → (slice_index_or tasks j t).recorded.items
       ≡ runs_of noise (reverse (slice_index_or recorded j d).items)
-  pub sound : All IsSound tasks
+  pub sound : All AreSoundRuns tasks

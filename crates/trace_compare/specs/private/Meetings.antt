@@ -6,8 +6,8 @@ use Rattle.trace_compare.specs.declared.pairs.Meeting.TheVariants.{Fit, Early, L
 use Rattle.trace_compare.specs.Pairs.{no_shift, fits}
 
 -- the recorded run begins or ends before the model's, by more than is allowed
-abbrev pub IsEarly : ℕ → ℕ → Run → Run → Type 0
-IsEarly within shift m r =
+abbrev pub IsTooEarly : ℕ → ℕ → Run → Run → Type 0
+IsTooEarly within shift m r =
     (r.start + no_shift + within < m.start + shift) ⊎
     (r.«end» + no_shift + within < m.«end» + shift)
 
@@ -18,5 +18,5 @@ IsLate within shift m r =
 
 abbrev pub IsMeeting : ℕ → ℕ → Run → Run → Meeting → Type 0
 IsMeeting within shift m r Fit = fits within shift m r ≡ true
-IsMeeting within shift m r Early = IsEarly within shift m r
+IsMeeting within shift m r Early = IsTooEarly within shift m r
 IsMeeting within shift m r Late = IsLate within shift m r

@@ -3,7 +3,7 @@ use Rattle.std.proofs.lemmas.List.Elements.{All-pop}
 use Rattle.std.proofs.lemmas.List.{length_push}
 use Rattle.bw_gate.specs.declared.view.Piece.TheVariants.{Ticket}
 use Rattle.std.proofs.lemmas.List.Sums.{sum_by_push}
-use Rattle.bw_gate.specs.Pieces.{GateId, TicketView, share_of, sum_of}
+use Rattle.bw_gate.specs.Pieces.{GateId, TicketView, bw_in, bw_of_tickets}
 use Rattle.bw_gate.specs.Table.{held, held_by}
 use Rattle.bw_gate.proofs.Views.{gathered_holds, gathered_counts}
 use Rattle.bw_gate.proofs.Steps.{joins}
@@ -41,8 +41,8 @@ loop-ticket-preserved c =
       (λ d.
           let a = ap (λ (m : _). held_by d m.0) now in
           let b = gathered_holds d seat.me.0 other.me.0 (Ticket t.domain t.bw) one in
-          let s = ap (sum_of d) c.in-Some.ensures.items ∙ sum_by_push (share_of d) c.pop.new.self.items c.in-Some.ticket in
-          let same : share_of d c.in-Some.ticket ≡ held d (Ticket t.domain t.bw) = ap (share_of d) (sym c.ticket.view_is) in
+          let s = ap (bw_of_tickets d) c.in-Some.ensures.items ∙ sum_by_push (bw_in d) c.pop.new.self.items c.in-Some.ticket in
+          let same : bw_in d c.in-Some.ticket ≡ held d (Ticket t.domain t.bw) = ap (bw_in d) (sym c.ticket.view_is) in
           let i = inv.4 d in
           omega (arith, a, b, s, same, i)),
       (

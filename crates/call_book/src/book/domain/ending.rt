@@ -91,7 +91,7 @@ impl Domain {
 
 impl EndingBook {
     ghost use Rattle.calls_text.specs.Limits.{IsCall};
-    ghost use Rattle.bw_gate.specs.Pieces.{sum_of};
+    ghost use Rattle.bw_gate.specs.Pieces.{bw_of_tickets};
     ghost use Rattle.call_book.specs.Pieces.{IsTicketOf, HoldsTickets};
     ghost use Rattle.call_book.specs.Book.{own_entries, state_of, HasItsLimit, IsBookHistory, IsPassOf};
     ghost use Rattle.call_book.specs.BookAnswers.{IsAdvanced, IsNotAdvanced};
@@ -184,7 +184,7 @@ impl EndingBook {
         ensures history { IsBookHistory self.book }
         ensures own { All (λ p. p.entries ≡ own_entries p.client self.book.history) passes.items }
         ensures held { HoldsTickets result.state self.book.tickets }
-        ensures sums { sum_of self.book.domain result.tickets.items
+        ensures sums { bw_of_tickets self.book.domain result.tickets.items
             ≡ tick.sum_of result.state.tasks }
         ensures homes { All (IsTicketOf self.book.gate self.book.domain) result.tickets.items }
         ensures spare { All (λ b. b.gate ≡ self.book.gate) result.blanks.items }

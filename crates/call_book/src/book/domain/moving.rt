@@ -10,7 +10,7 @@ ghost use Rattle.calls_text.specs.Limits.{IsCall};
 ghost use Rattle.call_book.specs.Pieces.{IsTicketOf};
 ghost use Rattle.call_book.specs.Book.{state_of, IsFull, IsPassOf, Enters};
 ghost use Rattle.call_book.specs.MoveAnswers.{moving_as, arrival, IsTakenOut, IsMove, IsUnprepared};
-ghost use Rattle.call_book.specs.private.Moving.{IsVerdict};
+ghost use Rattle.call_book.specs.private.Moving.{IsMoveVerdict};
 
 use super::Domain;
 use crate::book::Pass;
@@ -197,7 +197,7 @@ fn is_full(reply: Reply) -> bool
 
 // Whether a task moves, by the tests in their order.
 fn judge(from: &Domain, to: &Domain, prepared: &Prepared) -> Verdict
-    ensures { IsVerdict from.now to.now prepared.now result }
+    ensures { IsMoveVerdict from.now to.now prepared.now result }
 {
     let number = prepared.number();
     let reply = to.state.admit_reply(number, prepared.params());

@@ -1,5 +1,5 @@
 use Rattle.std.proofs.Common.{◌∷◌, ◌-◌, length, take, drop}
-use Rattle.task_script.specs.declared.script.Event.TheVariants.{Run}
+use Rattle.task_script.specs.declared.phase.Event.TheVariants.{Run}
 use Rattle.calls_text.specs.Spelling.{event_text}
 use Rattle.draft.proofs.CallerLemmas.{joined, more_lines}
 use Rattle.calls_text.proofs.Written.{events_put}

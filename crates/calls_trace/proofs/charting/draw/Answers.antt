@@ -6,7 +6,7 @@ use Rattle.calls_trace.proofs.charting.draw.Goals as goal
 
 pub invariant_of-result : goal.invariant_of-result
 invariant_of-result c =
-    let run = counted.view_of c.as_counted.result in
+    let run = counted.run_view_of c.as_counted.result in
     let are = c.in_ok-rows.ensures.rows in
     record {
       drawn = are ∙ ap (rows_of c.args.window) c.as_counted.ensures.view;

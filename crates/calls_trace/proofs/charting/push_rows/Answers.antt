@@ -2,11 +2,11 @@ use Rattle.std.proofs.Common.{◌≡◌, ◌<◌, List, length, get_or, map, sym
 use Rattle.std.specs.Prelude.{All}
 use Rattle.std.proofs.lemmas.List.{length_push}
 use Rattle.std.proofs.lemmas.List.Elements.{All-push}
-use Rattle.switch_text.specs.Names.{named}
+use Rattle.switch_text.specs.Names.{name_of_task}
 use Rattle.chart_pieces.specs.RowView.{RowView}
 use Rattle.chart_pieces.specs.Laws.{AreSeen}
-use Rattle.chart.specs.Rows.{ChartRowView, view_of, IsDrawn}
-use Rattle.calls_trace.specs.Charted.{charted}
+use Rattle.chart.specs.Rows.{ChartRowView, chart_row_view_of, IsDrawn}
+use Rattle.calls_trace.specs.Charted.{chart_row_of}
 use Rattle.calls_trace.proofs.Charts.{row_more}
 use Rattle.calls_trace.proofs.charting.push_rows.Goals as goal
 
@@ -16,7 +16,7 @@ loop-row-init c =
     let same : c.try_reserve.new.self.items ≡ old = c.try_reserve.ensures.items in
     let w = c.args.drawn.now.window in
     record {
-      rows = ap (map view_of) same ∙ sym (append-nil (map view_of old));
+      rows = ap (map chart_row_view_of) same ∙ sym (append-nil (map chart_row_view_of old));
       drawn = λ was. subst (All (IsDrawn w)) (sym same) was;
       count = omega (arith, ap length same);
       room = omega (arith, c.in_ok-try_reserve.ensures.ok, c.try_reserve.ensures.len, c.len.ensures, c.args.all.now.ok.0, c.args.drawn.now.rows.ok.0, ap length c.deref-row-items.ensures.value);
@@ -38,7 +38,7 @@ loop-row-preserved c =
     let at : one.row.now ≡ get_or d.rows.items k row = ap (λ (v : ChartRowView). v.row) c.as_charted.ensures ∙ c.row-item.is ∙ ap (λ (xs : List RowView). get_or xs k row) value in
     let seen : IsDrawn w one = subst (AreSeen w) (sym at) (d.seen k row inside) in
     record {
-      rows = ap (map view_of) is ∙ row_more view_of (charted (named d.placed.now.run.names) d.placed.now.base) (map view_of c.args.all.now.items) was one lent k row c.loop-row-test.true c.row-item.is c.as_charted.ensures i.rows;
+      rows = ap (map chart_row_view_of) is ∙ row_more chart_row_view_of (chart_row_of (name_of_task d.placed.now.run.names) d.placed.now.base) (map chart_row_view_of c.args.all.now.items) was one lent k row c.loop-row-test.true c.row-item.is c.as_charted.ensures i.rows;
       drawn = λ before. subst (All (IsDrawn w)) (sym is) (All-push (IsDrawn w) was one (i.drawn before) seen);
       count = omega (arith, i.count, ap length is, length_push was one);
       room = omega (arith, i.room, c.push_reserved.ensures.capacity);

@@ -2,7 +2,7 @@ use Rattle.std.proofs.Common.{map, ap, ◌∙◌, arith}
 use Rattle.std.proofs.lemmas.List.{length_push, take_all}
 use Rattle.figure_text.specs.Jobs as jobs
 use Rattle.calls_trace.specs.declared.figures.CountedJobs.{CountedJobs}
-use Rattle.calls_trace.specs.private.Replaying.{view_of, jobs_in}
+use Rattle.calls_trace.specs.private.Replaying.{placed_view_of, jobs_in}
 use Rattle.calls_trace.proofs.Texts.{views_more}
 use Rattle.calls_trace.proofs.figures.all_as_jobs.Goals as goal
 
@@ -12,11 +12,11 @@ loop-one-preserved c =
     let was = c.loop-one.written.items in
     let one = c.as_jobs.result in
     rw c.push_reserved.ensures.items (record {
-      views = views_more jobs.view_of (λ (x : CountedJobs). jobs_in (view_of x.placed.now)) was one c.args.counted.now c.loop-one.one-index c.one-item.result c.loop-one-test.true c.one-item.is c.as_jobs.ensures i.views;
+      views = views_more jobs.jobs_view_of (λ (x : CountedJobs). jobs_in (placed_view_of x.placed.now)) was one c.args.counted.now c.loop-one.one-index c.one-item.result c.loop-one-test.true c.one-item.is c.as_jobs.ensures i.views;
       count = omega (arith, i.count, length_push was one);
       room = omega (arith, i.room, c.push_reserved.ensures.capacity);
     })
 
 pub returns : goal.returns
 returns c =
-    c.loop-one.invariant.views ∙ ap (map (λ (x : CountedJobs). jobs_in (view_of x.placed.now))) (take_all c.loop-one.one-index c.args.counted.now c.loop-one-test.false)
+    c.loop-one.invariant.views ∙ ap (map (λ (x : CountedJobs). jobs_in (placed_view_of x.placed.now))) (take_all c.loop-one.one-index c.args.counted.now c.loop-one-test.false)

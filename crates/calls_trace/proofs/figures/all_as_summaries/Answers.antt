@@ -12,8 +12,8 @@ loop-one-preserved c =
     let was = c.loop-one.written.items in
     let one = c.as_summary.result in
     rw c.push_reserved.ensures.items (record {
-      views = views_more summaries.view_of counted_as was one c.args.counted.now c.loop-one.one-index c.one-item.result c.loop-one-test.true c.one-item.is c.as_summary.ensures.view i.views;
-      short = All-push summaries.IsShort was one i.short c.as_summary.ensures.short;
+      views = views_more summaries.summary_view_of counted_as was one c.args.counted.now c.loop-one.one-index c.one-item.result c.loop-one-test.true c.one-item.is c.as_summary.ensures.view i.views;
+      short = All-push summaries.IsShortSummary was one i.short c.as_summary.ensures.short;
       machine = All-push summaries.IsOfMachine was one i.machine c.as_summary.ensures.machine;
       count = omega (arith, i.count, length_push was one);
       room = omega (arith, i.room, c.push_reserved.ensures.capacity);

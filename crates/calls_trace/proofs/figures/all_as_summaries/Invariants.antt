@@ -6,8 +6,8 @@ use Rattle.calls_trace.proofs.figures.all_as_summaries.Given as goal
 
 abbrev pub invariant-loop-one : goal.invariant-loop-one
 invariant-loop-one l = record {
-  views : map summaries.view_of l.written.items ≡ map counted_as (take l.one-index l.counted);
-  short : All summaries.IsShort l.written.items;
+  views : map summaries.summary_view_of l.written.items ≡ map counted_as (take l.one-index l.counted);
+  short : All summaries.IsShortSummary l.written.items;
   machine : All summaries.IsOfMachine l.written.items;
   count : length l.written.items ≡ l.one-index;
   room : length l.counted ≤ vec_capacity l.written;

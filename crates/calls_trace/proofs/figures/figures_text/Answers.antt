@@ -6,11 +6,11 @@ use Rattle.calls_trace.specs.private.Counting.{counted_as}
 use Rattle.calls_trace.proofs.figures.figures_text.Goals as goal
 
 pub put_summary-requires-clause-short : goal.put_summary-requires-clause-short
-put_summary-requires-clause-short c = subst (All summaries.IsShort) (sym c.deref.ensures.value) c.in_ok-domains.ensures.short
+put_summary-requires-clause-short c = subst (All summaries.IsShortSummary) (sym c.deref.ensures.value) c.in_ok-domains.ensures.short
 
 pub returns : goal.returns
 returns c =
-    let views : map summaries.view_of c.deref.result.now ≡ map counted_as c.args.counted.now = ap (map summaries.view_of) c.deref.ensures.value ∙ c.in_ok-domains.ensures.views in
+    let views : map summaries.summary_view_of c.deref.result.now ≡ map counted_as c.args.counted.now = ap (map summaries.summary_view_of) c.deref.ensures.value ∙ c.in_ok-domains.ensures.views in
     finished (λ v. v.items) c.into_text.result c.new-text.result c.put_summary.new.out _ c.new-text.ensures.text
     (as_text c.new-text.result c.put_summary.new.out _ _ (ap summaries.summary_text views) c.put_summary.ensures)
     c.into_text.ensures.text c.into_text.ensures.ok

@@ -3,9 +3,9 @@ use Rattle.std.proofs.lemmas.List.{length_push, take_all}
 use Rattle.domain_run.specs.Passing.{without_switches}
 use Rattle.calls_text.specs.SectionView.{SectionView}
 use Rattle.calls_text.specs.Histories.{IsLegal}
-use Rattle.switch_text.specs.Names.{named}
+use Rattle.switch_text.specs.Names.{name_of_task}
 use Rattle.calls_trace.specs.Told.{domain_of, names_in, summary_view}
-use Rattle.calls_trace.specs.Heard.{heard_of}
+use Rattle.calls_trace.specs.Heard.{section_heard}
 use Rattle.calls_trace.specs.private.Counting.{counted_as}
 use Rattle.calls_trace.proofs.Texts.{views_more}
 use Rattle.calls_trace.proofs.Figured.{one_of_all}
@@ -14,7 +14,7 @@ use Rattle.calls_trace.proofs.heard_summary.all_heard.Goals as goal
 pub count_heard-requires-clause-names : goal.count_heard-requires-clause-names
 count_heard-requires-clause-names c =
     let inside : c.loop-place.place < length c.args.histories.now = c.loop-place-test.true in
-    one_of_all named names_in c.args.names.now c.args.histories.now c.loop-place.place c.index-names-place.result c.index-histories-place.result c.requires.names inside c.index-names-place.is c.index-histories-place.is
+    one_of_all name_of_task names_in c.args.names.now c.args.histories.now c.loop-place.place c.index-names-place.result c.index-histories-place.result c.requires.names inside c.index-names-place.is c.index-histories-place.is
 
 pub loop-place-preserved : goal.loop-place-preserved
 loop-place-preserved c =
@@ -43,7 +43,7 @@ pub count_heard-requires-clause-heard : goal.count_heard-requires-clause-heard
 count_heard-requires-clause-heard c =
     c.index-heard-place.is
     ∙ c.requires.heard c.loop-place.place c.index-histories-place.result c.index-heard-place.result c.loop-place-test.true
-    ∙ ap heard_of (sym c.index-histories-place.is)
+    ∙ ap section_heard (sym c.index-histories-place.is)
 
 pub returns : goal.returns
 returns c = c.loop-place.invariant.views ∙ ap (map summary_view) (take_all c.loop-place.place c.args.histories.now c.loop-place-test.false)

@@ -2,7 +2,7 @@ use Rattle.std.proofs.Common.{map, sym, ap, subst, ◌∙◌, arith}
 use Rattle.std.proofs.lemmas.List.{length_push, take_all}
 use Rattle.calls_text.specs.SectionView.{SectionView}
 use Rattle.calls_text.specs.Histories.{IsLegal}
-use Rattle.switch_text.specs.Names.{named}
+use Rattle.switch_text.specs.Names.{name_of_task}
 use Rattle.calls_trace.specs.Told.{names_in}
 use Rattle.calls_trace.proofs.Texts.{views_more}
 use Rattle.calls_trace.proofs.heard_summary.all_names.Goals as goal
@@ -17,7 +17,7 @@ loop-history-preserved c =
     let was = c.loop-history.all.items in
     let one = c.in_ok-names_of.field-0 in
     rw c.push_reserved.ensures.items (record {
-      names = views_more named names_in was one c.args.histories.now c.loop-history.history-index c.history-item.result c.loop-history-test.true c.history-item.is c.in_ok-names_of.ensures i.names;
+      names = views_more name_of_task names_in was one c.args.histories.now c.loop-history.history-index c.history-item.result c.loop-history-test.true c.history-item.is c.in_ok-names_of.ensures i.names;
       count = omega (arith, i.count, length_push was one);
       room = omega (arith, i.room, c.push_reserved.ensures.capacity);
     })

@@ -1,6 +1,6 @@
 use Rattle.std.proofs.Common.{◌≡◌, map, refl, ◌∙◌}
-use Rattle.switch_text.specs.Names.{named}
-use Rattle.calls_trace.specs.Told.{admitted, params_in}
+use Rattle.switch_text.specs.Names.{name_of_task}
+use Rattle.calls_trace.specs.Told.{admitted_with_params, params_in}
 use Rattle.calls_trace.proofs.Figured.{tasks_heard, cpus_heard, heard_is}
 use Rattle.calls_trace.proofs.heard_summary.count_heard.Goals as goal
 
@@ -17,7 +17,7 @@ returns c =
     let made = c.in_ok-summary.summary in
     let tasks = c.deref.result.now in
     let told = params_in c.args.history.now in
-    let are : tasks ≡ map (admitted told) c.args.state.now.used = c.deref.ensures.value ∙ c.in_ok-tasks.ensures.tasks in
+    let are : tasks ≡ map (admitted_with_params told) c.args.state.now.used = c.deref.ensures.value ∙ c.in_ok-tasks.ensures.tasks in
     c.of.ensures
-    ∙ heard_is c.args.history.now (named c.args.names.now) told c.args.state.now c.args.heard.now tasks made.tasks.items made.cpus.items
+    ∙ heard_is c.args.history.now (name_of_task c.args.names.now) told c.args.state.now c.args.heard.now tasks made.tasks.items made.cpus.items
     c.requires.names refl c.requires.state c.requires.heard are c.in_ok-summary.ensures.tasks c.in_ok-summary.ensures.cpus

@@ -1,12 +1,12 @@
 use Rattle.std.proofs.Common.{map, ap, ◌∙◌}
-use Rattle.switch_text.specs.Names.{named}
+use Rattle.switch_text.specs.Names.{name_of_task}
 use Rattle.calls_trace.proofs.heard_summary.heard_text.Goals as goal
 
 pub all_names-requires : goal.all_names-requires
 all_names-requires c = c.requires.legal
 
 pub all_heard-requires-clause-names : goal.all_heard-requires-clause-names
-all_heard-requires-clause-names c = ap (map named) c.deref.ensures.value ∙ c.in_ok-names.ensures
+all_heard-requires-clause-names c = ap (map name_of_task) c.deref.ensures.value ∙ c.in_ok-names.ensures
 
 pub all_heard-requires-clause-legal : goal.all_heard-requires-clause-legal
 all_heard-requires-clause-legal c = c.requires.legal

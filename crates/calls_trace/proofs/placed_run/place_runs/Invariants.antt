@@ -2,14 +2,14 @@ use Rattle.std.proofs.Common.{◌≡◌, ℕ, ◌+◌, ◌*◌, ◌≤◌, ◌++
 use Rattle.std.specs.Prelude.{All, slice_index_or}
 use Rattle.std.specs.Vec.Iter.{into_iter_items, into_iter_len}
 use Rattle.domain_run.specs.Log.{LogView}
-use Rattle.calls_trace.specs.private.Replaying.{view_of, views_from, IsPlaced}
+use Rattle.calls_trace.specs.private.Replaying.{placed_view_of, views_from, IsPlaced}
 use Rattle.calls_trace.proofs.Recorded.{AreRunsFrom}
 use Rattle.calls_trace.proofs.placed_run.place_runs.Given as goal
 
 -- the runs so far, and those of the histories that are left, whose states follow and whose logs stand in their places
 abbrev pub invariant-loop-state : goal.invariant-loop-state
 invariant-loop-state l = record {
-  runs : map view_of l.runs.items ++ views_from l.fn.wanted l.base (drop (length l.runs.items) l.histories) ≡ views_from l.fn.wanted 0 l.histories;
+  runs : map placed_view_of l.runs.items ++ views_from l.fn.wanted l.base (drop (length l.runs.items) l.histories) ≡ views_from l.fn.wanted 0 l.histories;
   placed : All IsPlaced l.runs.items;
   count : length l.runs.items + into_iter_len l.rest ≡ length l.histories;
   left : AreRunsFrom (length l.runs.items) l.histories (into_iter_len l.rest) (into_iter_items l.rest);

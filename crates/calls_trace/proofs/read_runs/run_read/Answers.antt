@@ -7,11 +7,11 @@ use Rattle.domain_run.specs.Calls.{after_call}
 use Rattle.domain_run.specs.Happened.{told_by_call}
 use Rattle.domain_run.specs.Log.{Tells}
 use Rattle.calls_text.specs.Limits.{IsCall}
-use Rattle.calls_text.specs.Reader.{begun, with_entries}
-use Rattle.calls_text.specs.KeptCall.{IsNextCall, IsNextKept, call_of}
+use Rattle.calls_text.specs.Reader.{empty_section, section_with_entries}
+use Rattle.calls_text.specs.KeptCall.{IsNextCall, IsNextKept, call_kept}
 use Rattle.calls_text.specs.declared.kept_call.Kept.{Kept}
 use Rattle.calls_text.proofs.CallerLemmas.{section_within}
-use Rattle.switch_text.specs.Names.{named}
+use Rattle.switch_text.specs.Names.{name_of_task}
 use Rattle.calls_trace.specs.Replay.{names_after}
 use Rattle.calls_trace.specs.Told.{params_after}
 use Rattle.calls_trace.specs.private.Replaying.{given_in}
@@ -21,12 +21,12 @@ use Rattle.calls_trace.proofs.read_runs.run_read.Goals as goal
 
 pub open-requires-clause-cpus : goal.open-requires-clause-cpus
 open-requires-clause-cpus c =
-    let s = section_within c.requires.begun.text c.requires.begun.before (begun c.args.cpus c.args.limit) c.args.reader.now c.requires.begun.within in
+    let s = section_within c.requires.begun.text c.requires.begun.before (empty_section c.args.cpus c.args.limit) c.args.reader.now c.requires.begun.within in
     (s.some_cpus, s.most_cpus)
 
 pub open-requires-clause-limit : goal.open-requires-clause-limit
 open-requires-clause-limit c =
-    let s = section_within c.requires.begun.text c.requires.begun.before (begun c.args.cpus c.args.limit) c.args.reader.now c.requires.begun.within in
+    let s = section_within c.requires.begun.text c.requires.begun.before (empty_section c.args.cpus c.args.limit) c.args.reader.now c.requires.begun.within in
     (s.least_limit, s.most_limit)
 
 pub calls-init : goal.calls-init
@@ -35,7 +35,7 @@ calls-init c =
     let made = c.in_ok-run.ensures in
     record {
       so_far = λ text before w. record {
-        section = begun c.args.cpus c.args.limit;
+        section = empty_section c.args.cpus c.args.limit;
         same_cpus = refl;
         within = w;
         run = record {
@@ -50,7 +50,7 @@ calls-init c =
     }
 
 pub make_kept-requires-clause-call : goal.make_kept-requires-clause-call
-make_kept-requires-clause-call c = subst (λ (o : Option Kept). IfSome o (λ k. IsCall (call_of k))) c.in-Some.is c.in-Ok.ensures.call
+make_kept-requires-clause-call c = subst (λ (o : Option Kept). IfSome o (λ k. IsCall (call_kept k))) c.in-Some.is c.in-Ok.ensures.call
 
 pub make_kept-requires-clause-early : goal.make_kept-requires-clause-early
 make_kept-requires-clause-early c =
@@ -73,13 +73,13 @@ calls-preserved c =
           let m = i.so_far text before w in
           let next : IsNextCall text before m.section c.next_of.new.reader c.in-Some.kept = subst (λ (o : Option Kept). IsNextKept text before m.section c.next_of.new.reader (Ok o)) c.in-Some.is (c.in-Ok.ensures.next text before m.section m.within) in
           let e = next.entry in
-          let call : call_of c.in-Some.kept ≡ e.call = sym next.same in
+          let call : call_kept c.in-Some.kept ≡ e.call = sym next.same in
           record {
-            section = with_entries m.section (e ∷ []);
+            section = section_with_entries m.section (e ∷ []);
             same_cpus = m.same_cpus;
             within = next.within;
             run = run_more m.section e was.state is.state was.names is.names m.run (made.state ∙ ap (after_call was.state) call)
-                (λ n. made.names n ∙ ap (λ (x : Call). names_after was.state x (named was.names) n) call) made.named;
+                (λ n. made.names n ∙ ap (λ (x : Call). names_after was.state x (name_of_task was.names) n) call) made.named;
             told = told_more c.args.wanted m.section e was.state was.given is.given was.log is.log m.run.domain m.told
                 (λ n. made.given n ∙ ap (λ (x : Call). cond was.log.wanted (params_after was.state x (given_in was.given)) (given_in was.given) n) call)
                 (subst (λ (x : Call). Tells was.log (told_by_call was.state x) is.log) call made.told);

@@ -1,14 +1,14 @@
 use Rattle.std.proofs.Common.{ℕ, ◌≤◌, List}
 use Rattle.calls_text.specs.SectionView.{SectionView}
-use Rattle.calls_text.specs.Reader.{IsWithin, begun, left}
+use Rattle.calls_text.specs.Reader.{IsWithin, empty_section, bytes_left}
 use Rattle.calls_trace.specs.private.ReadRuns.{IsMade}
 use Rattle.calls_trace.proofs.read_runs.run_read.Given as goal
 
 abbrev pub invariant-calls : goal.invariant-calls
 invariant-calls l = record {
-  so_far : (text : List ℕ) (before : List SectionView) → IsWithin text before (begun l.fn.cpus l.fn.limit) l.fn.reader → IsMade text before l.fn.cpus l.fn.limit l.fn.wanted l.reader l.run;
-  never_more : left l.reader ≤ left l.fn.reader;
+  so_far : (text : List ℕ) (before : List SectionView) → IsWithin text before (empty_section l.fn.cpus l.fn.limit) l.fn.reader → IsMade text before l.fn.cpus l.fn.limit l.fn.wanted l.reader l.run;
+  never_more : bytes_left l.reader ≤ bytes_left l.fn.reader;
 }
 
 abbrev pub decreases-calls : goal.decreases-calls
-decreases-calls l = left l.reader
+decreases-calls l = bytes_left l.reader

@@ -1,5 +1,5 @@
 use Rattle.std.proofs.Common.{[], ◌∷◌, false, sym, arith}
-use Rattle.calls_text.specs.Reader.{begun}
+use Rattle.calls_text.specs.Reader.{empty_section}
 use Rattle.calls_text.proofs.CallerLemmas.{section_within}
 use Rattle.calls_trace.proofs.read_text.first_two.Goals as goal
 
@@ -23,7 +23,7 @@ read-requires-clause-inside c =
     let s = c.requires.first in
     let b = c.requires.begun in
     let one = c.put.ensures.placed false [] s.section (c.in_ok-runs.ensures false) s.is (sym s.same.same_cpus) (c.in_ok-run.ensures.run s.section s.is s.same) (c.in_ok-run.ensures.told s.section s.is s.same) in
-    let few = (section_within b.text b.before (begun c.args.cpus c.args.limit) c.args.reader.now b.within).most_cpus in
+    let few = (section_within b.text b.before (empty_section c.args.cpus c.args.limit) c.args.reader.now b.within).most_cpus in
     omega (arith, one.inside, few)
 
 pub returns : goal.returns

@@ -4,7 +4,7 @@ use Rattle.std.proofs.lemmas.List.Elements.{All-nil}
 use Rattle.std.proofs.lemmas.Result.{err_from_is_err_and}
 use Rattle.calls_text.specs.Reader.{IsNextDomain}
 use Rattle.calls_text.proofs.CallerLemmas.{whole_none}
-use Rattle.calls_trace.specs.private.Replaying.{IsPlaced, view_of}
+use Rattle.calls_trace.specs.private.Replaying.{IsPlaced, placed_view_of}
 use Rattle.calls_trace.proofs.read_text.read_text.Goals as goal
 
 pub begun_text-requires : goal.begun_text-requires
@@ -28,7 +28,7 @@ returns-in-None-clause-read c =
     let text = c.args.text.now in
     let none = c.new.ensures.items in
     let read = whole_none text [] c.next_domain.new.self c.in_ok-cpus.field-0 c.in-None.is (c.in_ok-cpus.ensures.next text [] c.in_ok-reader.ensures.behind) in
-    record { sections = []; read = read.0; spelled = read.1; views = ap (map view_of) none; placed = subst (All IsPlaced) (sym none) (All-nil IsPlaced); few = let no = ap length none in omega (arith, no) }
+    record { sections = []; read = read.0; spelled = read.1; views = ap (map placed_view_of) none; placed = subst (All IsPlaced) (sym none) (All-nil IsPlaced); few = let no = ap length none in omega (arith, no) }
 
 pub returns-in_err-cpus-clause-fault : goal.returns-in_err-cpus-clause-fault
 returns-in_err-cpus-clause-fault c =

@@ -2,16 +2,16 @@ use Rattle.std.proofs.Common.{List, ℕ, length, sym, ap, subst, arith}
 use Rattle.std.specs.Prelude.{All}
 use Rattle.std.specs.Io.KnownBytes.{Appends}
 use Rattle.std.proofs.lemmas.List.{length-map}
-use Rattle.switch_text.specs.Runs.{IsRun, view_of as view_in}
+use Rattle.switch_text.specs.Runs.{IsPrintable, switches_view_of as view_in}
 use Rattle.switch_text.specs.Telling.{IsTold}
 use Rattle.counted_io.specs.Sides.{Side, side}
 use Rattle.counted_io.specs.Faults.{TakesFront}
-use Rattle.calls_trace.specs.private.Replaying.{view_of, run_in}
+use Rattle.calls_trace.specs.private.Replaying.{placed_view_of, placed_run_view}
 use Rattle.calls_trace.proofs.Texts.{events_are}
 use Rattle.calls_trace.proofs.trace.write_events_of.Goals as goal
 
 pub write_events_in-requires-clause-runs : goal.write_events_in-requires-clause-runs
-write_events_in-requires-clause-runs g c = subst (All IsRun) (sym c.deref.ensures.value) c.in_ok-written.ensures.runs
+write_events_in-requires-clause-runs g c = subst (All IsPrintable) (sym c.deref.ensures.value) c.in_ok-written.ensures.runs
 
 pub write_events_in-requires-clause-told : goal.write_events_in-requires-clause-told
 write_events_in-requires-clause-told g c = subst (All IsTold) (sym c.deref-2.ensures.value) c.in_ok-told.ensures.told
@@ -32,7 +32,7 @@ pub write_events_in-requires-clause-few_runs : goal.write_events_in-requires-cla
 write_events_in-requires-clause-few_runs g c =
     let long = ap length c.in_ok-written.ensures.views in
     let many = length-map c.in_ok-written.written.items view_in in
-    let runs = length-map c.args.placed.now (λ p. run_in (view_of p)) in
+    let runs = length-map c.args.placed.now (λ p. placed_run_view (placed_view_of p)) in
     omega (arith, long, many, runs, ap length c.deref.ensures.value, c.requires.few)
 
 pub write_events_in-requires-clause-few_told : goal.write_events_in-requires-clause-few_told

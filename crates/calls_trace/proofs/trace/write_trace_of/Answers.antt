@@ -2,15 +2,15 @@ use Rattle.std.proofs.Common.{List, ℕ, length, sym, ap, subst, arith}
 use Rattle.std.specs.Prelude.{All}
 use Rattle.std.specs.Io.KnownBytes.{Appends}
 use Rattle.std.proofs.lemmas.List.{length-map}
-use Rattle.switch_text.specs.Runs.{IsRun, view_of as view_in}
+use Rattle.switch_text.specs.Runs.{IsPrintable, switches_view_of as view_in}
 use Rattle.counted_io.specs.Sides.{Side, side}
 use Rattle.counted_io.specs.Faults.{TakesFront}
-use Rattle.calls_trace.specs.private.Replaying.{view_of, run_in}
+use Rattle.calls_trace.specs.private.Replaying.{placed_view_of, placed_run_view}
 use Rattle.calls_trace.proofs.Texts.{trace_is}
 use Rattle.calls_trace.proofs.trace.write_trace_of.Goals as goal
 
 pub write_trace_in-requires-clause-runs : goal.write_trace_in-requires-clause-runs
-write_trace_in-requires-clause-runs g c = subst (All IsRun) (sym c.deref.ensures.value) c.in_ok-written.ensures.runs
+write_trace_in-requires-clause-runs g c = subst (All IsPrintable) (sym c.deref.ensures.value) c.in_ok-written.ensures.runs
 
 pub returns-in-Ok-clause-ok : goal.returns-in-Ok-clause-ok
 returns-in-Ok-clause-ok g c =
@@ -28,5 +28,5 @@ pub write_trace_in-requires-clause-few : goal.write_trace_in-requires-clause-few
 write_trace_in-requires-clause-few g c =
     let long = ap length c.in_ok-written.ensures.views in
     let many = length-map c.in_ok-written.written.items view_in in
-    let runs = length-map c.args.placed.now (λ p. run_in (view_of p)) in
+    let runs = length-map c.args.placed.now (λ p. placed_run_view (placed_view_of p)) in
     omega (arith, long, many, runs, ap length c.deref.ensures.value, c.requires.few)

@@ -3,7 +3,7 @@ use Rattle.std.specs.List.{range_with_len}
 use Rattle.std.proofs.lemmas.List.FromFn.{length-map-range_with_len, get_or-map-range_with_len}
 use Rattle.domain_run.specs.Switch.{Switch}
 use Rattle.run_figures.specs.Stays.{until}
-use Rattle.chart_pieces.specs.private.LineView.{LineView}
+use Rattle.chart_pieces.specs.private.LineView.{ChartLineView}
 use Rattle.chart_pieces.specs.private.Lines.{with_bars}
 use Rattle.chart_pieces.proofs.Moments.{map-map, blank_switch}
 use Rattle.chart_pieces.proofs.Staying.{no_bars, no_next, bars_before, next_before}
@@ -58,7 +58,7 @@ loop-left-preserved c =
     let table = bars_before w run.time ss i left c.index.result.now d old c.loop-left.table.items c.put_bar.new.table.items inside at next c.loop-left.invariant.table c.in_ok-put_bar.ensures in
     record {
       inside = omega (arith, inside);
-      keyed = ap (λ (ls : List LineView). map (λ l. l.number) ls) table ∙ map-map (λ (l : LineView). l.number) (with_bars w run.time (drop i ss)) old ∙ c.requires.keyed;
+      keyed = ap (λ (ls : List ChartLineView). map (λ l. l.number) ls) table ∙ map-map (λ (l : ChartLineView). l.number) (with_bars w run.time (drop i ss)) old ∙ c.requires.keyed;
       table = table;
       nexts = next_before run.time ss i left run.cpus d nexts (set nexts c.cpu-cpu.result c.time.result) inside at cpu c.loop-left.invariant.nexts (λ j. set nexts (at_cpu j) (c.time.ensures j));
     }

@@ -1,7 +1,7 @@
 use Rattle.std.proofs.Common.{map, take, ap, ◌∙◌}
 use Rattle.chart_pieces.specs.declared.standing.Moment.{Moment}
 use Rattle.chart_pieces.specs.Moments.{moment_of}
-use Rattle.chart_pieces.specs.private.Lines.{line_if}
+use Rattle.chart_pieces.specs.private.Lines.{bars_if}
 use Rattle.chart_pieces.proofs.Moments.{none_told, one_told, numbers_of_lines}
 use Rattle.chart_pieces.proofs.telling.tell_all.Goals as goal
 
@@ -15,4 +15,4 @@ tell-requires c =
 pub loop-entry-preserved : goal.loop-entry-preserved
 loop-entry-preserved c =
     one_told c.args.window.now c.args.happened.now c.loop-entry.entry-index _ c.args.table.now.items c.loop-entry.table.items c.tell.new.table.items c.loop-entry-test.true c.loop-entry.invariant
-    (c.in_ok-tell.ensures ∙ ap (λ (m : Moment). map (λ l. line_if c.args.window.now l m) c.loop-entry.table.items) c.moment_of.ensures)
+    (c.in_ok-tell.ensures ∙ ap (λ (m : Moment). map (λ l. bars_if c.args.window.now l m) c.loop-entry.table.items) c.moment_of.ensures)

@@ -6,7 +6,7 @@ use Rattle.std.proofs.lemmas.List.Sums.{prefix_len-le-length}
 use Rattle.domain_run.specs.declared.happened.Happened.{Happened}
 use Rattle.domain_run.specs.Switch.{Switch}
 use Rattle.chart_pieces.specs.Moments.{moment_of, moments_by}
-use Rattle.chart_pieces.specs.private.Lines.{line_all}
+use Rattle.chart_pieces.specs.private.Lines.{bars_all}
 use Rattle.chart_pieces.proofs.Moments.{numbers_of_lines, next_rest}
 use Rattle.chart_pieces.proofs.telling.tell_moments.Goals as goal
 
@@ -18,8 +18,8 @@ tell_switch-requires c =
     let n = c.in_ok-from.field-0 in
     let table = c.loop-switch.table.items in
     let rest : take (length hs - from) (drop from hs) ≡ drop from hs = take_rest hs from in
-    let told : c.tell_until.new.table.items ≡ map (line_all w (map moment_of (take n (drop from hs)))) table =
-    c.in_ok-from.ensures.told ∙ ap (λ (xs : List Happened). map (line_all w (map moment_of (take n xs))) table) rest in
+    let told : c.tell_until.new.table.items ≡ map (bars_all w (map moment_of (take n (drop from hs)))) table =
+    c.in_ok-from.ensures.told ∙ ap (λ (xs : List Happened). map (bars_all w (map moment_of (take n xs))) table) rest in
     record { keyed = numbers_of_lines w (map moment_of (take n (drop from hs))) table c.tell_until.new.table.items c.args.places.now told c.loop-switch.invariant.keyed }
 
 pub loop-switch-preserved : goal.loop-switch-preserved
@@ -37,12 +37,12 @@ loop-switch-preserved c =
     let same : item ≡ get_or ss k item = c.switch-item.is in
     let s = get_or ss k item in
     let rest : take (length hs - from) (drop from hs) ≡ drop from hs = take_rest hs from in
-    let told : middle ≡ map (line_all w (map moment_of (take n (drop from hs)))) table =
-    c.in_ok-from.ensures.told ∙ ap (λ (xs : List Happened). map (line_all w (map moment_of (take n xs))) table) rest in
+    let told : middle ≡ map (bars_all w (map moment_of (take n (drop from hs)))) table =
+    c.in_ok-from.ensures.told ∙ ap (λ (xs : List Happened). map (bars_all w (map moment_of (take n xs))) table) rest in
     let count : n ≡ prefix_len (λ (h : Happened). nat_le h.time s.time) (drop from hs) =
     c.in_ok-from.ensures.count ∙ (λ j. prefix_len (λ h. nat_le h.time ((c.time.ensures ∙ ap (λ (x : Switch). x.time) same) j)) (rest j)) in
-    let by : last ≡ map (line_all w (moments_by s)) middle =
-    c.in_ok-tell_switch.ensures ∙ ap (λ (x : Switch). map (line_all w (moments_by x)) middle) same in
+    let by : last ≡ map (bars_all w (moments_by s)) middle =
+    c.in_ok-tell_switch.ensures ∙ ap (λ (x : Switch). map (bars_all w (moments_by x)) middle) same in
     let first = numbers_of_lines w (map moment_of (take n (drop from hs))) table middle c.args.places.now told c.loop-switch.invariant.keyed in
     record {
       inside = omega (arith, count, prefix_len-le-length (λ (h : Happened). nat_le h.time s.time) (drop from hs), length-drop from hs, c.loop-switch.invariant.inside);

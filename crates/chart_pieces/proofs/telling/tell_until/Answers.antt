@@ -3,7 +3,7 @@ use Rattle.std.proofs.lemmas.List.{get_or_default}
 use Rattle.domain_run.specs.declared.happened.Happened.{Happened}
 use Rattle.chart_pieces.specs.declared.standing.Moment.{Moment}
 use Rattle.chart_pieces.specs.Moments.{moment_of}
-use Rattle.chart_pieces.specs.private.Lines.{line_if}
+use Rattle.chart_pieces.specs.private.Lines.{bars_if}
 use Rattle.chart_pieces.proofs.Moments.{none_told, one_told, numbers_of_lines, one_passed, all_passed, blank}
 use Rattle.chart_pieces.proofs.telling.tell_until.Goals as goal
 
@@ -22,7 +22,7 @@ pub loop-entry-preserved : goal.loop-entry-preserved
 loop-entry-preserved c = record {
   count = omega (arith, c.loop-entry.invariant.count);
   told = one_told c.args.window.now c.args.happened.now c.loop-entry.entry-index _ c.args.table.now.items c.loop-entry.table.items c.tell.new.table.items c.loop-entry-test.true c.loop-entry.invariant.told
-      (c.in_ok-tell.ensures ∙ ap (λ (m : Moment). map (λ l. line_if c.args.window.now l m) c.loop-entry.table.items) c.moment_of.ensures);
+      (c.in_ok-tell.ensures ∙ ap (λ (m : Moment). map (λ l. bars_if c.args.window.now l m) c.loop-entry.table.items) c.moment_of.ensures);
   passed = one_passed c.args.happened.now c.loop-entry.entry-index _ c.args.time c.loop-entry-test.true c.loop-entry.invariant.passed c.if-entry-time.false;
 }
 

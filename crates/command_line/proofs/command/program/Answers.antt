@@ -4,7 +4,7 @@ use Rattle.clap.specs.Words.{App, new_app}
 use Rattle.clap.specs.Simple.{app_of_fields, on_top}
 use Rattle.clap.specs.declared.builder.command.Command.{Command}
 use Rattle.command_line.specs.Commands.{IsProgram, compare_app, replay_app, run_app}
-use Rattle.command_line.specs.private.Made.{AreInTurn, IsMade}
+use Rattle.command_line.specs.private.Made.{AreInTurn, IsChoiceMade}
 use Rattle.command_line.proofs.Made.{changed, with_commands}
 use Rattle.command_line.proofs.command.program.Goals as goal
 
@@ -15,9 +15,9 @@ returns c =
     let replay = three.4 in
     let compare = three.5 in
     let apps : List App = run_app run.names ∷ replay_app replay.names ∷ compare_app ∷ [] in
-    let all : AreInTurn IsMade c.in_ok-commands.commands.items apps = subst (λ (commands : List Command). AreInTurn IsMade commands apps) (sym three.6)
+    let all : AreInTurn IsChoiceMade c.in_ok-commands.commands.items apps = subst (λ (commands : List Command). AreInTurn IsChoiceMade commands apps) (sym three.6)
     (record { is = run.app; local = run.local }, (record { is = replay.app; local = replay.local }, (record { is = compare.app; local = compare.local }, tt))) in
-    let new : IsMade c.new.result (new_app (codes "dlsim")) = record { is = c.new.ensures.app; local = c.new.ensures.local } in
+    let new : IsChoiceMade c.new.result (new_app (codes "dlsim")) = record { is = c.new.ensures.app; local = c.new.ensures.local } in
     let about = changed _ _ _ _ _ c.about.ensures new.is refl new in
     let after_help = changed _ _ _ _ _ c.after_help.ensures about.is refl about in
     let required = changed _ _ _ _ _ c.subcommand_required.ensures (ap (on_top (λ s. record s { subcommand_required = true })) after_help.is) refl after_help in

@@ -1,6 +1,6 @@
 use Rattle.std.proofs.Common.{◌∙◌, ◌++◌, ◌∷◌, [], List, ap, codes, fold, subst}
 use Rattle.clap.specs.Words.{Rule, new_app, with_rule}
-use Rattle.command_line.specs.private.Made.{IsMade}
+use Rattle.command_line.specs.private.Made.{IsChoiceMade}
 use Rattle.command_line.proofs.command.subcommands.Goals as goal
 
 pub returns : goal.returns
@@ -10,9 +10,9 @@ returns c =
     let first = c.in_ok-add_command.ensures.added in
     let second = c.in_ok-add_command-2.ensures.added in
     let third = c.in_ok-add_command-3.ensures.added in
-    let run_made = subst (λ (rules : List Rule). IsMade first.0 (fold with_rule (new_app (codes "run")) rules)) run.rules first.2 in
-    let replay_made = subst (λ (rules : List Rule). IsMade second.0 (fold with_rule (new_app (codes "replay")) rules)) replay.rules second.2 in
-    let compare_made = subst (λ (rules : List Rule). IsMade third.0 (fold with_rule (new_app (codes "compare")) rules)) c.compare_choices.ensures third.2 in (
+    let run_made = subst (λ (rules : List Rule). IsChoiceMade first.0 (fold with_rule (new_app (codes "run")) rules)) run.rules first.2 in
+    let replay_made = subst (λ (rules : List Rule). IsChoiceMade second.0 (fold with_rule (new_app (codes "replay")) rules)) replay.rules second.2 in
+    let compare_made = subst (λ (rules : List Rule). IsChoiceMade third.0 (fold with_rule (new_app (codes "compare")) rules)) c.compare_choices.ensures third.2 in (
       first.0,
       second.0,
       third.0,

@@ -1,14 +1,14 @@
 use Rattle.std.proofs.Common.{◌∙◌, ap, map, string_bytes, subst, sym}
 use Rattle.std.proofs.lemmas.Result.{IfOk-weaker, err_from_is_err_and}
 use Rattle.clap.specs.Words.{App, FailsBy, fault_of, is_simple, is_simple_and_free, subcommand_of}
-use Rattle.command_line.specs.Reading.{IsReading}
+use Rattle.command_line.specs.Reading.{ReadsWords}
 use Rattle.command_line.proofs.RunTexts.{reading_has, reading_has_replay, refused_for_memory}
 use Rattle.command_line.proofs.reading.matches_of.Goals as goal
 
 pub returns-in_err-program-clause-reading : goal.returns-in_err-program-clause-reading
 returns-in_err-program-clause-reading c =
     let gone = err_from_is_err_and c.from_residual.result c.from_residual.ensures.1 in
-    subst (IsReading (map string_bytes c.args.words.now)) (sym gone.1) (refused_for_memory _ gone.0 gone.2)
+    subst (ReadsWords (map string_bytes c.args.words.now)) (sym gone.1) (refused_for_memory _ gone.0 gone.2)
 
 pub returns-clause-reading : goal.returns-clause-reading
 returns-clause-reading c =

@@ -3,7 +3,7 @@ use Rattle.std.specs.Io.KnownBytes.{Appends}
 use Rattle.counted_io.specs.Sides.{side, inner_of}
 use Rattle.counted_io.specs.Faults.{TakesFront}
 use Rattle.trace_compare.specs.Tasks.{HaveSmallTimes}
-use Rattle.compare_report.specs.Answer.{streams}
+use Rattle.compare_report.specs.Answer.{compare_streams}
 use Rattle.compare_report.proofs.Answering.{of_model, of_recorded, report_is, untouched, well, within_names}
 use Rattle.compare_report.proofs.comparing.compare_texts.Goals as goal
 
@@ -15,7 +15,7 @@ returns-in-Err-clause-ok g c = tt
 
 pub returns-in-Err-clause-err : goal.returns-in-Err-clause-err
 returns-in-Err-clause-err g c =
-    let s = streams (side g.M.Read.remaining c.args.model.now c.read_text.new.reader) (side g.R.Read.remaining c.args.recorded.now c.args.recorded.now) (side g.W.Write.contents c.args.writer.now c.args.writer.now) in
+    let s = compare_streams (side g.M.Read.remaining c.args.model.now c.read_text.new.reader) (side g.R.Read.remaining c.args.recorded.now c.args.recorded.now) (side g.W.Write.contents c.args.writer.now c.args.writer.now) in
     of_model c.args.options s c.in-Err.fault c.in-Err.ensures.fault (untouched s.recorded refl) (untouched s.writer refl)
 
 pub read_text-requires-2 : goal.read_text-requires-2
@@ -26,7 +26,7 @@ returns-in-Err-read_text-clause-ok g c = tt
 
 pub returns-in-Err-read_text-clause-err : goal.returns-in-Err-read_text-clause-err
 returns-in-Err-read_text-clause-err g c =
-    let s = streams (side g.M.Read.remaining c.args.model.now c.read_text.new.reader) (side g.R.Read.remaining c.args.recorded.now c.read_text-2.new.reader) (side g.W.Write.contents c.args.writer.now c.args.writer.now) in
+    let s = compare_streams (side g.M.Read.remaining c.args.model.now c.read_text.new.reader) (side g.R.Read.remaining c.args.recorded.now c.read_text-2.new.reader) (side g.W.Write.contents c.args.writer.now c.args.writer.now) in
     of_recorded c.args.options s c.in-Err-read_text.fault c.in-Err-read_text.ensures.fault (well s.model _ _ c.in-Ok.steps.items c.new-names.ensures c.in-Ok.ensures.read c.in-Ok.ensures.fine) (untouched s.writer refl)
 
 pub report_of-told-requires-clause-many : goal.report_of-told-requires-clause-many
@@ -53,7 +53,7 @@ write_all-requires g c = c.requires.writer
 
 pub returns-in-Ok-write_all-clause-ok : goal.returns-in-Ok-write_all-clause-ok
 returns-in-Ok-write_all-clause-ok g c =
-    let s = streams (side g.M.Read.remaining c.args.model.now c.read_text.new.reader) (side g.R.Read.remaining c.args.recorded.now c.read_text-2.new.reader) (side g.W.Write.contents c.args.writer.now c.write_all.new.self) in
+    let s = compare_streams (side g.M.Read.remaining c.args.model.now c.read_text.new.reader) (side g.R.Read.remaining c.args.recorded.now c.read_text-2.new.reader) (side g.W.Write.contents c.args.writer.now c.write_all.new.self) in
     record {
       text = c.in-Ok-told.text.items;
       report = report_is c.args.options s _ _ _ c.len-many.result c.in-Ok.steps.items c.in-Ok-read_text.steps.items c.deref.result.now c.deref-2.result.now c.in-Ok-told.text.items
@@ -71,7 +71,7 @@ returns-clause-ok g c = tt
 
 pub returns-clause-err : goal.returns-clause-err
 returns-clause-err g c =
-    let s = streams (side g.M.Read.remaining c.args.model.now c.read_text.new.reader) (side g.R.Read.remaining c.args.recorded.now c.read_text-2.new.reader) (side g.W.Write.contents c.args.writer.now c.write_all.new.self) in
+    let s = compare_streams (side g.M.Read.remaining c.args.model.now c.read_text.new.reader) (side g.R.Read.remaining c.args.recorded.now c.read_text-2.new.reader) (side g.W.Write.contents c.args.writer.now c.write_all.new.self) in
     record {
       text = c.in-Ok-told.text.items;
       report = report_is c.args.options s _ _ _ c.len-many.result c.in-Ok.steps.items c.in-Ok-read_text.steps.items c.deref.result.now c.deref-2.result.now c.in-Ok-told.text.items

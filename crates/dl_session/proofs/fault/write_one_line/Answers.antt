@@ -5,14 +5,14 @@ use Rattle.std.proofs.lemmas.Iterator.{YieldsList-from_chars}
 use Rattle.std.proofs.lemmas.Iterator.Consumers.{YieldsList-end}
 use Rattle.std.proofs.lemmas.List.{flat_map_more, map-id}
 use Rattle.std.proofs.lemmas.Grind.{put_two}
-use Rattle.dl_session.specs.Lines.{shown}
+use Rattle.dl_session.specs.Lines.{shown_character}
 use Rattle.dl_session.proofs.fault.write_one_line.Goals as goal
 
 pub returns : goal.returns
 returns g c = λ plain _.
     let e = YieldsList-end (YieldsList-from_chars c.args.text.now c.utf8.text cc) c.loop-c.yielded _ c.loop-c.yielded_by _ _ c.in-None.is c.next.ensures.steps in
-    has_written_of_eq _ _ _ _ _ (ap (flat_map shown) (sym (map-id c.loop-c.yielded) ∙ e.0)) (c.loop-c.invariant plain)
+    has_written_of_eq _ _ _ _ _ (ap (flat_map shown_character) (sym (map-id c.loop-c.yielded) ∙ e.0)) (c.loop-c.invariant plain)
 
 pub loop-c-preserved : goal.loop-c-preserved
 loop-c-preserved g c = λ plain.
-    put_two _ _ _ _ _ _ _ (c.loop-c.invariant plain) (c.in_ok-write_shown.ensures (search rules) refl) (flat_map_more shown [] c.loop-c.yielded _)
+    put_two _ _ _ _ _ _ _ (c.loop-c.invariant plain) (c.in_ok-write_shown.ensures (search rules) refl) (flat_map_more shown_character [] c.loop-c.yielded _)

@@ -1,9 +1,9 @@
 use Rattle.std.specs.Fmt.{HasWritten, IsPlainFormatter}
 use Rattle.std.specs.List.{flat_map}
-use Rattle.dl_session.specs.Lines.{shown}
+use Rattle.dl_session.specs.Lines.{shown_character}
 use Rattle.dl_session.proofs.fault.write_one_line.Given as goal
 
 -- the characters so far were written
 abbrev pub invariant-loop-c : goal.invariant-loop-c
 invariant-loop-c g l =
-    IsPlainFormatter l.initial.f → HasWritten g.W.Write.write_str_gives l.initial.f (flat_map shown l.yielded) l.f
+    IsPlainFormatter l.initial.f → HasWritten g.W.Write.write_str_gives l.initial.f (flat_map shown_character l.yielded) l.f

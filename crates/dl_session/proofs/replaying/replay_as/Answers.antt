@@ -1,7 +1,7 @@
 use Rattle.std.proofs.Common.{sym, subst}
 use Rattle.counted_io.specs.Sides.{side}
-use Rattle.calls_trace.specs.Answer.{Streams, replayed, streams}
-use Rattle.dl_session.specs.Answer.{IsFaultBy}
+use Rattle.calls_trace.specs.Answer.{Streams, replayed_text, streams}
+use Rattle.dl_session.specs.Answer.{IsSessionFaultBy}
 use Rattle.dl_session.proofs.Told.{told}
 use Rattle.dl_session.proofs.replaying.replay_as.Goals as goal
 
@@ -10,5 +10,5 @@ returns-in-Err-clause-err g c =
     let r = side g.R.Read.remaining c.args.reader.now c.replay_as.new.reader in
     let w = side g.W.Write.contents c.args.writer.now c.replay_as.new.writer in
     let s : Streams = streams r w in
-    let text = replayed c.args.print in
-    subst (IsFaultBy text s) (sym c.from.ensures) (told text s c.in-Err.fault c.in-Err.ensures.err)
+    let text = replayed_text c.args.print in
+    subst (IsSessionFaultBy text s) (sym c.from.ensures) (told text s c.in-Err.fault c.in-Err.ensures.err)

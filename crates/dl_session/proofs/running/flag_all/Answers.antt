@@ -1,7 +1,7 @@
 use Rattle.std.proofs.Common.{sym, ap, ◌∙◌}
 use Rattle.std.specs.Prelude.{true}
 use Rattle.std.proofs.lemmas.List.Edits.{map_over_more}
-use Rattle.dl_session.specs.RunAnswer.{flagged}
+use Rattle.dl_session.specs.RunAnswer.{with_reclaim}
 use Rattle.dl_session.proofs.ScenarioLaw.{unflagged}
 use Rattle.dl_session.proofs.running.flag_all.Goals as goal
 
@@ -12,5 +12,5 @@ pub loop-task-preserved : goal.loop-task-preserved
 loop-task-preserved c =
     let x = c.task-item.result in
     let l = c.loop-task in
-    let same = ap (flagged true) (c.task.view_is ∙ sym c.task-item.is) in
-    record { written = rw same (map_over_more (flagged true) c.deref_mut-task-items.result.now l.task-items l.task-index x c.loop-task-test.true l.invariant.written c.task-item.is) }
+    let same = ap (with_reclaim true) (c.task.view_is ∙ sym c.task-item.is) in
+    record { written = rw same (map_over_more (with_reclaim true) c.deref_mut-task-items.result.now l.task-items l.task-index x c.loop-task-test.true l.invariant.written c.task-item.is) }

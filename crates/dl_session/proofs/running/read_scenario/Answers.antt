@@ -1,5 +1,5 @@
 use Rattle.std.proofs.Common.{subst}
-use Rattle.json_order.specs.Fault.{strict, Spells, IsFault}
+use Rattle.json_order.specs.Fault.{strict, Spells, IsJsonFault}
 use Rattle.json_order.specs.Seen.{json_of}
 use Rattle.counted_io.specs.Sides.{side}
 use Rattle.calls_trace.specs.Answer.{streams}
@@ -9,7 +9,7 @@ use Rattle.dl_session.proofs.running.read_scenario.Goals as goal
 pub returns-in-Err-clause-err : goal.returns-in-Err-clause-err
 returns-in-Err-clause-err g c = λ w o unwritten writes.
     json_faulted (streams (side g.R.Read.remaining c.args.reader.now c.read_all.new.self) w) o c.in-Ok.text.items c.in-Err.fault c.json_fault.result
-    (record { all = c.in-Ok.ensures.all }) (subst (λ t. IsFault t c.in-Err.fault.kind c.in-Err.fault.at) c.deref.ensures.value c.in-Err.ensures.fault) unwritten c.in-Ok.ensures.faults writes c.json_fault.ensures
+    (record { all = c.in-Ok.ensures.all }) (subst (λ t. IsJsonFault t c.in-Err.fault.kind c.in-Err.fault.at) c.deref.ensures.value c.in-Err.ensures.fault) unwritten c.in-Ok.ensures.faults writes c.json_fault.ensures
 
 pub returns-clause-err : goal.returns-clause-err
 returns-clause-err g c = λ w o unwritten writes.

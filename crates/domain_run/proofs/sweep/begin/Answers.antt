@@ -7,10 +7,10 @@ use Rattle.std.proofs.lemmas.Grind.{common_steps}
 use Rattle.domain_run.specs.Switch.{Switch}
 use Rattle.domain_run.specs.declared.task.Task.{Task}
 use Rattle.domain_run.specs.Domain.{Domain}
-use Rattle.domain_run.specs.Sound.{IsApart}
+use Rattle.domain_run.specs.Sound.{HasNoTaskTwice}
 use Rattle.domain_run.specs.Switches.{switches_from}
 use Rattle.domain_run.specs.Tick.{candidates}
-use Rattle.domain_run.specs.private.Choosing.{AreWithin, switch_of}
+use Rattle.domain_run.specs.private.Choosing.{AreWithin, switch_made}
 use Rattle.domain_run.specs.private.Telling.{told_of_parts, GoHome}
 use Rattle.domain_run.proofs.Logging.{tells_home}
 use Rattle.domain_run.proofs.Moving.{state_homed, switched, moved_within, none_moved}
@@ -22,7 +22,7 @@ pub choose-requires-clause-wide : goal.choose-requires-clause-wide
 choose-requires-clause-wide c = ap (λ (ps : Places). length ps) c.wake_all.ensures.places ∙ c.requires.cpus ∙ sym c.wake_all.ensures.cpus
 
 pub choose-requires-clause-apart : goal.choose-requires-clause-apart
-choose-requires-clause-apart c = subst IsApart (sym c.wake_all.ensures.places) c.requires.apart
+choose-requires-clause-apart c = subst HasNoTaskTwice (sym c.wake_all.ensures.places) c.requires.apart
 
 -- the CPUs that another one has, from those before
 moves_are : (c : After-choose) → c.choose.new.self.moves ≡ moved_from 0 c.args.roster.now.places c.choose.new.self.places
@@ -57,7 +57,7 @@ returns-clause-switches c =
     let are = moves_are (goal.at.returns-clause-switches c).After-choose in
     c.add_switches.ensures.switches
     ∙ ap (λ (ss : List Switch). start ++ ss)
-    (ap (λ (ms : List Moved). map (switch_of time tasks after) ms) are
+    (ap (λ (ms : List Moved). map (switch_made time tasks after) ms) are
     ∙ switched time first tasks after (λ o. state_homed after first tasks o c.choose.ensures.tasks) 0 before after (λ i. ap (λ (n : ℕ). get_or after n None) (omega arith))
     ∙ ap (λ (ts : List Task). switches_from time ts 0 before after) c.wake_all.ensures.tasks)
 

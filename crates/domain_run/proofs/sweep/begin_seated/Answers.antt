@@ -5,10 +5,10 @@ use Rattle.edf_pick.specs.Moves.{moved_from}
 use Rattle.edf_pick.specs.Places.{Places, placed}
 use Rattle.domain_run.specs.Switch.{Switch}
 use Rattle.domain_run.specs.declared.task.Task.{Task}
-use Rattle.domain_run.specs.Sound.{IsApart}
+use Rattle.domain_run.specs.Sound.{HasNoTaskTwice}
 use Rattle.domain_run.specs.Switches.{switches_from}
 use Rattle.domain_run.specs.Tick.{candidates, prepared, sum_of}
-use Rattle.domain_run.specs.private.Choosing.{switch_of}
+use Rattle.domain_run.specs.private.Choosing.{switch_made}
 use Rattle.domain_run.proofs.Moving.{switched, none_moved}
 use Rattle.domain_run.proofs.Starting.{sound_may}
 use Rattle.domain_run.proofs.sweep.begin_seated.Goals as goal
@@ -18,7 +18,7 @@ pub choose_seated-requires-clause-wide : goal.choose_seated-requires-clause-wide
 choose_seated-requires-clause-wide c = ap (λ (ps : Places). length ps) c.wake_unheard.ensures.places ∙ c.requires.cpus ∙ sym c.wake_unheard.ensures.cpus
 
 pub choose_seated-requires-clause-apart : goal.choose_seated-requires-clause-apart
-choose_seated-requires-clause-apart c = subst IsApart (sym c.wake_unheard.ensures.places) c.requires.apart
+choose_seated-requires-clause-apart c = subst HasNoTaskTwice (sym c.wake_unheard.ensures.places) c.requires.apart
 
 pub choose_seated-requires-clause-cpus : goal.choose_seated-requires-clause-cpus
 choose_seated-requires-clause-cpus c = subst (λ (n : ℕ). (0 < n) × (n ≤ 64)) (sym c.wake_unheard.ensures.cpus) c.requires.narrow
@@ -53,7 +53,7 @@ returns-clause-switches c =
     let are = moves_are (goal.at.returns-clause-switches c).After-choose_seated in
     c.choose_seated.ensures.switches
     ∙ ap (λ (ss : List Switch). start ++ ss)
-    (ap (λ (ms : List Moved). map (switch_of time first after) ms) are
+    (ap (λ (ms : List Moved). map (switch_made time first after) ms) are
     ∙ switched time first first after (λ o. refl) 0 before after (λ i. ap (λ (n : ℕ). get_or after n None) (omega arith))
     ∙ ap (λ (ts : List Task). switches_from time ts 0 before after) c.wake_unheard.ensures.tasks)
 

@@ -17,7 +17,7 @@ use Rattle.std.specs.List.Sorted.{IsPermutation}
 use Rattle.std.proofs.lemmas.List.Sorted.{IsPermutation-refl, IsPermutation-trans, IsPermutation-append_left}
 use Rattle.domain_run.specs.declared.change.Change.TheVariants.{Run}
 use Rattle.domain_run.specs.declared.happened.Happened.{Happened}
-use Rattle.domain_run.specs.Log.{Tells, kept}
+use Rattle.domain_run.specs.Log.{Tells, if_wanted}
 use Rattle.domain_run.specs.private.Telling.{told_by_change, told_of_number, told_paid, InOrderFrom}
 use Rattle.domain_run.proofs.ToldPay.{told_paid_none, told_paid_next}
 use Rattle.domain_run.proofs.ToldRising.{paying_apart}
@@ -111,7 +111,7 @@ put_in_order-requires c =
     let log = c.args.log.now in
     let told = c.loop-i.invariant.told in
     let len : List Happened → ℕ = λ hs. length hs in
-    omega (arith, c.len-from.ensures, ap len told.is.happened, length-append log.happened (kept log told.tail))
+    omega (arith, c.len-from.ensures, ap len told.is.happened, length-append log.happened (if_wanted log told.tail))
 
 pub bounds-budgets-i : goal.bounds-budgets-i
 bounds-budgets-i c = grind (arith, common_steps)

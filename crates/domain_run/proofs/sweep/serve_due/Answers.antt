@@ -2,7 +2,7 @@ use Rattle.std.proofs.Common.{◌≡◌, ◌<◌, ◌≤◌, ◌+◌, [], take, 
 use Rattle.std.specs.List.{flat_map}
 use Rattle.domain_run.specs.Happened.{told_by_replenishment}
 use Rattle.domain_run.specs.Log.{Tells}
-use Rattle.domain_run.specs.private.Roster.{served}
+use Rattle.domain_run.specs.private.Roster.{timers_served}
 use Rattle.domain_run.proofs.Due.{some_task, step_more, step_len, step_by}
 use Rattle.domain_run.proofs.Making.{served_passes}
 use Rattle.domain_run.proofs.ToldChanges.{told_next, replenish_quiet}
@@ -15,7 +15,7 @@ loop-place-init c =
     let tasks = c.args.roster.now.tasks in
     let next = c.next_due-place in
     let f = told_by_replenishment c.args.time in
-    let g = served c.args.time in
+    let g = timers_served c.args.time in
     let none : [] ≡ flat_map f (take next.result tasks) = told_by c.args.time f g tasks tasks 0 next.result (replenish_quiet c.args.time) (omega arith) next.ensures.most refl refl next.ensures.others in
     record {
       cpus = refl;
@@ -34,7 +34,7 @@ loop-place-preserved c =
     let s = c.serve in
     let first = c.args.roster.now.tasks in
     let now = s.new.roster.tasks in
-    let f = served c.args.time in
+    let f = timers_served c.args.time in
     let tell = told_by_replenishment c.args.time in
     let next = c.next_due-place-in-loop-place in
     let there : l.place < length l.roster.tasks = omega arith in
@@ -66,4 +66,4 @@ pub next_due-place-requires-in-loop-place : goal.next_due-place-requires-in-loop
 next_due-place-requires-in-loop-place c =
     let l = c.loop-place in
     let there : l.place < length l.roster.tasks = omega arith in
-    omega (arith, there, step_len (served c.args.time) l.roster.tasks c.serve.new.roster.tasks l.place there c.serve.ensures.step)
+    omega (arith, there, step_len (timers_served c.args.time) l.roster.tasks c.serve.new.roster.tasks l.place there c.serve.ensures.step)

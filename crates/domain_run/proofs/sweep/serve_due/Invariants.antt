@@ -3,14 +3,14 @@ use Rattle.std.specs.List.{flat_map}
 use Rattle.domain_run.specs.Happened.{told_by_replenishment}
 use Rattle.domain_run.specs.Log.{Tells}
 use Rattle.domain_run.specs.Sound.{IsSound}
-use Rattle.domain_run.specs.private.Roster.{served}
+use Rattle.domain_run.specs.private.Roster.{timers_served}
 use Rattle.domain_run.proofs.sweep.serve_due.Given as goal
 
 abbrev pub invariant-loop-place : goal.invariant-loop-place
 invariant-loop-place l = record {
   cpus : l.roster.cpus ≡ l.fn.roster.cpus;
   places : l.roster.places ≡ l.fn.roster.places;
-  written : l.roster.tasks ≡ map (served l.time) (take l.place l.fn.roster.tasks) ++ drop l.place l.fn.roster.tasks;
+  written : l.roster.tasks ≡ map (timers_served l.time) (take l.place l.fn.roster.tasks) ++ drop l.place l.fn.roster.tasks;
   len : length l.roster.tasks ≡ length l.fn.roster.tasks;
   within : l.place ≤ length l.fn.roster.tasks;
   sound : All (IsSound l.time) l.roster.tasks;

@@ -5,7 +5,7 @@ use Rattle.domain_run.specs.private.Roster.{RosterView}
 use Rattle.domain_run.specs.private.Telling.{told_by_change}
 use Rattle.domain_run.specs.Log.{Tells}
 use Rattle.due_times.specs.Seats.{seat_by}
-use Rattle.domain_run.specs.private.Waiting.{seat_of}
+use Rattle.domain_run.specs.private.Waiting.{seat_of_task}
 use Rattle.domain_run.proofs.Seatings.{none_at}
 use Rattle.domain_run.proofs.Logging.{tells_none, tells_silent}
 use Rattle.domain_run.proofs.sweep.turn.Goals as goal
@@ -22,7 +22,7 @@ emptied old new p cpu d is home =
     ∙ none_at old.seats t.cpu
 
 -- so it sits nowhere
-freed : (old new : RosterView) (p cpu : ℕ) (d : Task) → new ≡ record old { seats = set old.seats cpu None } → cpu ≡ (get_or old.tasks p d).cpu → seat_of new.seats (get_or new.tasks p d) ≡ None
+freed : (old new : RosterView) (p cpu : ℕ) (d : Task) → new ≡ record old { seats = set old.seats cpu None } → cpu ≡ (get_or old.tasks p d).cpu → seat_of_task new.seats (get_or new.tasks p d) ≡ None
 freed old new p cpu d is home = ap (seat_by (get_or new.tasks p d).number) (emptied old new p cpu d is home)
 
 pub at-task-requires-clause-free : goal.at-task-requires-clause-free

@@ -1,6 +1,6 @@
 use Rattle.std.proofs.Common.{◌≡◌, ◌<◌, ◌≤◌, ◌+◌, [], take, get_or, length, refl, sym, subst, arith, ◌∙◌}
 use Rattle.std.specs.List.{flat_map}
-use Rattle.domain_run.specs.private.Roster.{after_change}
+use Rattle.domain_run.specs.private.Roster.{task_after}
 use Rattle.domain_run.specs.Log.{Tells}
 use Rattle.domain_run.specs.private.Telling.{told_by_change}
 use Rattle.domain_run.proofs.Due.{some_task, step_more, step_len, step_by}
@@ -14,7 +14,7 @@ loop-place-init c =
     let tasks = c.args.roster.now.tasks in
     let next = c.next_due-place in
     let f = told_by_change c.args.time c.args.change.now in
-    let g = after_change c.args.time c.args.change.now in
+    let g = task_after c.args.time c.args.change.now in
     let none : [] ≡ flat_map f (take next.result tasks) = told_by c.args.time f g tasks tasks 0 next.result c.requires.quiet (omega arith) next.ensures.most refl refl next.ensures.others in
     record {
       cpus = refl;
@@ -33,7 +33,7 @@ loop-place-preserved c =
     let s = c.turn in
     let first = c.args.roster.now.tasks in
     let now = s.new.roster.tasks in
-    let f = after_change c.args.time c.args.change.now in
+    let f = task_after c.args.time c.args.change.now in
     let tell = told_by_change c.args.time c.args.change.now in
     let next = c.next_due-place-in-loop-place in
     let there : l.place < length l.roster.tasks = omega arith in
@@ -68,4 +68,4 @@ pub next_due-place-requires-in-loop-place : goal.next_due-place-requires-in-loop
 next_due-place-requires-in-loop-place c =
     let l = c.loop-place in
     let there : l.place < length l.roster.tasks = omega arith in
-    omega (arith, there, step_len (after_change c.args.time c.args.change.now) l.roster.tasks c.turn.new.roster.tasks l.place there c.turn.ensures.step)
+    omega (arith, there, step_len (task_after c.args.time c.args.change.now) l.roster.tasks c.turn.new.roster.tasks l.place there c.turn.ensures.step)

@@ -1,7 +1,7 @@
 use Rattle.std.proofs.Common.{◌≡◌, ◌≤◌, ◌+◌, ◌-◌, ◌*◌, map, take, drop, ◌++◌, length, All}
 use Rattle.std.specs.List.{flat_map}
 use Rattle.domain_run.specs.Sound.{IsSound}
-use Rattle.domain_run.specs.private.Roster.{after_change}
+use Rattle.domain_run.specs.private.Roster.{task_after}
 use Rattle.domain_run.specs.Log.{Tells}
 use Rattle.domain_run.specs.private.Telling.{told_by_change}
 use Rattle.domain_run.proofs.sweep.turn_due.Given as goal
@@ -10,7 +10,7 @@ abbrev pub invariant-loop-place : goal.invariant-loop-place
 invariant-loop-place l = record {
   cpus : l.roster.cpus ≡ l.fn.roster.cpus;
   places : l.roster.places ≡ l.fn.roster.places;
-  written : l.roster.tasks ≡ map (after_change l.time l.change) (take l.place l.fn.roster.tasks) ++ drop l.place l.fn.roster.tasks;
+  written : l.roster.tasks ≡ map (task_after l.time l.change) (take l.place l.fn.roster.tasks) ++ drop l.place l.fn.roster.tasks;
   len : length l.roster.tasks ≡ length l.fn.roster.tasks;
   within : l.place ≤ length l.fn.roster.tasks;
   sound : All (IsSound l.time) l.roster.tasks;

@@ -9,7 +9,7 @@ use Rattle.domain_run.specs.Happened.{told_by_replenishment, told_by_unblocking}
 use Rattle.domain_run.specs.Log.{Tells}
 use Rattle.domain_run.specs.Parts.{replenish_due, settled, unblocked, is_listed}
 use Rattle.domain_run.specs.Sound.{IsSound}
-use Rattle.domain_run.specs.private.Roster.{served}
+use Rattle.domain_run.specs.private.Roster.{timers_served}
 use Rattle.domain_run.specs.private.Telling.{told_of_parts}
 use Rattle.domain_run.proofs.Keeping.{length-filter_least}
 use Rattle.domain_run.proofs.Logging.{tells_more}
@@ -27,7 +27,7 @@ pub turn_due-requires-clause-sound : goal.turn_due-requires-clause-sound
 turn_due-requires-clause-sound c = rw c.drop_left.ensures.tasks (All-filter is_listed (IsSound c.args.time) c.serve_due.new.roster.tasks c.serve_due.ensures.sound)
 
 -- those that part 3 finds
-listed_are : (time : ℕ) (tasks mid more : List Task) → more ≡ filter is_listed mid → mid ≡ map (served time) tasks → more ≡ filter is_listed (map (settled time) (map (replenish_due time) tasks))
+listed_are : (time : ℕ) (tasks mid more : List Task) → more ≡ filter is_listed mid → mid ≡ map (timers_served time) tasks → more ≡ filter is_listed (map (settled time) (map (replenish_due time) tasks))
 listed_are time tasks mid more is are = is ∙ ap (λ (ts : List Task). filter is_listed ts) (are ∙ sym (map-map (settled time) (replenish_due time) tasks))
 
 pub returns-clause-tasks : goal.returns-clause-tasks
@@ -50,9 +50,9 @@ returns-clause-told c =
     subst (λ hs. Tells log hs two.new.log) same (tells_more R U log one.new.log two.new.log one.ensures.told two.ensures.told)
 
 -- they are no more than before
-many : (time : ℕ) (tasks mid more : List Task) → more ≡ filter is_listed mid → mid ≡ map (served time) tasks → length more ≤ length tasks
+many : (time : ℕ) (tasks mid more : List Task) → more ≡ filter is_listed mid → mid ≡ map (timers_served time) tasks → length more ≤ length tasks
 many time tasks mid more is are =
-    let same : length mid ≡ length tasks = ap (λ (ts : List Task). length ts) are ∙ length-map tasks (served time) in
+    let same : length mid ≡ length tasks = ap (λ (ts : List Task). length ts) are ∙ length-map tasks (timers_served time) in
     let few : length more ≤ length mid = rw is (length-filter_least is_listed mid) in
     omega (arith, same, few)
 

@@ -5,7 +5,7 @@ use Rattle.domain_run.specs.Sound.{IsSound}
 use Rattle.edf_pick.specs.Places.{Places}
 use Rattle.domain_run.specs.private.Roster.{IsSeated}
 use Rattle.domain_run.specs.private.RunQueue.{AreHomed}
-use Rattle.domain_run.specs.private.Waiting.{seat_of, Lasts, passed}
+use Rattle.domain_run.specs.private.Waiting.{seat_of_task, Lasts, time_passed}
 use Rattle.domain_run.proofs.Leaping.{leapt_all, lasts_all}
 use Rattle.domain_run.proofs.Paying.{sound_later}
 use Rattle.std.proofs.lemmas.Grind.{common_steps}
@@ -46,7 +46,7 @@ returns-clause-lasts c =
     let k = c.ticks_to_end-ticks.result in
     let seats = c.seat_all.new.roster.seats in
     lasts_all k c.args.roster.now.places old.cpus c.args.limit old.tasks seats c.requires.apart (homed_are c) (right_are c)
-    (subst (λ (ts : List Task). All (λ t. IfSome (seat_of seats t) (λ s. Lasts k s.rate t)) ts) (tasks_are c) c.ticks_to_end-ticks.ensures.lasts)
+    (subst (λ (ts : List Task). All (λ t. IfSome (seat_of_task seats t) (λ s. Lasts k s.rate t)) ts) (tasks_are c) c.ticks_to_end-ticks.ensures.lasts)
 
 pub returns-clause-tasks : goal.returns-clause-tasks
 returns-clause-tasks c =
@@ -55,7 +55,7 @@ returns-clause-tasks c =
     let end = c.args.time + (k - 1) in
     let seats = c.seat_all.new.roster.seats in
     c.pass.ensures.tasks
-    ∙ ap (λ (ts : List Task). map (passed end k seats) ts) (tasks_are c)
+    ∙ ap (λ (ts : List Task). map (time_passed end k seats) ts) (tasks_are c)
     ∙ leapt_all end k c.args.roster.now.places old.cpus c.args.limit old.tasks seats c.requires.apart (homed_are c) (right_are c)
 
 pub seat_all-requires-clause-wide : goal.seat_all-requires-clause-wide

@@ -4,12 +4,12 @@ use Rattle.std.proofs.lemmas.Grind.{common_steps}
 use Rattle.domain_run.specs.declared.task.Task.{Task}
 use Rattle.domain_run.specs.Sound.{IsSound}
 use Rattle.edf_pick.specs.Places.{Places}
-use Rattle.domain_run.specs.private.Roster.{IsSeated, bared, leapt}
+use Rattle.domain_run.specs.private.Roster.{IsSeated, without_zero_lag, leapt}
 use Rattle.domain_run.specs.private.Dozing.{with_lags, passed_bare, leapt_bare, IsBare}
 use Rattle.domain_run.proofs.Jumping.{map_twice}
 use Rattle.domain_run.proofs.Aside.{leapt_lags}
 use Rattle.domain_run.specs.private.RunQueue.{AreHomed}
-use Rattle.domain_run.specs.private.Waiting.{seat_of, Lasts, passed}
+use Rattle.domain_run.specs.private.Waiting.{seat_of_task, Lasts, time_passed}
 use Rattle.domain_run.proofs.Leaping.{leapt_all, lasts_all}
 use Rattle.domain_run.proofs.Paying.{sound_later}
 use Rattle.domain_run.proofs.to_event.leap_aside.Goals as goal
@@ -49,7 +49,7 @@ returns-clause-lasts c =
     let k = c.ticks_to_end-ticks.result in
     let seats = c.seat_all.new.roster.seats in
     lasts_all k c.args.roster.now.places old.cpus c.args.limit old.tasks seats c.requires.apart (homed_are c) (right_are c)
-    (subst (λ (ts : List Task). All (λ t. IfSome (seat_of seats t) (λ s. Lasts k s.rate t)) ts) (tasks_are c) c.ticks_to_end-ticks.ensures.lasts)
+    (subst (λ (ts : List Task). All (λ t. IfSome (seat_of_task seats t) (λ s. Lasts k s.rate t)) ts) (tasks_are c) c.ticks_to_end-ticks.ensures.lasts)
 
 pub pass_aside-requires-clause-bare : goal.pass_aside-requires-clause-bare
 pass_aside-requires-clause-bare c = subst (λ (ts : List Task). All IsBare ts) (sym (c.seat_all.ensures.tasks ∙ c.wind_back.ensures.tasks)) c.requires.bare
@@ -62,9 +62,9 @@ returns-clause-tasks c =
     let seats = c.seat_all.new.roster.seats in
     c.pass_aside.ensures.tasks
     ∙ ap (λ (ts : List Task). map (passed_bare end k seats) ts) (tasks_are c)
-    ∙ sym (map_twice bared (passed end k seats) (passed_bare end k seats) old.tasks (λ i d h. refl))
-    ∙ ap (map bared) (leapt_all end k old.places old.cpus c.args.limit old.tasks seats c.requires.apart (homed_are c) (right_are c))
-    ∙ map_twice bared (leapt end k old.places old.cpus c.args.limit old.tasks) (leapt_bare end k old.places old.cpus c.args.limit old.tasks) old.tasks (λ i d h. refl)
+    ∙ sym (map_twice without_zero_lag (time_passed end k seats) (passed_bare end k seats) old.tasks (λ i d h. refl))
+    ∙ ap (map without_zero_lag) (leapt_all end k old.places old.cpus c.args.limit old.tasks seats c.requires.apart (homed_are c) (right_are c))
+    ∙ map_twice without_zero_lag (leapt end k old.places old.cpus c.args.limit old.tasks) (leapt_bare end k old.places old.cpus c.args.limit old.tasks) old.tasks (λ i d h. refl)
 
 pub returns-clause-lags : goal.returns-clause-lags
 returns-clause-lags c past order =
@@ -73,7 +73,7 @@ returns-clause-lags c past order =
     let end = c.args.time + (k - 1) in
     let seats = c.seat_all.new.roster.seats in
     c.pass_aside.ensures.lags past order
-    ∙ ap (λ (ts : List Task). map (passed end k seats) (with_lags past c.args.lags.now ts)) (tasks_are c)
+    ∙ ap (λ (ts : List Task). map (time_passed end k seats) (with_lags past c.args.lags.now ts)) (tasks_are c)
     ∙ leapt_lags past end k old.places old.cpus c.args.limit old.tasks seats c.args.lags.now c.requires.apart (homed_are c) (right_are c)
 
 pub seat_all-requires-clause-wide : goal.seat_all-requires-clause-wide

@@ -6,7 +6,7 @@ use Rattle.std.proofs.lemmas.Grind.{common_steps}
 use Rattle.domain_run.specs.declared.task.Task.{Task}
 use Rattle.domain_run.specs.Sound.{occupant}
 use Rattle.domain_run.specs.private.Roster.{RosterView, rate_in, IsSeated}
-use Rattle.domain_run.specs.private.Waiting.{MaySit, IsRight, seat_of}
+use Rattle.domain_run.specs.private.Waiting.{MaySit, IsRight, seat_of_task}
 use Rattle.domain_run.proofs.Leaping.{right_next}
 use Rattle.domain_run.proofs.to_event.seat_all.Goals as goal
 
@@ -48,10 +48,10 @@ loop-cpu-preserved c =
     let e = c.seat_rightly.ensures in
     let stay : new.places ≡ places = e.places ∙ l.invariant.places in
     let tasks : new.tasks ≡ first.tasks = e.tasks ∙ l.invariant.tasks in
-    let there = subst (λ (ps : Places). All (λ (t : Task). t.cpu ≡ l.cpu → IsRight (occupant ps l.cpu) t.number (rate_in l.roster.cpus c.args.limit l.roster.tasks t) (seat_of new.seats t)) new.tasks) l.invariant.places e.right in
-    let here = subst (λ (ts : List Task). All (λ (t : Task). t.cpu ≡ l.cpu → IsRight (occupant places l.cpu) t.number (rate_in l.roster.cpus c.args.limit l.roster.tasks t) (seat_of new.seats t)) ts) tasks there in
-    let now = subst (λ (n : ℕ). All (λ (t : Task). t.cpu ≡ l.cpu → IsRight (occupant places l.cpu) t.number (rate_in n c.args.limit first.tasks t) (seat_of new.seats t)) first.tasks) l.invariant.cpus
-    (subst (λ (ts : List Task). All (λ (t : Task). t.cpu ≡ l.cpu → IsRight (occupant places l.cpu) t.number (rate_in l.roster.cpus c.args.limit ts t) (seat_of new.seats t)) first.tasks) l.invariant.tasks here) in
+    let there = subst (λ (ps : Places). All (λ (t : Task). t.cpu ≡ l.cpu → IsRight (occupant ps l.cpu) t.number (rate_in l.roster.cpus c.args.limit l.roster.tasks t) (seat_of_task new.seats t)) new.tasks) l.invariant.places e.right in
+    let here = subst (λ (ts : List Task). All (λ (t : Task). t.cpu ≡ l.cpu → IsRight (occupant places l.cpu) t.number (rate_in l.roster.cpus c.args.limit l.roster.tasks t) (seat_of_task new.seats t)) ts) tasks there in
+    let now = subst (λ (n : ℕ). All (λ (t : Task). t.cpu ≡ l.cpu → IsRight (occupant places l.cpu) t.number (rate_in n c.args.limit first.tasks t) (seat_of_task new.seats t)) first.tasks) l.invariant.cpus
+    (subst (λ (ts : List Task). All (λ (t : Task). t.cpu ≡ l.cpu → IsRight (occupant places l.cpu) t.number (rate_in l.roster.cpus c.args.limit ts t) (seat_of_task new.seats t)) first.tasks) l.invariant.tasks here) in
     let next = c.first_marked-cpu-in-loop-cpu.ensures in
     record {
       marked = next.marked;

@@ -2,7 +2,7 @@ use Rattle.std.proofs.Common.{◌++◌, List, ◌∷◌, Option, sym, subst}
 use Rattle.std.specs.List.Sorted.{IsPermutation}
 use Rattle.edf_pick.specs.declared.candidate.Candidate.{Candidate}
 use Rattle.edf_pick.specs.private.Choosing.{chosen_movers, IsChoosing}
-use Rattle.edf_pick.specs.private.Waiting.{held}
+use Rattle.edf_pick.specs.private.Waiting.{all_held}
 use Rattle.edf_pick.proofs.Chosen.{home_bare, chosen_same, chosen_is}
 use Rattle.edf_pick.proofs.choosing.choose_first.Goals as goal
 use Rattle.edf_pick.proofs.choosing.choose_first.Goals.{After-take_first-c}
@@ -32,6 +32,6 @@ returns-clause-same c =
     let places = c.args.places.now in
     let rest = c.take_first-c.new.self in
     let one = c.take_first-c.result in
-    subst (λ (xs : List Candidate). IsPermutation (held stays ++ (movers ++ xs)) (held c.choose.new.staying ++ (c.choose.new.movers ++ rest))) (sym c.take_first-c.ensures.first)
-    (subst (λ (xs : List Candidate). IsPermutation (held stays ++ (movers ++ one ∷ rest)) (held c.choose.new.staying ++ (xs ++ rest))) (sym c.choose.ensures.movers)
-    (subst (λ (ss : List (Option Candidate)). IsPermutation (held stays ++ (movers ++ one ∷ rest)) (held ss ++ (chosen_movers places one movers ++ rest))) (sym c.choose.ensures.staying) (chosen_same stays movers rest places one (first_is k))))
+    subst (λ (xs : List Candidate). IsPermutation (all_held stays ++ (movers ++ xs)) (all_held c.choose.new.staying ++ (c.choose.new.movers ++ rest))) (sym c.take_first-c.ensures.first)
+    (subst (λ (xs : List Candidate). IsPermutation (all_held stays ++ (movers ++ one ∷ rest)) (all_held c.choose.new.staying ++ (xs ++ rest))) (sym c.choose.ensures.movers)
+    (subst (λ (ss : List (Option Candidate)). IsPermutation (all_held stays ++ (movers ++ one ∷ rest)) (all_held ss ++ (chosen_movers places one movers ++ rest))) (sym c.choose.ensures.staying) (chosen_same stays movers rest places one (first_is k))))

@@ -6,7 +6,7 @@ use Rattle.edf_pick.specs.Choice.{is_before}
 use Rattle.edf_pick.specs.Order.{with_candidate}
 use Rattle.edf_pick.specs.private.Choosing.{chosen_stays, chosen_movers, IsChoosing, total}
 use Rattle.edf_pick.specs.private.Staying.{bare_key}
-use Rattle.edf_pick.specs.private.Waiting.{held}
+use Rattle.edf_pick.specs.private.Waiting.{all_held}
 use Rattle.edf_pick.proofs.Before.{key}
 use Rattle.edf_pick.proofs.Chosen.{home_bare, chosen_same, chosen_is, chosen_busy, chosen_total, key_below, released_same, last_absent, released_is, released_total}
 use Rattle.edf_pick.proofs.Stays.{count_less}
@@ -30,7 +30,7 @@ fewer c = set c.args.staying.now c.args.last.home None
 then_is : (c : After-off) → IsChoosing (fewer c) c.args.movers.now (c.take_first-c.result ∷ rest c) c.args.places.now
 then_is c = released_is c.args.staying.now c.args.movers.now c.take_first-c.new.self c.args.places.now c.take_first-c.result c.args.last (first_is c) c.requires.there (before c)
 
-one_less : (c : After-off) → length (held (fewer c)) + 1 ≡ length (held c.args.staying.now)
+one_less : (c : After-off) → length (all_held (fewer c)) + 1 ≡ length (all_held c.args.staying.now)
 one_less c = count_less c.args.staying.now c.args.last.home (ap (λ (o : Option Candidate). is_some o) c.requires.there)
 
 pub insert-requires-clause-absent : goal.insert-requires-clause-absent
@@ -71,12 +71,12 @@ returns-clause-same c =
     let places = c.args.places.now in
     let one = c.take_first-c.result in
     let first = c.take_first-c.new.self in
-    let all = held stays ++ (movers ++ one ∷ first) in
-    subst (λ (xs : List Candidate). IsPermutation (held stays ++ (movers ++ xs)) (held c.choose.new.staying ++ (c.choose.new.movers ++ c.insert.new.self))) (sym c.take_first-c.ensures.first)
-    (subst (λ (xs : List Candidate). IsPermutation all (held c.choose.new.staying ++ (c.choose.new.movers ++ xs))) (sym c.insert.ensures)
-    (subst (λ (xs : List Candidate). IsPermutation all (held c.choose.new.staying ++ (xs ++ rest k))) (sym c.choose.ensures.movers)
-    (subst (λ (ss : List (Option Candidate)). IsPermutation all (held ss ++ (chosen_movers places one movers ++ rest k))) (sym (stays_are c k))
-    (IsPermutation-trans all (held (fewer k) ++ (movers ++ one ∷ rest k)) (held (chosen_stays places one (fewer k)) ++ (chosen_movers places one movers ++ rest k))
+    let all = all_held stays ++ (movers ++ one ∷ first) in
+    subst (λ (xs : List Candidate). IsPermutation (all_held stays ++ (movers ++ xs)) (all_held c.choose.new.staying ++ (c.choose.new.movers ++ c.insert.new.self))) (sym c.take_first-c.ensures.first)
+    (subst (λ (xs : List Candidate). IsPermutation all (all_held c.choose.new.staying ++ (c.choose.new.movers ++ xs))) (sym c.insert.ensures)
+    (subst (λ (xs : List Candidate). IsPermutation all (all_held c.choose.new.staying ++ (xs ++ rest k))) (sym c.choose.ensures.movers)
+    (subst (λ (ss : List (Option Candidate)). IsPermutation all (all_held ss ++ (chosen_movers places one movers ++ rest k))) (sym (stays_are c k))
+    (IsPermutation-trans all (all_held (fewer k) ++ (movers ++ one ∷ rest k)) (all_held (chosen_stays places one (fewer k)) ++ (chosen_movers places one movers ++ rest k))
     (released_same stays movers first one c.args.last c.requires.there)
     (chosen_same (fewer k) movers (rest k) places one (then_is k))))))
 
@@ -88,8 +88,8 @@ returns-clause-busy c =
     let one = c.take_first-c.result in
     let less = one_less k in
     let more = chosen_busy (fewer k) movers (rest k) places one (then_is k) in
-    ap (λ (ss : List (Option Candidate)). length (held ss) + length c.choose.new.movers) (stays_are c k)
-    ∙ ap (λ (xs : List Candidate). length (held (chosen_stays places one (fewer k))) + length xs) c.choose.ensures.movers
+    ap (λ (ss : List (Option Candidate)). length (all_held ss) + length c.choose.new.movers) (stays_are c k)
+    ∙ ap (λ (xs : List Candidate). length (all_held (chosen_stays places one (fewer k))) + length xs) c.choose.ensures.movers
     ∙ more ∙ omega (arith, less)
 
 pub returns-clause-earlier : goal.returns-clause-earlier
@@ -99,9 +99,9 @@ returns-clause-earlier c =
     let movers = c.args.movers.now in
     let places = c.args.places.now in
     let one = c.take_first-c.result in
-    let new : total (held c.choose.new.staying ++ c.choose.new.movers) ≡ total (held (fewer k) ++ movers) + key one = ap (λ (ss : List (Option Candidate)). total (held ss ++ c.choose.new.movers)) (stays_are c k)
-    ∙ ap (λ (xs : List Candidate). total (held (chosen_stays places one (fewer k)) ++ xs)) c.choose.ensures.movers
+    let new : total (all_held c.choose.new.staying ++ c.choose.new.movers) ≡ total (all_held (fewer k) ++ movers) + key one = ap (λ (ss : List (Option Candidate)). total (all_held ss ++ c.choose.new.movers)) (stays_are c k)
+    ∙ ap (λ (xs : List Candidate). total (all_held (chosen_stays places one (fewer k)) ++ xs)) c.choose.ensures.movers
     ∙ chosen_total (fewer k) movers (rest k) places one (then_is k) in
-    let old : total (held (fewer k) ++ movers) + key c.args.last ≡ total (held stays ++ movers) = released_total stays movers c.args.last c.requires.there in
+    let old : total (all_held (fewer k) ++ movers) + key c.args.last ≡ total (all_held stays ++ movers) = released_total stays movers c.args.last c.requires.there in
     let less : key one < key c.args.last = key_below one c.args.last (omega arith) (before k) in
     omega (arith, new, old, less)

@@ -3,7 +3,7 @@ use Rattle.std.specs.List.Sorted.{IsPermutation}
 use Rattle.std.proofs.lemmas.List.Sorted.{IsPermutation-trans}
 use Rattle.edf_pick.specs.declared.candidate.Candidate.{Candidate}
 use Rattle.edf_pick.specs.private.Choosing.{IsChosen}
-use Rattle.edf_pick.specs.private.Waiting.{held}
+use Rattle.edf_pick.specs.private.Waiting.{all_held}
 use Rattle.edf_pick.proofs.Chosen.{before_first}
 use Rattle.edf_pick.proofs.choosing.displace_all.Goals as goal
 
@@ -11,18 +11,18 @@ pub rounds-preserved : goal.rounds-preserved
 rounds-preserved c =
     let inv = c.rounds.invariant in
     let new = c.displace.new in
-    let first = held c.args.staying.now ++ (c.args.movers.now ++ c.args.waiting.now) in
-    let then = held c.rounds.staying ++ (c.rounds.movers ++ c.rounds.waiting) in
-    let last = held new.staying ++ (new.movers ++ new.waiting) in
+    let first = all_held c.args.staying.now ++ (c.args.movers.now ++ c.args.waiting.now) in
+    let then = all_held c.rounds.staying ++ (c.rounds.movers ++ c.rounds.waiting) in
+    let last = all_held new.staying ++ (new.movers ++ new.waiting) in
     let some = c.in-Some.ensures.some in
     let still = c.outdone.ensures.still in
     record {
       is = c.displace.ensures.is;
       all = elim inv.all [
         | inl none ↦ absurd (let zero = ap (λ (xs : List Candidate). length xs) none in omega (arith, zero, some))
-        | inr full ↦ inr (c.displace.ensures.busy ∙ ap (λ (ss : List (Option Candidate)). length (held ss) + length c.rounds.movers) still ∙ full)
+        | inr full ↦ inr (c.displace.ensures.busy ∙ ap (λ (ss : List (Option Candidate)). length (all_held ss) + length c.rounds.movers) still ∙ full)
       ];
-      same = IsPermutation-trans first then last inv.same (subst (λ (ss : List (Option Candidate)). IsPermutation (held ss ++ (c.rounds.movers ++ c.rounds.waiting)) last) still c.displace.ensures.same);
+      same = IsPermutation-trans first then last inv.same (subst (λ (ss : List (Option Candidate)). IsPermutation (all_held ss ++ (c.rounds.movers ++ c.rounds.waiting)) last) still c.displace.ensures.same);
     }
 
 pub returns-clause-is : goal.returns-clause-is

@@ -1,18 +1,18 @@
 use Rattle.std.proofs.Common.{◌++◌, ◌∙◌, sym, inl, inr, arith}
 use Rattle.std.proofs.lemmas.List.Sorted.{IsPermutation-refl, IsPermutation-trans}
-use Rattle.edf_pick.specs.private.Waiting.{held}
+use Rattle.edf_pick.specs.private.Waiting.{all_held}
 use Rattle.edf_pick.proofs.Rising.{none_there, some_there}
 use Rattle.edf_pick.proofs.choosing.fill.Goals as goal
 
 pub free-preserved : goal.free-preserved
 free-preserved c =
-    let first = held c.args.staying.now ++ (c.args.movers.now ++ c.args.waiting.now) in
-    let then = held c.free.staying ++ (c.free.movers ++ c.free.waiting) in
-    let last = held c.choose_first.new.staying ++ (c.choose_first.new.movers ++ c.choose_first.new.waiting) in
+    let first = all_held c.args.staying.now ++ (c.args.movers.now ++ c.args.waiting.now) in
+    let then = all_held c.free.staying ++ (c.free.movers ++ c.free.waiting) in
+    let last = all_held c.choose_first.new.staying ++ (c.choose_first.new.movers ++ c.choose_first.new.waiting) in
     record { is = c.choose_first.ensures.is; same = IsPermutation-trans first then last c.free.invariant.same c.choose_first.ensures.same }
 
 pub free-init : goal.free-init
-free-init c = record { is = c.requires.is; same = IsPermutation-refl (held c.args.staying.now ++ (c.args.movers.now ++ c.args.waiting.now)) }
+free-init c = record { is = c.requires.is; same = IsPermutation-refl (all_held c.args.staying.now ++ (c.args.movers.now ++ c.args.waiting.now)) }
 
 pub is_empty-requires : goal.is_empty-requires
 is_empty-requires c = tt

@@ -1,6 +1,6 @@
 use Rattle.std.proofs.Common.{List, Option, true, sym, subst}
 use Rattle.edf_pick.specs.declared.candidate.Candidate.{Candidate}
-use Rattle.edf_pick.specs.private.Waiting.{HasLeft}
+use Rattle.edf_pick.specs.private.Waiting.{HasLeftWaiting}
 use Rattle.edf_pick.proofs.Left.{off_left, there_some}
 use Rattle.edf_pick.proofs.leaving.take_staying.Goals as goal
 
@@ -11,6 +11,6 @@ pub returns : goal.returns
 returns c =
     let stays = c.args.staying.now in
     record {
-      left = subst (λ (ss : List (Option Candidate)). HasLeft c.args.c.now stays c.args.waiting.now ss c.args.waiting.now true) (sym c.off.ensures)
+      left = subst (λ (ss : List (Option Candidate)). HasLeftWaiting c.args.c.now stays c.args.waiting.now ss c.args.waiting.now true) (sym c.off.ensures)
           (off_left c.args.c.now stays c.args.waiting.now c.args.cpu c.requires.numbered c.requires.there);
     }

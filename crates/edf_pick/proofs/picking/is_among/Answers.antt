@@ -5,7 +5,7 @@ use Rattle.std.specs.List.{list_any}
 use Rattle.std.proofs.lemmas.Bool.{cases_eq, or_left, ne_eqb}
 use Rattle.std.proofs.lemmas.Nat.Bits.{bit_at-zero}
 use Rattle.edf_pick.specs.declared.candidate.Candidate.{Candidate}
-use Rattle.edf_pick.specs.private.First.{marked}
+use Rattle.edf_pick.specs.private.First.{those_marked}
 use Rattle.edf_pick.proofs.Marked.{nobody, marked_first, marked_none, cleared_mark, cleared_here, cleared_other}
 use Rattle.edf_pick.proofs.picking.is_among.Goals as goal
 
@@ -18,7 +18,7 @@ returns-then-chosen-i c =
     let here : i < length chosen = c.tasks.invariant.within i c.first-i.ensures.marked in
     let one : p (get_or chosen i nobody) ≡ true = eq-eqb (get_or chosen i nobody).number c.args.number c.if-chosen-i.true in
     let there = marked_first left (cleared_mark left i) chosen i nobody here c.first-i.ensures.lowest c.first-i.ensures.marked (cleared_here left i) (λ j apart. cleared_other left i j apart) in
-    sym (or_left (p (get_or chosen i nobody)) (list_any p (marked (cleared_mark left i) chosen)) one) ∙ sym (ap (list_any p) there) ∙ c.tasks.invariant.whole
+    sym (or_left (p (get_or chosen i nobody)) (list_any p (those_marked (cleared_mark left i) chosen)) one) ∙ sym (ap (list_any p) there) ∙ c.tasks.invariant.whole
 
 pub tasks-preserved : goal.tasks-preserved
 tasks-preserved c =
@@ -36,7 +36,7 @@ tasks-preserved c =
         | inl same ↦ absurd (let both : new k ≡ 0 = ap new same ∙ c.without-left.ensures.bare in omega arith)
         | inr apart ↦ inv.within k (sym (c.without-left.ensures.others k apart) ∙ e)
       ];
-      whole = sym (ap (λ (b : Bool). b || list_any p (marked new chosen)) none) ∙ sym (ap (list_any p) one) ∙ inv.whole;
+      whole = sym (ap (λ (b : Bool). b || list_any p (those_marked new chosen)) none) ∙ sym (ap (list_any p) one) ∙ inv.whole;
     }
 
 pub returns : goal.returns

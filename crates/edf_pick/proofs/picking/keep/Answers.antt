@@ -5,7 +5,7 @@ use Rattle.std.proofs.lemmas.List.{get_or-set_same, get_or-set_other}
 use Rattle.std.proofs.lemmas.Nat.Bits.{bit_at-zero}
 use Rattle.std.proofs.lemmas.Grind.{common_steps}
 use Rattle.edf_pick.specs.Places.{Places}
-use Rattle.edf_pick.specs.private.First.{staying, marked}
+use Rattle.edf_pick.specs.private.First.{staying, those_marked}
 use Rattle.edf_pick.proofs.Marked.{kept_all}
 use Rattle.edf_pick.proofs.picking.keep.Goals as goal
 
@@ -19,7 +19,7 @@ cpus-preserved c =
     let inv = c.cpus.invariant in
     let mark = c.first-cpu.ensures.marked in
     let left = bit_at c.without-ahead.result in
-    let movers = marked (bit_at c.args.movers) chosen in
+    let movers = those_marked (bit_at c.args.movers) chosen in
     let v = staying movers (get_or now i None) in
     let inside : i < length now = omega (arith, c.requires.leaving.within i (inv.inside i mark), inv.len) in
     let value : v ≡ staying chosen (get_or old i None) = ap (staying movers) (inv.before i mark) ∙ c.requires.leaving.only i (inv.inside i mark) in

@@ -2,7 +2,7 @@ use Rattle.std.proofs.Common.{◌≡◌, ◌∙◌, ℕ, List, map, take, vec_le
 use Rattle.std.specs.Int.{bit_at}
 use Rattle.edf_pick.specs.declared.candidate.Candidate.{Candidate}
 use Rattle.edf_pick.specs.Places.{Places, AreSingle}
-use Rattle.edf_pick.specs.private.First.{staying, marked, seated_all, AreMovers, AreLeaving}
+use Rattle.edf_pick.specs.private.First.{staying, those_marked, seated_all, AreMovers, AreLeaving}
 use Rattle.edf_pick.proofs.Marked.{moved, mover_within, single_kept, single_all}
 use Rattle.edf_pick.proofs.picking.pick_from.Goals as goal
 
@@ -19,8 +19,8 @@ returns-clause-places c =
     let chosen = c.first_of-chosen.result.now in
     let mark = bit_at c.args.marks.movers in
     let first : chosen ≡ take cpus queue = c.first_of-chosen.ensures ∙ ap (λ (k : ℕ). take k queue) c.len.ensures in
-    c.seat_marked-now.ensures.places ∙ ap (λ (ps : Places). seated_all (marked mark chosen) ps) c.keep-kept.ensures.places
-    ∙ ap (λ (xs : List Candidate). seated_all (marked mark xs) (map (staying xs) before)) first
+    c.seat_marked-now.ensures.places ∙ ap (λ (ps : Places). seated_all (those_marked mark chosen) ps) c.keep-kept.ensures.places
+    ∙ ap (λ (xs : List Candidate). seated_all (those_marked mark xs) (map (staying xs) before)) first
     ∙ moved cpus queue before mark c.requires.rising c.requires.movers
 
 pub returns-clause-single : goal.returns-clause-single
@@ -29,7 +29,7 @@ returns-clause-single c =
     let kept : AreSingle c.keep-kept.new.places.items =
     subst (λ (ps : Places). AreSingle ps) (sym c.keep-kept.ensures.places) (single_kept chosen c.args.places.now.items c.requires.single) in
     subst (λ (ps : Places). AreSingle ps) (sym c.seat_marked-now.ensures.places)
-    (single_all (marked (bit_at c.args.marks.movers) chosen) c.keep-kept.new.places.items kept)
+    (single_all (those_marked (bit_at c.args.marks.movers) chosen) c.keep-kept.new.places.items kept)
 
 pub keep-kept-requires-clause-movers : goal.keep-kept-requires-clause-movers
 keep-kept-requires-clause-movers c =

@@ -4,7 +4,7 @@ use Rattle.std.proofs.lemmas.Bool.{cases_eq}
 use Rattle.std.proofs.lemmas.Nat.Bits.{bit_at-zero}
 use Rattle.edf_pick.specs.declared.candidate.Candidate.{Candidate}
 use Rattle.edf_pick.specs.Places.{Places}
-use Rattle.edf_pick.specs.private.First.{marked, seated_all}
+use Rattle.edf_pick.specs.private.First.{those_marked, seated_all}
 use Rattle.edf_pick.proofs.Marked.{nobody, marked_first, marked_none}
 use Rattle.edf_pick.proofs.picking.seat_marked.Goals as goal
 
@@ -24,7 +24,7 @@ tasks-preserved c =
         | inl same ↦ absurd (let both : new k ≡ 0 = ap new same ∙ c.without-left.ensures.bare in omega arith)
         | inr apart ↦ inv.within k (sym (c.without-left.ensures.others k apart) ∙ e)
       ];
-      whole = ap (λ (ps : Places). seated_all (marked new chosen) ps) c.seat-marks.ensures.places ∙ sym (ap (λ (xs : List Candidate). seated_all xs c.tasks.places.items) one) ∙ inv.whole;
+      whole = ap (λ (ps : Places). seated_all (those_marked new chosen) ps) c.seat-marks.ensures.places ∙ sym (ap (λ (xs : List Candidate). seated_all xs c.tasks.places.items) one) ∙ inv.whole;
       taken = c.seat-marks.ensures.taken;
     }
 

@@ -2,7 +2,7 @@ use Rattle.std.proofs.Common.{◌<◌, ◌∙◌, ℕ, None, get_or, length, set
 use Rattle.std.specs.Int.{bit_at}
 use Rattle.std.proofs.lemmas.Bool.{cases_eq}
 use Rattle.std.proofs.lemmas.List.{get_or-set_same, get_or-set_other}
-use Rattle.edf_pick.specs.Places.{taken}
+use Rattle.edf_pick.specs.Places.{count_occupant}
 use Rattle.edf_pick.proofs.seats.vacate.Goals as goal
 
 pub index_mut-requires : goal.index_mut-requires
@@ -29,6 +29,6 @@ returns-clause-taken c k =
     elim (cases_eq k cpu) [
       | inl same ↦
           ap (bit_at c.without.result) same ∙ e.bare
-          ∙ sym (ap (λ (j : ℕ). taken (get_or (set items cpu None) j None)) same ∙ ap taken (get_or-set_same items cpu None None inside))
-      | inr apart ↦ e.others k apart ∙ c.requires.taken k ∙ ap taken (sym (get_or-set_other items cpu k None None apart))
+          ∙ sym (ap (λ (j : ℕ). count_occupant (get_or (set items cpu None) j None)) same ∙ ap count_occupant (get_or-set_same items cpu None None inside))
+      | inr apart ↦ e.others k apart ∙ c.requires.taken k ∙ ap count_occupant (sym (get_or-set_other items cpu k None None apart))
     ]

@@ -2,7 +2,7 @@ use Rattle.std.proofs.Common.{◌≡◌, ◌∙◌, None, false, get_or, sym, ap
 use Rattle.std.specs.Prelude.{All}
 use Rattle.std.specs.Int.{bit_at}
 use Rattle.std.proofs.lemmas.Grind.{common_steps}
-use Rattle.edf_pick.specs.Places.{Places, AreSingle, stands, taken}
+use Rattle.edf_pick.specs.Places.{Places, AreSingle, stands, count_occupant}
 use Rattle.edf_pick.specs.private.Waiting.{staying_on, AreOn}
 use Rattle.edf_pick.proofs.Marked.{single_all}
 use Rattle.edf_pick.proofs.Settled.{either, kept_are, same_there, other_there}
@@ -40,7 +40,7 @@ returns-clause-single c =
 pub returns-clause-changed : goal.returns-clause-changed
 returns-clause-changed c = λ cpu e.
     let k = (goal.at.returns-clause-changed c).After-clear-kept in
-    let mid : taken (get_or c.clear-kept.new.places.items cpu None) ≡ taken (get_or (staying_on c.args.staying.now) cpu None) = ap (λ (ps : Places). taken (get_or ps cpu None)) (kept k) in
+    let mid : count_occupant (get_or c.clear-kept.new.places.items cpu None) ≡ count_occupant (get_or (staying_on c.args.staying.now) cpu None) = ap (λ (ps : Places). count_occupant (get_or ps cpu None)) (kept k) in
     same_there c.args.staying.now c.args.movers.now c.args.places.now.items c.seat_all-now.new.places.items cpu c.requires.on c.seat_all-now.ensures.seated.seated
     (λ none. sym (c.requires.taken cpu) ∙ c.beyond-2.ensures.bare cpu (c.both.ensures.first cpu e) (c.clear-kept.ensures.taken cpu ∙ mid ∙ none))
     (λ none. sym (c.seat_all-now.ensures.taken cpu) ∙ c.beyond-3.ensures.bare cpu (c.both.ensures.second cpu e) (c.clear-kept.ensures.taken cpu ∙ mid ∙ none))
@@ -48,7 +48,7 @@ returns-clause-changed c = λ cpu e.
 pub returns-clause-differ : goal.returns-clause-differ
 returns-clause-differ c = λ cpu e.
     let k = (goal.at.returns-clause-differ c).After-clear-kept in
-    let mid : taken (get_or c.clear-kept.new.places.items cpu None) ≡ taken (get_or (staying_on c.args.staying.now) cpu None) = ap (λ (ps : Places). taken (get_or ps cpu None)) (kept k) in
+    let mid : count_occupant (get_or c.clear-kept.new.places.items cpu None) ≡ count_occupant (get_or (staying_on c.args.staying.now) cpu None) = ap (λ (ps : Places). count_occupant (get_or ps cpu None)) (kept k) in
     let word = either c.beyond-2.result c.beyond-3.result c.both.result cpu (c.both.ensures.only cpu) e in
     let bare : bit_at c.clear-kept.result cpu ≡ 0 = elim word [ inl went ↦ c.beyond-2.ensures.only cpu went | inr came ↦ c.beyond-3.ensures.only cpu came ] in
     other_there c.args.staying.now c.args.movers.now c.args.places.now.items c.seat_all-now.new.places.items cpu c.requires.away c.seat_all-now.ensures.seated.seated

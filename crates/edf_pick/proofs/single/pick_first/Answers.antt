@@ -3,7 +3,7 @@ use Rattle.std.specs.List.Sorted.{IsPermutation}
 use Rattle.edf_pick.specs.declared.candidate.Candidate.{Candidate}
 use Rattle.edf_pick.specs.Places.{Places}
 use Rattle.edf_pick.specs.private.Choosing.{IsChoosing}
-use Rattle.edf_pick.specs.private.Waiting.{held, AreSeated}
+use Rattle.edf_pick.specs.private.Waiting.{all_held, AreSeated}
 use Rattle.edf_pick.proofs.Chosen.{none_chosen}
 use Rattle.edf_pick.proofs.OneCpu.{FirstHas, first_has_it, only_bare, only_set, none_held}
 use Rattle.edf_pick.proofs.Settled.{picked_places, picked_homes, picked_waiting}
@@ -23,11 +23,11 @@ has c =
     first_has_it stays c.take_first-c.result c.take_first-c.new.self places c.requires.one c.requires.bare
     (subst (λ (xs : List Candidate). IsChoosing stays [] xs places) c.take_first-c.ensures.first (none_chosen stays c.args.waiting.now places c.requires.is c.as_slice.ensures.rising))
 
-same : (c : After-stand) → IsPermutation (held c.args.staying.now ++ c.args.waiting.now) (held (has c).0 ++ ((has c).1 ++ c.take_first-c.new.self))
+same : (c : After-stand) → IsPermutation (all_held c.args.staying.now ++ c.args.waiting.now) (all_held (has c).0 ++ ((has c).1 ++ c.take_first-c.new.self))
 same c =
     let h = has c in
-    subst (λ (xs : List Candidate). IsPermutation (xs ++ c.args.waiting.now) (held h.0 ++ (h.1 ++ c.take_first-c.new.self))) (sym (none_held c.args.staying.now (alone c) c.requires.bare))
-    (subst (λ (xs : List Candidate). IsPermutation xs (held h.0 ++ (h.1 ++ c.take_first-c.new.self))) (sym c.take_first-c.ensures.first) h.2)
+    subst (λ (xs : List Candidate). IsPermutation (xs ++ c.args.waiting.now) (all_held h.0 ++ (h.1 ++ c.take_first-c.new.self))) (sym (none_held c.args.staying.now (alone c) c.requires.bare))
+    (subst (λ (xs : List Candidate). IsPermutation xs (all_held h.0 ++ (h.1 ++ c.take_first-c.new.self))) (sym c.take_first-c.ensures.first) h.2)
 
 seats : (c : After-stand) → AreSeated (has c).0 (has c).1 c.stay.new.self c.stand.new.placement
 seats c =

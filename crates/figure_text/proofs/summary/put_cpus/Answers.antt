@@ -1,12 +1,12 @@
 use Rattle.std.proofs.Common.{subst, sym, arith}
-use Rattle.figure_text.specs.Summary.{IsShort, IsOfMachine}
+use Rattle.figure_text.specs.Summary.{IsShortSummary, IsOfMachine}
 use Rattle.figure_text.proofs.Lines.{one_more_domain}
 use Rattle.figure_text.proofs.summary.put_cpus.Goals as goal
 
 pub put_cpus_of-requires-clause-short : goal.put_cpus_of-requires-clause-short
 put_cpus_of-requires-clause-short c =
     let d = c.index-domains-number.result in
-    let short : IsShort d = subst IsShort (sym c.index-domains-number.is) (c.requires.short c.loop-number.number d c.loop-number-test.true) in
+    let short : IsShortSummary d = subst IsShortSummary (sym c.index-domains-number.is) (c.requires.short c.loop-number.number d c.loop-number-test.true) in
     short.1
 
 pub loop-number-preserved : goal.loop-number-preserved

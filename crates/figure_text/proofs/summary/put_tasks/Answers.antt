@@ -1,8 +1,8 @@
 use Rattle.std.proofs.Common.{ℕ, List, subst, ap, ◌∙◌, sym, arith}
 use Rattle.std.proofs.lemmas.List.{take_all}
 use Rattle.figure_text.specs.declared.summary.DomainSummary.{DomainSummary}
-use Rattle.run_figures.specs.Lines.{numbered}
-use Rattle.figure_text.specs.Summary.{view_of, tasks_of, IsShort}
+use Rattle.run_figures.specs.Lines.{numbered_lines}
+use Rattle.figure_text.specs.Summary.{summary_view_of, tasks_of, IsShortSummary}
 use Rattle.draft.proofs.CallerLemmas.{as_text}
 use Rattle.figure_text.proofs.Lines.{more_numbered, numbered-map}
 use Rattle.figure_text.proofs.summary.put_tasks.Goals as goal
@@ -10,19 +10,19 @@ use Rattle.figure_text.proofs.summary.put_tasks.Goals as goal
 pub put_tasks_of-requires : goal.put_tasks_of-requires
 put_tasks_of-requires c =
     let d = c.index-domains-number.result in
-    let short : IsShort d = subst IsShort (sym c.index-domains-number.is) (c.requires c.loop-number.number d c.loop-number-test.true) in
+    let short : IsShortSummary d = subst IsShortSummary (sym c.index-domains-number.is) (c.requires c.loop-number.number d c.loop-number-test.true) in
     short.0
 
 pub loop-number-preserved : goal.loop-number-preserved
 loop-number-preserved c =
-    let line : ℕ → DomainSummary → List ℕ = λ k d. tasks_of k (view_of d) in
+    let line : ℕ → DomainSummary → List ℕ = λ k d. tasks_of k (summary_view_of d) in
     more_numbered line 0 c.args.domains.now c.loop-number.number c.loop-number.number c.index-domains-number.result c.args.out.now c.loop-number.out c.put_tasks_of.new.out c.loop-number-test.true (omega arith)
     c.loop-number.invariant (as_text c.loop-number.out c.put_tasks_of.new.out _ _ (ap (line c.loop-number.number) c.index-domains-number.is) c.put_tasks_of.ensures)
 
 pub returns : goal.returns
 returns c =
-    let line : ℕ → DomainSummary → List ℕ = λ k d. tasks_of k (view_of d) in
+    let line : ℕ → DomainSummary → List ℕ = λ k d. tasks_of k (summary_view_of d) in
     as_text c.args.out.now c.loop-number.out _ _
-    (ap (λ (ds : List DomainSummary). numbered line 0 ds) (take_all c.loop-number.number c.args.domains.now c.loop-number-test.false)
-    ∙ sym (numbered-map tasks_of view_of 0 c.args.domains.now))
+    (ap (λ (ds : List DomainSummary). numbered_lines line 0 ds) (take_all c.loop-number.number c.args.domains.now c.loop-number-test.false)
+    ∙ sym (numbered-map tasks_of summary_view_of 0 c.args.domains.now))
     c.loop-number.invariant

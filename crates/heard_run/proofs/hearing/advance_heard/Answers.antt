@@ -5,7 +5,7 @@ use Rattle.domain_run.specs.Keys.{AreKept}
 use Rattle.domain_run.specs.declared.happened.Happened.{Happened}
 use Rattle.domain_run.proofs.CallerLemmas.{kept_itself, kept_more, ticks_time}
 use Rattle.run_figures.specs.Accounting.{AccountingView, IsNextPiece}
-use Rattle.heard_run.specs.Heard.{unheard}
+use Rattle.heard_run.specs.Heard.{nothing_heard}
 use Rattle.heard_run.proofs.Pieces.{first_heard, first_piece, next_heard, next_piece, told_alone}
 use Rattle.heard_run.proofs.hearing.advance_heard.Goals as goal
 
@@ -16,7 +16,7 @@ next_as a b hs gs ss one two is = subst (λ (x : AccountingView). IsNextPiece x 
 pub hear-requires : goal.hear-requires
 hear-requires c =
     let d = c.args.state.now in
-    record { next = next_as c.args.accounting.now (unheard c.args.n d) c.open-log.result.happened _ d.switches c.requires.new c.open-log.ensures.empty (first_piece c.args.n d c.now.ensures.domain c.requires.early) }
+    record { next = next_as c.args.accounting.now (nothing_heard c.args.n d) c.open-log.result.happened _ d.switches c.requires.new c.open-log.ensures.empty (first_piece c.args.n d c.now.ensures.domain c.requires.early) }
 
 pub pieces-init : goal.pieces-init
 pieces-init c =

@@ -1,5 +1,5 @@
 use Rattle.std.proofs.Common.{ℕ, ◌≡◌, List, Result, Ok, Err, IfOk, IfErr, sym, subst}
-use Rattle.json_order.specs.Fault.{strict, Spells, IsFault}
+use Rattle.json_order.specs.Fault.{strict, Spells, IsJsonFault}
 use Rattle.json_order.specs.Json.{Json}
 use Rattle.json_order.specs.Seen.{json_of}
 use Rattle.json_order.specs.declared.tree.Tree.{Tree}
@@ -8,7 +8,7 @@ use Rattle.json_order.specs.declared.fault.JsonKind.TheVariants.{Memory}
 use Rattle.json_order.proofs.Bytes.{memory_only}
 use Rattle.json_order.proofs.reading.read.Goals as goal
 
-memory_of : (bytes : List ℕ) (v : Json) (r : Result Tree JsonFault) → Spells strict bytes v → IfErr r (λ f. IsFault bytes f.kind f.at) → IfErr r (λ f. f.kind ≡ Memory)
+memory_of : (bytes : List ℕ) (v : Json) (r : Result Tree JsonFault) → Spells strict bytes v → IfErr r (λ f. IsJsonFault bytes f.kind f.at) → IfErr r (λ f. f.kind ≡ Memory)
 memory_of bytes v (Ok t) w h = h
 memory_of bytes v (Err f) w h = memory_only bytes f.kind f.at v w h
 

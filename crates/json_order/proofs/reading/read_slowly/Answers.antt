@@ -1,6 +1,6 @@
 use Rattle.std.proofs.Common.{◌≡◌, [], length, refl, sym, subst}
-use Rattle.json_order.specs.Fault.{IsFault}
-use Rattle.json_order.specs.private.Places.{state_of}
+use Rattle.json_order.specs.Fault.{IsJsonFault}
+use Rattle.json_order.specs.private.Places.{code_state}
 use Rattle.json_order.specs.Seen.{json_of}
 use Rattle.json_order.specs.declared.fault.JsonKind.TheVariants.{End}
 use Rattle.json_order.proofs.Bytes.{end_value, end_fault}
@@ -12,20 +12,20 @@ returns-in-Some-clause-found c =
     let text = c.args.text.now in
     let stands = c.in_default-read_through.ensures.ok in
     let seen = all_seen text stands.0 [] c.utf8.text stands.1 refl in
-    (end_value text stands.0 (state_of c.read_through.new.place c.read_through.new.stack.items) (json_of c.in-Some.tree) seen stands.2 c.in-Some.ensures.some).0
+    (end_value text stands.0 (code_state c.read_through.new.place c.read_through.new.stack.items) (json_of c.in-Some.tree) seen stands.2 c.in-Some.ensures.some).0
 
 pub returns-in-Some-clause-only : goal.returns-in-Some-clause-only
 returns-in-Some-clause-only c =
     let text = c.args.text.now in
     let stands = c.in_default-read_through.ensures.ok in
     let seen = all_seen text stands.0 [] c.utf8.text stands.1 refl in
-    (end_value text stands.0 (state_of c.read_through.new.place c.read_through.new.stack.items) (json_of c.in-Some.tree) seen stands.2 c.in-Some.ensures.some).1
+    (end_value text stands.0 (code_state c.read_through.new.place c.read_through.new.stack.items) (json_of c.in-Some.tree) seen stands.2 c.in-Some.ensures.some).1
 
 pub returns-clause-fault : goal.returns-clause-fault
 returns-clause-fault c =
     let text = c.args.text.now in
     let stands = c.in_default-read_through.ensures.ok in
     let seen = all_seen text stands.0 [] c.utf8.text stands.1 refl in
-    let fault = end_fault text stands.0 (state_of c.read_through.new.place c.read_through.new.stack.items) seen stands.2 c.in-None.ensures.none in
+    let fault = end_fault text stands.0 (code_state c.read_through.new.place c.read_through.new.stack.items) seen stands.2 c.in-None.ensures.none in
     let at : c.fault_at-in-None.result.at ≡ length text = c.fault_at-in-None.ensures.other (λ x. cc) in
-    subst (λ k. IsFault text k c.fault_at-in-None.result.at) (sym c.fault_at-in-None.ensures.kind) (subst (λ n. IsFault text End n) (sym at) fault)
+    subst (λ k. IsJsonFault text k c.fault_at-in-None.result.at) (sym c.fault_at-in-None.ensures.kind) (subst (λ n. IsJsonFault text End n) (sym at) fault)

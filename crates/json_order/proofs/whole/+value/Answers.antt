@@ -3,7 +3,7 @@ use Rattle.std.proofs.Common.{◌≡◌, ◌+◌, ◌-◌, [], ◌∷◌, ◌++�
 use Rattle.std.proofs.lemmas.List.{map_push}
 use Rattle.json_order.specs.Seen.{json_of}
 use Rattle.json_order.specs.private.Machine.{state, at_first_item, at_first_key, behind}
-use Rattle.json_order.specs.private.Places.{entries_of}
+use Rattle.json_order.specs.private.Places.{entries_of_tree}
 use Rattle.json_order.specs.private.Whole.{Crosses, ReadsValue, ReadsKey, before_item, before_key}
 use Rattle.json_order.specs.declared.word.Word.TheVariants.{Null, True, False}
 use Rattle.json_order.proofs.Crossings.{reads_spaced, list_begun, list_empty, list_more, list_whole, item_shorter, object_begun, object_empty, object_more, object_pushed, object_whole, member_shorter, list_read, object_read, text_read, word_value, first_char, if_read, if_some}
@@ -61,7 +61,7 @@ object-returns-in-Some-clause-ok t c =
 pub object-members-init : goal.object-members-init
 object-members-init t c = (
   c.behind_space-left.utf8,
-  subst (λ xs. Crosses (c.args.depth + 1) (state at_first_key) (before_key (entries_of xs)) c.args.rest.now c.behind_space-left.result.now) (sym c.new-members.ensures)
+  subst (λ xs. Crosses (c.args.depth + 1) (state at_first_key) (before_key (entries_of_tree xs)) c.args.rest.now c.behind_space-left.result.now) (sym c.new-members.ensures)
       (object_begun c.args.depth c.args.rest.now c.behind_space-left.result.now c.behind_space-left.ensures),
 )
 
@@ -70,25 +70,25 @@ object-returns-in-Some-behind_char-clause-ok t c =
     let v = json_of c.in-Some-3.item in
     let key = string_bytes c.in-Some-2.name in
     let ms = c.members.members.list.items in
-    let named : ReadsKey (entries_of ms) key c.members.left.now c.in-Some-2.begun.now = rw c.in-Some-2.is at c.in_ok-name.ensures.ok in
+    let named : ReadsKey (entries_of_tree ms) key c.members.left.now c.in-Some-2.begun.now = rw c.in-Some-2.is at c.in_ok-name.ensures.ok in
     let read : ReadsValue c.args.depth v c.in-Some-2.begun.now c.in-Some-3.behind.now = rw c.in-Some-3.is at c.in_ok-item.ensures.ok in
     let spaced = reads_spaced c.args.depth v c.in-Some-2.begun.now c.in-Some-3.behind.now c.behind_space-end.result.now read c.behind_space-end.ensures in
     let same = object_pushed _ ms (c.in-Some-2.name, c.in-Some-3.item) c.in_ok-whole_object.ensures.ok in
     subst (λ v. Crosses (c.args.depth + 1) (state at_first_key) (state (behind v)) c.args.rest.now c.in-Some-behind_char.after.now) (sym same)
-    (object_whole c.args.depth (entries_of ms) key v c.args.rest.now c.members.left.now c.in-Some-2.begun.now c.behind_space-end.result.now c.in-Some-behind_char.after.now c.members.invariant.1 named spaced c.in-Some-behind_char.ensures)
+    (object_whole c.args.depth (entries_of_tree ms) key v c.args.rest.now c.members.left.now c.in-Some-2.begun.now c.behind_space-end.result.now c.in-Some-behind_char.after.now c.members.invariant.1 named spaced c.in-Some-behind_char.ensures)
 
 pub object-members-preserved : goal.object-members-preserved
 object-members-preserved t c =
     let v = json_of c.in-Some-3.item in
     let key = string_bytes c.in-Some-2.name in
     let ms = c.members.members.list.items in
-    let named : ReadsKey (entries_of ms) key c.members.left.now c.in-Some-2.begun.now = rw c.in-Some-2.is at c.in_ok-name.ensures.ok in
+    let named : ReadsKey (entries_of_tree ms) key c.members.left.now c.in-Some-2.begun.now = rw c.in-Some-2.is at c.in_ok-name.ensures.ok in
     let read : ReadsValue c.args.depth v c.in-Some-2.begun.now c.in-Some-3.behind.now = rw c.in-Some-3.is at c.in_ok-item.ensures.ok in
     let spaced = reads_spaced c.args.depth v c.in-Some-2.begun.now c.in-Some-3.behind.now c.behind_space-end.result.now read c.behind_space-end.ensures in
-    let same : entries_of c.in_ok-members.members.list.items ≡ entries_of ms ++ (key, v) ∷ [] = ap entries_of c.in_ok-members.ensures.ok ∙ map_push (λ m. (string_bytes m.0, json_of m.1)) ms (c.in-Some-2.name, c.in-Some-3.item) in (
+    let same : entries_of_tree c.in_ok-members.members.list.items ≡ entries_of_tree ms ++ (key, v) ∷ [] = ap entries_of_tree c.in_ok-members.ensures.ok ∙ map_push (λ m. (string_bytes m.0, json_of m.1)) ms (c.in-Some-2.name, c.in-Some-3.item) in (
       c.behind_space-left-in-members.utf8,
       subst (λ es. Crosses (c.args.depth + 1) (state at_first_key) (before_key es) c.args.rest.now c.behind_space-left-in-members.result.now) (sym same)
-          (object_more c.args.depth (entries_of ms) key v c.args.rest.now c.members.left.now c.in-Some-2.begun.now c.behind_space-end.result.now c.in-Some-behind_char-2.next.now c.behind_space-left-in-members.result.now c.members.invariant.1 named spaced c.in-Some-behind_char-2.ensures c.behind_space-left-in-members.ensures),
+          (object_more c.args.depth (entries_of_tree ms) key v c.args.rest.now c.members.left.now c.in-Some-2.begun.now c.behind_space-end.result.now c.in-Some-behind_char-2.next.now c.behind_space-left-in-members.result.now c.members.invariant.1 named spaced c.in-Some-behind_char-2.ensures c.behind_space-left-in-members.ensures),
     )
 
 pub object-members-smaller : goal.object-members-smaller
@@ -96,10 +96,10 @@ object-members-smaller t c =
     let v = json_of c.in-Some-3.item in
     let key = string_bytes c.in-Some-2.name in
     let ms = c.members.members.list.items in
-    let named : ReadsKey (entries_of ms) key c.members.left.now c.in-Some-2.begun.now = rw c.in-Some-2.is at c.in_ok-name.ensures.ok in
+    let named : ReadsKey (entries_of_tree ms) key c.members.left.now c.in-Some-2.begun.now = rw c.in-Some-2.is at c.in_ok-name.ensures.ok in
     let read : ReadsValue c.args.depth v c.in-Some-2.begun.now c.in-Some-3.behind.now = rw c.in-Some-3.is at c.in_ok-item.ensures.ok in
     let spaced = reads_spaced c.args.depth v c.in-Some-2.begun.now c.in-Some-3.behind.now c.behind_space-end.result.now read c.behind_space-end.ensures in
-    member_shorter c.args.depth (entries_of ms) key v c.members.left.now c.in-Some-2.begun.now c.behind_space-end.result.now c.in-Some-behind_char-2.next.now c.behind_space-left-in-members.result.now named spaced c.in-Some-behind_char-2.ensures c.behind_space-left-in-members.ensures
+    member_shorter c.args.depth (entries_of_tree ms) key v c.members.left.now c.in-Some-2.begun.now c.behind_space-end.result.now c.in-Some-behind_char-2.next.now c.behind_space-left-in-members.result.now named spaced c.in-Some-behind_char-2.ensures c.behind_space-left-in-members.ensures
 
 -- VALUES
 

@@ -3,7 +3,7 @@ use denote.Text.{Utf8}
 use Rattle.std.proofs.Common.{◌+◌, ◌*◌, length, map}
 use Rattle.json_order.specs.Seen.{json_of}
 use Rattle.json_order.specs.private.Machine.{at_first_item, at_first_key, state}
-use Rattle.json_order.specs.private.Places.{entries_of}
+use Rattle.json_order.specs.private.Places.{entries_of_tree}
 use Rattle.json_order.specs.private.Whole.{Crosses, before_item, before_key}
 use Rattle.json_order.proofs.whole.+value.Given as goal
 
@@ -27,7 +27,7 @@ decreases-list-items l = length l.left
 abbrev pub invariant-object-members : goal.invariant-object-members
 invariant-object-members l =
     shadow (Utf8 l.left)
-    × Crosses (l.depth + 1) (state at_first_key) (before_key (entries_of l.members.list.items)) l.rest l.left
+    × Crosses (l.depth + 1) (state at_first_key) (before_key (entries_of_tree l.members.list.items)) l.rest l.left
 
 abbrev pub decreases-object-members : goal.decreases-object-members
 decreases-object-members l = length l.left

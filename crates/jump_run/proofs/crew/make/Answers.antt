@@ -4,7 +4,7 @@ use Rattle.std.proofs.lemmas.List.{length-map}
 use Rattle.domain_run.specs.Jump.{AreCharged}
 use Rattle.tick_split.specs.declared.element.Plan.{Plan}
 use Rattle.tick_split.specs.declared.element.Slice.{Slice}
-use Rattle.tick_split.specs.Charging.{IsChargeable, charged}
+use Rattle.tick_split.specs.Charging.{IsChargeable, charged_slice}
 use Rattle.jump_run.specs.Plans.{slice_of, IsSmall}
 use Rattle.jump_run.proofs.Crewing.{all_from_one, all_chargeable, all_small, charged_by}
 use Rattle.jump_run.proofs.crew.make.Goals as goal
@@ -27,7 +27,7 @@ put_lefts-requires-clause-small g c =
     let short : ticks ≤ 2 ^ 42 = omega (arith, c.first_spent-ticks.ensures.most, c.gather-most.ensures.short) in
     let all = all_small c.gather-most.new.plans.items c.plan_list.new.plans.items c.plan_list.ensures.each ticks c.gather-most.ensures.each.fit short in
     let slices : c.slice.new.slices.items ≡ map (slice_of ticks) c.plan_list.new.plans.items = c.slice.ensures.each ∙ ap (map (slice_of ticks)) c.as_slice-2.ensures.value in
-    subst (λ (xs : List Slice). All IsSmall xs) (sym (c.as_slice-3.ensures.value ∙ c.charge_list.ensures.each ∙ ap (map charged) slices)) all
+    subst (λ (xs : List Slice). All IsSmall xs) (sym (c.as_slice-3.ensures.value ∙ c.charge_list.ensures.each ∙ ap (map charged_slice) slices)) all
 
 pub returns-clause-charged : goal.returns-clause-charged
 returns-clause-charged g c =
@@ -39,8 +39,8 @@ returns-clause-charged g c =
     let first = c.first_spent-ticks.ensures in
     let all = charged_by plans after c.plan_list.ensures.each d c.gather-most.result ticks found.each found.many first.some first.most (subst (λ (xs : List Plan). All (λ (q : Plan). ticks ≤ q.spent) xs) c.as_slice.ensures.value first.each) in
     let slices : c.slice.new.slices.items ≡ map (slice_of ticks) c.plan_list.new.plans.items = c.slice.ensures.each ∙ ap (map (slice_of ticks)) c.as_slice-2.ensures.value in
-    let paid : c.as_slice-3.result.now ≡ map charged (map (slice_of ticks) after) = c.as_slice-3.ensures.value ∙ c.charge_list.ensures.each ∙ ap (map charged) slices in
-    let long : length c.as_slice-3.result.now ≡ length after = ap length paid ∙ length-map (map (slice_of ticks) after) charged ∙ length-map after (slice_of ticks) in
+    let paid : c.as_slice-3.result.now ≡ map charged_slice (map (slice_of ticks) after) = c.as_slice-3.ensures.value ∙ c.charge_list.ensures.each ∙ ap (map charged_slice) slices in
+    let long : length c.as_slice-3.result.now ≡ length after = ap length paid ∙ length-map (map (slice_of ticks) after) charged_slice ∙ length-map after (slice_of ticks) in
     let held : length c.as_slice.result.now ≡ length after = ap length c.as_slice.ensures.value in
     let count : c.len.result ≡ length c.as_slice-3.result.now = omega (arith, c.len.ensures, c.as_slice.ensures.len, held, long) in
     let lefts = c.put_lefts.ensures ∙ ap (map (λ (s : Slice). s.left)) paid in

@@ -8,7 +8,7 @@ use Rattle.pass_seats.specs.declared.view.Mine.{Mine}
 use Rattle.pass_seats.specs.declared.view.View.{View}
 use Rattle.pass_seats.specs.Lists.{PassView}
 use Rattle.pass_seats.specs.Listed.{fresh}
-use Rattle.pass_seats.specs.private.Pass.{entries_of, pass_view}
+use Rattle.pass_seats.specs.private.Pass.{pass_entries, pass_view}
 use Rattle.pass_seats.specs.Kinds.{first_pass, other_passes}
 use Rattle.pass_seats.proofs.Views.{get_front, get_last}
 use Rattle.pass_seats.proofs.Steps.{splits, dealt_pass, others_fresh}
@@ -39,7 +39,7 @@ invariant_of-push_reserved g c =
     let some : 0 < c.args.clients - k = omega arith in
     let fresh_are = ap (λ (m : _). m.0.passes) c.loop-k.invariant.1 in
     let views = views_are c.into_badge-badge.result.views c.split_seat.result.me c.loop-k.seat.me (k + 1) (c.args.clients - k) some c.into_badge-badge.ensures.2 c.split_seat.ensures.4 fresh_are in
-    (views ∙ ap (λ (es : _). pass_view (k + 1) es ∷ []) (sym (ap entries_of views)), sym (ap (λ (vs : _). length (entries_of vs)) views))
+    (views ∙ ap (λ (es : _). pass_view (k + 1) es ∷ []) (sym (ap pass_entries views)), sym (ap (λ (vs : _). length (pass_entries vs)) views))
 
 pub loop-k-preserved : goal.loop-k-preserved
 loop-k-preserved g c =
@@ -56,9 +56,9 @@ loop-k-preserved g c =
     let less : left - 1 ≡ c.args.clients - (k + 1) = omega arith in
     let seat_of : List (Mine g.row.E.Denot) → Seat g.row.E.Denot = λ ps. (record { is_spine = true; log = []; passes = ps }, []) in
     let rest : Seat g.row.E.Denot → Seat g.row.E.Denot = λ m. (other_passes m.0, m.1) in
-    let new = pass_of badge.table_id (k + 1) (entries_of badge.views) in
+    let new = pass_of badge.table_id (k + 1) (pass_entries badge.views) in
     let one = pass_of spine (k + 1) [] in
-    let same : new ≡ one = same_pass badge.table_id spine (k + 1) (entries_of badge.views) [] (c.into_badge-badge.ensures.0 ∙ split.3 ∙ inv.0) (ap entries_of views) in
+    let same : new ≡ one = same_pass badge.table_id spine (k + 1) (pass_entries badge.views) [] (c.into_badge-badge.ensures.0 ∙ split.3 ∙ inv.0) (ap pass_entries views) in
     let old = c.loop-k.passes.items in
     let items : c.push_reserved.new.self.items ≡ old ++ one ∷ [] = push.items ∙ ap (λ (x : _). old ++ x ∷ []) same in (
       split.0 ∙ inv.0,

@@ -3,8 +3,8 @@ use Rattle.std.specs.Prelude.{OnOk}
 use Rattle.std.proofs.lemmas.Bool.Decides.{nat_tests}
 use Rattle.recorded_text.specs.Names.{names_on}
 use Rattle.recorded_text.specs.Steps.{step_view}
-use Rattle.recorded_text.specs.Text.{is_bad_line, told}
-use Rattle.recorded_text.specs.private.SoFar.{Fails}
+use Rattle.recorded_text.specs.Text.{is_bad_line, switches_in_line}
+use Rattle.recorded_text.specs.private.SoFar.{LineFails}
 use Rattle.recorded_text.proofs.reading.end_line.Goals as goal
 
 no_rest : (rest : List ℕ) (n : ℕ) → n ≡ length rest → true ≡ (n == 0) → rest ≡ []
@@ -45,7 +45,7 @@ returns-in-Err-take_line c = record {
   good = tt;
   empty = tt;
   named = tt;
-  bad = subst (λ (t : List ℕ). Fails c.in-Err-take_line.fault t) (c.as_slice.ensures.value ∙ c.in-Ok.ensures.items) c.in-Err-take_line.ensures.bad;
+  bad = subst (λ (t : List ℕ). LineFails c.in-Err-take_line.fault t) (c.as_slice.ensures.value ∙ c.in-Ok.ensures.items) c.in-Err-take_line.ensures.bad;
   grows = c.in-Err-take_line.ensures.grows;
 }
 
@@ -54,8 +54,8 @@ returns-in-Ok-take_line c =
     let e = c.in-Ok-take_line.ensures in
     let line = c.as_slice.ensures.value ∙ c.in-Ok.ensures.items in
     record {
-      shown = subst (λ (t : List ℕ). map (step_view c.take_line-2.new.names) c.take_line-2.new.steps.items ≡ map (step_view c.args.names.now) c.args.steps.now.items ++ told t) line e.shown;
-      called = subst (λ (t : List ℕ). c.take_line-2.new.names ≡ names_on c.args.names.now (told t)) line e.called;
+      shown = subst (λ (t : List ℕ). map (step_view c.take_line-2.new.names) c.take_line-2.new.steps.items ≡ map (step_view c.args.names.now) c.args.steps.now.items ++ switches_in_line t) line e.shown;
+      called = subst (λ (t : List ℕ). c.take_line-2.new.names ≡ names_on c.args.names.now (switches_in_line t)) line e.called;
       good = subst (λ (t : List ℕ). is_bad_line t ≡ false) line e.good;
       empty = c.clear.ensures.items;
       named = e.named;

@@ -4,7 +4,7 @@ use Rattle.std.specs.Prelude.{IfSome}
 use Rattle.std.proofs.lemmas.List.{length-take, length-take-le}
 use Rattle.std.proofs.lemmas.List.Elements.{All-weaker}
 use Rattle.recorded_text.specs.Steps.{step_view, IsNamed}
-use Rattle.recorded_text.specs.Text.{is_bad_line, told}
+use Rattle.recorded_text.specs.Text.{is_bad_line, switches_in_line}
 use Rattle.recorded_text.proofs.Ending.{end_good, end_bad, piece_done, piece_bad}
 use Rattle.recorded_text.proofs.Stepping.{grows_on, brings_more}
 use Rattle.counted_io.specs.Sides.{inner_of}
@@ -22,7 +22,7 @@ returns-in-Ok-clause-read g c =
     end_good _ (g.R.Read.remaining (inner_of c.loop.reader)) (g.R.Read.remaining (inner_of c.read.new.self)) (take c.in-Some-eq0.field-0 c.read.new.buf) c.loop.rest.items c.loop.lines found c.take_line.new.names c.take_line.new.steps.items
     c.loop.invariant.done c.in-Some-eq0.ensures.given (ap (λ (n : ℕ). take n c.read.new.buf) c.in-Some-eq0.field-0-test) (c.in-Some-eq0.ensures.end c.in-Some-eq0.field-0-test room) c.loop.invariant.lacks
     (subst (λ (t : List ℕ). is_bad_line t ≡ false) c.as_slice.ensures.value c.in-Ok.ensures.good)
-    (subst (λ (t : List ℕ). map (step_view c.take_line.new.names) c.take_line.new.steps.items ≡ found ++ told t) c.as_slice.ensures.value c.in-Ok.ensures.shown)
+    (subst (λ (t : List ℕ). map (step_view c.take_line.new.names) c.take_line.new.steps.items ≡ found ++ switches_in_line t) c.as_slice.ensures.value c.in-Ok.ensures.shown)
 
 pub returns-in-Err-Bad-clause-fault : goal.returns-in-Err-Bad-clause-fault
 returns-in-Err-Bad-clause-fault g c =
@@ -63,7 +63,7 @@ pub returns-in-Ok-clause-called : goal.returns-in-Ok-clause-called
 returns-in-Ok-clause-called g c =
     let found = map (step_view c.loop.names) c.loop.steps.items in
     let all = map (step_view c.take_line.new.names) c.take_line.new.steps.items in
-    brings_more _ c.loop.names c.take_line.new.names found (told c.as_slice.result.now) all c.loop.invariant.called c.in-Ok.ensures.called c.in-Ok.ensures.shown
+    brings_more _ c.loop.names c.take_line.new.names found (switches_in_line c.as_slice.result.now) all c.loop.invariant.called c.in-Ok.ensures.called c.in-Ok.ensures.shown
 
 pub returns-in-Ok-clause-named : goal.returns-in-Ok-clause-named
 returns-in-Ok-clause-named g c = c.in-Ok.ensures.named

@@ -1,5 +1,5 @@
 use Rattle.std.proofs.Common.{◌≡◌, [], append-nil, refl, sym, ap, rules}
-use Rattle.recorded_text.specs.Text.{is_bad, told}
+use Rattle.recorded_text.specs.Text.{is_bad, switches_in_line}
 use Rattle.recorded_text.specs.Views.{switch_view}
 use Rattle.recorded_text.proofs.Stepping.{view_more, line_brings, named_more}
 use Rattle.recorded_text.proofs.reading.take_line.Goals as goal
@@ -24,7 +24,7 @@ step_of-requires c = c.in-Seen.ensures.small
 
 pub returns-in-Other : goal.returns-in-Other
 returns-in-Other c =
-    let nothing : told c.args.line.now ≡ [] = search rules in
+    let nothing : switches_in_line c.args.line.now ≡ [] = search rules in
     record {
       shown = rw nothing (sym (append-nil _));
       called = rw nothing refl;

@@ -1,8 +1,8 @@
 use Rattle.std.proofs.Common.{◌+◌, List, ℕ, ◌++◌, [], append-nil, map, take, drop, refl, sym, subst, arith}
 use Rattle.std.proofs.lemmas.List.{length-drop}
 use Rattle.recorded_text.specs.Steps.{step_view}
-use Rattle.recorded_text.specs.Text.{told}
-use Rattle.recorded_text.specs.private.SoFar.{Lacks, IsSoFar}
+use Rattle.recorded_text.specs.Text.{switches_in_line}
+use Rattle.recorded_text.specs.private.SoFar.{Lacks, IsReadSoFar}
 use Rattle.recorded_text.proofs.Cutting.{rest_is}
 use Rattle.recorded_text.proofs.Lining.{split_line, no_line_from, bad_line, next_line, Lacks-append}
 use Rattle.recorded_text.proofs.Stepping.{grows_on, brings_more}
@@ -14,7 +14,7 @@ returns-in-Err-Bad-clause-bad c = λ whole after h.
     let left = c.loop-i.left.now in
     let found = map (step_view c.loop-i.names) c.loop-i.steps.items in
     let cut = split_line left i c.in-Some.ensures in
-    let so = subst (λ (t : List ℕ). IsSoFar whole ((c.loop-i.rest.items ++ t) ++ after) c.loop-i.lines found) cut.0 (c.loop-i.invariant.so_far whole after h) in
+    let so = subst (λ (t : List ℕ). IsReadSoFar whole ((c.loop-i.rest.items ++ t) ++ after) c.loop-i.lines found) cut.0 (c.loop-i.invariant.so_far whole after h) in
     bad_line whole c.loop-i.rest.items (take i left) (drop (i + 1) left) after c.loop-i.lines found c.loop-i.invariant.lacks cut.1 so (rw c.in-Err-Bad.field-0-is at c.in-Err-Bad.ensures.bad)
 
 pub loop-i-preserved : goal.loop-i-preserved
@@ -27,10 +27,10 @@ loop-i-preserved c =
     let e = c.in-Ok.ensures in
     record {
       so_far = λ whole after h.
-          let so = subst (λ (t : List ℕ). IsSoFar whole ((c.loop-i.rest.items ++ t) ++ after) c.loop-i.lines found) cut.0 (c.loop-i.invariant.so_far whole after h) in
+          let so = subst (λ (t : List ℕ). IsReadSoFar whole ((c.loop-i.rest.items ++ t) ++ after) c.loop-i.lines found) cut.0 (c.loop-i.invariant.so_far whole after h) in
           let next = next_line whole c.loop-i.rest.items (take i left) (drop (i + 1) left) after c.loop-i.lines found more c.loop-i.invariant.lacks cut.1 so e.good e.shown in
           rw (e.empty, rest_is (i + 1) left) next;
-      called = λ first h. brings_more first c.loop-i.names c.end_line.new.names found (told (c.loop-i.rest.items ++ take i left)) more (c.loop-i.invariant.called first h) e.called e.shown;
+      called = λ first h. brings_more first c.loop-i.names c.end_line.new.names found (switches_in_line (c.loop-i.rest.items ++ take i left)) more (c.loop-i.invariant.called first h) e.called e.shown;
       lacks = subst (Lacks 10) (sym e.empty) tt;
       named = e.named;
       few = rw (rest_is (i + 1) left) (omega (arith, c.loop-i.invariant.few, length-drop (i + 1) left, c.in-Some.ensures.0.high));
@@ -73,7 +73,7 @@ returns-in-Ok-extend_from_slice c =
     let items = c.in-Ok-extend_from_slice.ensures.items in
     let found = map (step_view c.loop-i.names) c.loop-i.steps.items in
     record {
-      so_far = λ whole after h. subst (λ (t : List ℕ). IsSoFar whole (t ++ after) c.loop-i.lines found) (sym items) (was.so_far whole after h);
+      so_far = λ whole after h. subst (λ (t : List ℕ). IsReadSoFar whole (t ++ after) c.loop-i.lines found) (sym items) (was.so_far whole after h);
       bad = tt;
       called = was.called;
       not_read = tt;

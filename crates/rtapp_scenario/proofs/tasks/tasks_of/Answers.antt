@@ -12,7 +12,7 @@ use Rattle.rtapp_scenario.specs.Threads.{instances, thread_ref}
 use Rattle.rtapp_scenario.specs.ScenarioView.{TaskSpecView}
 use Rattle.rtapp_scenario.specs.Scenario.{thread_tasks, tasks_from}
 use Rattle.rtapp_scenario.specs.Tests.{own_fault, beside_fault, thread_fault, refs_in, tasks_in}
-use Rattle.rtapp_scenario.specs.Told.{IsTold, flaw_seen, ref_seen}
+use Rattle.rtapp_scenario.specs.Told.{IsFaultTold, flaw_seen, ref_seen}
 use Rattle.rtapp_scenario.proofs.Walks.{here, before_more, order_found, order_passed}
 use Rattle.rtapp_scenario.proofs.tasks.tasks_of.Goals as goal
 
@@ -60,7 +60,7 @@ returns-in-Err-clause-fault c =
     let fault : Fault = flaw_seen c.in-Err.flaw in
     let own : own_fault (member_of thread) ≡ Some fault = sym c.in-Err.ensures in
     let found : thread_fault (members_of (take i threads)) (member_of thread) ≡ Some fault = rw own refl in
-    subst (λ (o : Option Fault). IsTold o c.fault_of.result) (order_found thread_fault threads i thread fault c.loop-thread-test.true c.thread-item.is found c.loop-thread.invariant.passed) c.fault_of.ensures
+    subst (λ (o : Option Fault). IsFaultTold o c.fault_of.result) (order_found thread_fault threads i thread fault c.loop-thread-test.true c.thread-item.is found c.loop-thread.invariant.passed) c.fault_of.ensures
 
 pub returns-in-Err-check_beside-clause-fault : goal.returns-in-Err-check_beside-clause-fault
 returns-in-Err-check_beside-clause-fault c =
@@ -76,7 +76,7 @@ returns-in-Err-check_beside-clause-fault c =
     let beside : beside_fault (refs_in before) (tasks_in before) (members (json_of thread.1)) ≡ Some fault =
     sym (ap (λ (rs : List (Option (List ℕ))). beside_fault rs c.loop-thread.others own_members) seen ∙ ap (λ (n : ℕ). beside_fault (refs_in before) n own_members) inv.others ∙ ap (beside_fault (refs_in before) (tasks_in before)) c.members-members.ensures) ∙ sym c.in-Err-check_beside.ensures.flaw in
     let found : thread_fault before (member_of thread) ≡ Some fault = rw (own, beside) refl in
-    subst (λ (o : Option Fault). IsTold o c.fault_of-in-Err-check_beside.result) (order_found thread_fault threads i thread fault c.loop-thread-test.true c.thread-item.is found inv.passed) c.fault_of-in-Err-check_beside.ensures
+    subst (λ (o : Option Fault). IsFaultTold o c.fault_of-in-Err-check_beside.result) (order_found thread_fault threads i thread fault c.loop-thread-test.true c.thread-item.is found inv.passed) c.fault_of-in-Err-check_beside.ensures
 
 pub loop-thread-init : goal.loop-thread-init
 loop-thread-init c = grind (arith, common_steps)

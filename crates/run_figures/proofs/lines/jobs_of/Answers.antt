@@ -2,7 +2,7 @@ use Rattle.std.proofs.Common.{◌≡◌, List, [], ◌++◌, map, sym, ap, ◌�
 use Rattle.std.specs.Prelude.{reverse}
 use Rattle.std.proofs.lemmas.List.{nil_from_length, reverse-reverse}
 use Rattle.run_figures.specs.declared.run.Admitted.{Admitted}
-use Rattle.run_figures.specs.private.LineView.{LineView}
+use Rattle.run_figures.specs.private.LineView.{JobLineView}
 use Rattle.run_figures.specs.Jobs.{task_jobs}
 use Rattle.run_figures.specs.private.Lines.{line_all, no_line}
 use Rattle.run_figures.proofs.Passing.{map-map, map_same}
@@ -16,9 +16,9 @@ returns-clause-jobs c =
     let tasks = c.args.run.now.tasks.now in
     let none : c.loop-line.table.items ≡ [] = nil_from_length c.loop-line.table.items (omega (arith, c.loop-line.table.ok, c.in_default.ensures.cases.0)) in
     sym (append-nil c.loop-line.all.items)
-    ∙ ap (λ (ls : List LineView). c.loop-line.all.items ++ map closed_line (reverse ls)) (sym none)
+    ∙ ap (λ (ls : List JobLineView). c.loop-line.all.items ++ map closed_line (reverse ls)) (sym none)
     ∙ c.loop-line.invariant
-    ∙ ap (λ (ls : List LineView). map closed_line (reverse ls)) c.reverse.ensures.items
+    ∙ ap (λ (ls : List JobLineView). map closed_line (reverse ls)) c.reverse.ensures.items
     ∙ ap (map closed_line) (reverse-reverse c.in_ok-table.table.items)
     ∙ ap (map closed_line) c.in_ok-table.ensures
     ∙ map-map closed_line (λ (t : Admitted). line_all hs (no_line t.number)) tasks

@@ -2,7 +2,7 @@ use Rattle.std.proofs.Common.{List, get_or, take, map, sym, ap, ◌∙◌, subst
 use Rattle.std.proofs.lemmas.List.{map-id, take_all, length-take, get_or_default}
 use Rattle.domain_run.specs.declared.happened.Happened.{Happened}
 use Rattle.run_figures.specs.declared.run.Admitted.{Admitted}
-use Rattle.run_figures.specs.private.LineView.{LineView}
+use Rattle.run_figures.specs.private.LineView.{JobLineView}
 use Rattle.run_figures.specs.private.Lines.{line_all, no_line, IsLineWithin}
 use Rattle.run_figures.proofs.Passing.{map-map, blank}
 use Rattle.run_figures.proofs.Listed.{numbers_of_lines, one_more_line, lines_within}
@@ -13,9 +13,9 @@ loop-entry-init c = c.in_ok-table.ensures ∙ sym (map-id (map (λ (t : Admitted
 
 pub tell-requires-clause-keyed : goal.tell-requires-clause-keyed
 tell-requires-clause-keyed c =
-    ap (λ (ls : List LineView). map (λ l. l.number) ls) c.loop-entry.invariant
+    ap (λ (ls : List JobLineView). map (λ l. l.number) ls) c.loop-entry.invariant
     ∙ numbers_of_lines (take c.loop-entry.entry-index c.args.happened.now) (map (λ (t : Admitted). no_line t.number) c.args.tasks.now)
-    ∙ map-map (λ (l : LineView). l.number) (λ (t : Admitted). no_line t.number) c.args.tasks.now
+    ∙ map-map (λ (l : JobLineView). l.number) (λ (t : Admitted). no_line t.number) c.args.tasks.now
     ∙ sym c.in_ok-places.ensures
 
 pub tell-requires-clause-room : goal.tell-requires-clause-room

@@ -1,7 +1,7 @@
 use Rattle.std.proofs.Common.{◌+◌, ap, ◌∙◌, sym, subst, arith}
 use Rattle.std.proofs.Math.ListN.{set}
 use Rattle.run_figures.specs.declared.told.Told.{Told}
-use Rattle.run_figures.specs.private.Telling.{told_after, IsWithin}
+use Rattle.run_figures.specs.private.Telling.{told_after, IsToldWithin}
 use Rattle.std.proofs.lemmas.List.Elements.{All-set}
 use Rattle.run_figures.proofs.Turning.{turned_place, turned_none, place_inside}
 use Rattle.run_figures.proofs.Passing.{all_more}
@@ -17,8 +17,8 @@ pub returns-in-Some-clause-within : goal.returns-in-Some-clause-within
 returns-in-Some-clause-within c n all =
     let items = c.args.told.now.items in
     let inside = place_inside (λ (t : Told). t.number) c.args.happened.now.number items c.args.places.now c.in-Some.place c.requires.keyed c.in-Some.ensures.found in
-    let here : IsWithin n c.index.result.now = subst (λ (x : Told). IsWithin n x) (sym c.index.ensures) (all c.in-Some.place c.index.result.now inside) in
-    All-set (IsWithin (n + 1)) items c.in-Some.place c.told_after-after.result (c.told_after-after.ensures.within n here) (all_more n (n + 1) items (omega arith) all)
+    let here : IsToldWithin n c.index.result.now = subst (λ (x : Told). IsToldWithin n x) (sym c.index.ensures) (all c.in-Some.place c.index.result.now inside) in
+    All-set (IsToldWithin (n + 1)) items c.in-Some.place c.told_after-after.result (c.told_after-after.ensures.within n here) (all_more n (n + 1) items (omega arith) all)
 
 pub returns-in_default-clause-told : goal.returns-in_default-clause-told
 returns-in_default-clause-told c =

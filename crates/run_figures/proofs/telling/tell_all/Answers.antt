@@ -1,5 +1,5 @@
 use Rattle.std.proofs.Common.{◌≡◌, ◌+◌, length, subst, arith, All}
-use Rattle.run_figures.specs.private.Telling.{IsWithin}
+use Rattle.run_figures.specs.private.Telling.{IsToldWithin}
 use Rattle.run_figures.proofs.Passing.{none_told, one_told, told_keyed, told_room}
 use Rattle.run_figures.proofs.telling.tell_all.Goals as goal
 
@@ -21,4 +21,4 @@ loop-entry-preserved c =
 pub returns-clause-within : goal.returns-clause-within
 returns-clause-within c n all =
     let at : c.loop-entry.entry-index ≡ length c.args.happened.now = omega arith in
-    subst (λ k. All (IsWithin (n + k)) c.loop-entry.told.items) at (c.loop-entry.invariant.within n all)
+    subst (λ k. All (IsToldWithin (n + k)) c.loop-entry.told.items) at (c.loop-entry.invariant.within n all)

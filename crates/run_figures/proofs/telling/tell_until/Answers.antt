@@ -1,7 +1,7 @@
 use Rattle.std.proofs.Common.{◌+◌, ap, ◌∙◌, refl, subst, sym, arith, All}
 use Rattle.std.proofs.lemmas.List.{get_or_default}
 use Rattle.domain_run.specs.declared.happened.Happened.{Happened}
-use Rattle.run_figures.specs.private.Telling.{IsWithin}
+use Rattle.run_figures.specs.private.Telling.{IsToldWithin}
 use Rattle.run_figures.proofs.Passing.{none_told, one_told, told_keyed, told_room, one_passed, all_passed, blank}
 use Rattle.run_figures.proofs.telling.tell_until.Goals as goal
 
@@ -38,7 +38,7 @@ returns-then-entry-time-clause-count c =
 
 pub returns-then-entry-time-clause-within : goal.returns-then-entry-time-clause-within
 returns-then-entry-time-clause-within c n all =
-    subst (λ k. All (IsWithin (n + k)) c.loop-entry.told.items) (sym c.loop-entry.invariant.count) (c.loop-entry.invariant.told.within n all)
+    subst (λ k. All (IsToldWithin (n + k)) c.loop-entry.told.items) (sym c.loop-entry.invariant.count) (c.loop-entry.invariant.told.within n all)
 
 pub returns-clause-count : goal.returns-clause-count
 returns-clause-count c =
@@ -49,4 +49,4 @@ returns-clause-count c =
 
 pub returns-clause-within : goal.returns-clause-within
 returns-clause-within c n all =
-    subst (λ k. All (IsWithin (n + k)) c.loop-entry.told.items) (sym c.loop-entry.invariant.count) (c.loop-entry.invariant.told.within n all)
+    subst (λ k. All (IsToldWithin (n + k)) c.loop-entry.told.items) (sym c.loop-entry.invariant.count) (c.loop-entry.invariant.told.within n all)

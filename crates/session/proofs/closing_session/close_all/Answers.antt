@@ -1,7 +1,7 @@
 use Rattle.std.proofs.Common.{◌≡◌, ◌+◌, ◌<◌, ℕ, List, ◌∷◌, [], ◌++◌, length, get_or, refl, sym, ap, subst, ◌∙◌, arith}
 use Rattle.std.specs.Vec.Iter.{into_iter_items, into_iter_len}
 use Rattle.std.proofs.lemmas.List.{length_push, length-map, get_or-map}
-use Rattle.bw_gate.specs.Pieces.{sum_of}
+use Rattle.bw_gate.specs.Pieces.{bw_of_tickets}
 use Rattle.domain_run.specs.Domain.{Domain}
 use Rattle.call_book.specs.Ending.{EndingView}
 use Rattle.calls_text.specs.SectionView.{SectionView}
@@ -49,7 +49,7 @@ loop-book-preserved g c =
     let count : length new ≡ length h + 1 = omega (arith, ap length is, length_push h s) in
     let same : c.close_book-history.new.clients.items ≡ clients = made.clients ∙ inv.clients in
     let last : IsHistoryOf id (length h) clients s = subst (λ (cs : List ClientView). IsHistoryOf id (length h) cs s) same (subst (λ (d : ℕ). IsHistoryOf id d c.close_book-history.new.clients.items s) place made.history) in
-    let sum_here : sum_of (length h) tickets ≡ sum_left s = subst (λ (d : ℕ). sum_of d tickets ≡ sum_left s) place (let none = inv.none c.len-place.result (omega (arith, place)) in omega (arith, made.here, none)) in
+    let sum_here : bw_of_tickets (length h) tickets ≡ sum_left s = subst (λ (d : ℕ). bw_of_tickets d tickets ≡ sum_left s) place (let none = inv.none c.len-place.result (omega (arith, place)) in omega (arith, made.here, none)) in
     record {
       clients = same;
       left = left_next books all rest b (length h) (length new) (into_iter_len c.loop-book.rest) (into_iter_len c.next.new.self) c.in-Some.ensures.items count (omega (arith, c.in-Some.ensures.len)) inv.left;
@@ -60,7 +60,7 @@ loop-book-preserved g c =
           (subst (λ (xs : List Domain). HaveEnded books (h ++ s ∷ []) xs) (sym c.push_reserved-in-Some.ensures.items)
           (ended_more books h c.loop-book.states.items b s c.close_book-history.result.state inv.ended
           (taken_first books all rest b (length h) (into_iter_len c.loop-book.rest) (length h) c.in-Some.ensures.items some refl inv.left) made.ended));
-      sums = subst (λ (ss : List SectionView). AreSums ss tickets) (sym is) (by_place_more (λ (d : ℕ) (t : SectionView). sum_of d tickets ≡ sum_left t) h s (λ d x inside. made.elsewhere d (λ at. absurd (omega (arith, at, place, inside))) ∙ inv.sums d x inside) sum_here);
+      sums = subst (λ (ss : List SectionView). AreSums ss tickets) (sym is) (by_place_more (λ (d : ℕ) (t : SectionView). bw_of_tickets d tickets ≡ sum_left t) h s (λ d x inside. made.elsewhere d (λ at. absurd (omega (arith, at, place, inside))) ∙ inv.sums d x inside) sum_here);
       none = λ d behind. made.elsewhere d (λ at. absurd (omega (arith, at, place, behind, count))) ∙ inv.none d (omega (arith, behind, count));
       few = omega (arith, made.count, inv.few, count);
       room = omega (arith, inv.room, made.room);

@@ -1,6 +1,6 @@
 use Rattle.std.proofs.Common.{◌≡◌, ◌+◌, ◌*◌, ◌≤◌, ◌<◌, ℕ, length, slice_index_or, vec_capacity}
 use Rattle.std.specs.Vec.Iter.{into_iter_items, into_iter_len}
-use Rattle.bw_gate.specs.Pieces.{sum_of}
+use Rattle.bw_gate.specs.Pieces.{bw_of_tickets}
 use Rattle.call_book.specs.Ending.{EndingView}
 use Rattle.session.specs.private.Closing.{AreHistories, AreSums, HaveEnded}
 use Rattle.session.proofs.closing_session.close_all.Given as goal
@@ -14,7 +14,7 @@ invariant-loop-book g l = record {
   histories : AreHistories g.N.Names.id l.fn.clients.items l.histories.items;
   ended : HaveEnded l.fn.books.items l.histories.items l.states.items;
   sums : AreSums l.histories.items l.home.tickets.items;
-  none : (d : ℕ) → length l.histories.items ≤ d → sum_of d l.home.tickets.items ≡ 0;
+  none : (d : ℕ) → length l.histories.items ≤ d → bw_of_tickets d l.home.tickets.items ≡ 0;
   few : length l.home.tickets.items ≤ length l.histories.items * 256;
   room : length g.N.Names.id.cpu_sets * 256 ≤ vec_capacity l.home.tickets;
   sections : length g.N.Names.id.cpu_sets ≤ vec_capacity l.histories;

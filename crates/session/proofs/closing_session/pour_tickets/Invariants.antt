@@ -1,5 +1,5 @@
 use Rattle.std.proofs.Common.{◌≡◌, ◌+◌, ℕ, length, vec_capacity}
-use Rattle.bw_gate.specs.Pieces.{sum_of}
+use Rattle.bw_gate.specs.Pieces.{bw_of_tickets}
 use Rattle.session.specs.private.Closing.{AreTicketsOf}
 use Rattle.session.proofs.closing_session.pour_tickets.Given as goal
 
@@ -9,7 +9,7 @@ invariant-loop-ticket g l =
     AreTicketsOf g.N.Names.id.gate l.home.items × AreTicketsOf g.N.Names.id.gate l.tickets.items
     × (length l.home.items + length l.tickets.items ≡ length l.fn.home.items + length l.fn.tickets.items)
     × (vec_capacity l.home ≡ vec_capacity l.fn.home)
-    × ((d : ℕ) → sum_of d l.home.items + sum_of d l.tickets.items ≡ sum_of d l.fn.home.items + sum_of d l.fn.tickets.items)
+    × ((d : ℕ) → bw_of_tickets d l.home.items + bw_of_tickets d l.tickets.items ≡ bw_of_tickets d l.fn.home.items + bw_of_tickets d l.fn.tickets.items)
 
 abbrev pub decreases-loop-ticket : goal.decreases-loop-ticket
 decreases-loop-ticket g l = goal.left-loop-ticket g l

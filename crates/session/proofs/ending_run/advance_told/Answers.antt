@@ -1,7 +1,7 @@
 use Rattle.std.proofs.Common.{List, sym, subst}
 use Rattle.std.specs.Prelude.{IfErr, IfOk, OnOk}
 use Rattle.call_book.specs.Book.{BookView}
-use Rattle.session.specs.RunEnd.{IsStopped}
+use Rattle.session.specs.RunEnd.{IsRunStopped}
 use Rattle.session.specs.declared.ending_run.Told.{Told}
 use Rattle.session.specs.private.Ending.{AllEnd, AreEndLogs, IsFullAmong}
 use Rattle.session.proofs.Closed.{all_unheard, books_ended}
@@ -24,5 +24,5 @@ returns-clause-logs g c =
 pub returns-clause-err : goal.returns-clause-err
 returns-clause-err g c =
     let books = c.advance-told.new.unlocked.books.items in
-    subst (λ (bs : List BookView). IfErr c.advance-told.result (IsStopped (IsFullAmong c.args.duration bs c.args.client.now c.advance-told.new.client)))
+    subst (λ (bs : List BookView). IfErr c.advance-told.result (IsRunStopped (IsFullAmong c.args.duration bs c.args.client.now c.advance-told.new.client)))
     (sym (books_ended c.end-ending.result.books.items books c.end-ending.ensures)) c.advance-told.ensures.err

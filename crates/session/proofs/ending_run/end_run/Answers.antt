@@ -4,7 +4,7 @@ use Rattle.std.proofs.lemmas.Result.{err_from_is_err_and}
 use Rattle.session.specs.Asks.{Makes}
 use Rattle.session.specs.declared.ending_run.Told.{Told}
 use Rattle.session.specs.private.Ending.{AllEnd, AreToldAs, IsFullAmong, books_of}
-use Rattle.session.specs.RunEnd.{IsFullWith, IsStopped, advance_of}
+use Rattle.session.specs.RunEnd.{IsFullWith, IsRunStopped, advance_of}
 use Rattle.session.proofs.Advanced.{have_advanced, is_finished, stopped_so, full_with}
 use Rattle.session.proofs.ending_run.end_run.Goals as goal
 
@@ -39,4 +39,4 @@ returns-in_err-logs-clause-err g c =
     let p = err_from_is_err_and c.from_residual-in_err-logs.result c.from_residual-in_err-logs.ensures.1 in
     rw (p.1, p.2) (stopped_so (IsFullAmong c.args.duration (books_of left.books.items) first client) (IsFullWith id c.args.duration cs) c.in_err-logs.field-0.0
     (full_with id c.args.duration cs first client left.books.items c.close-report.result.report c.close-report.result.states.items c.requires.some c.index_mut.ensures.value closed.report closed.ended left.count left.named)
-    (subst (λ r. IfErr r (IsStopped (IsFullAmong c.args.duration (books_of left.books.items) first client))) c.in_err-logs.was made.ensures.err))
+    (subst (λ r. IfErr r (IsRunStopped (IsFullAmong c.args.duration (books_of left.books.items) first client))) c.in_err-logs.was made.ensures.err))

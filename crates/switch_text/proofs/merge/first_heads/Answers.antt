@@ -1,6 +1,6 @@
 use Rattle.std.proofs.Common.{◌+◌, replicate, subst, sym, arith}
 use Rattle.std.proofs.lemmas.List.Elements.{All-get_or}
-use Rattle.switch_text.specs.Runs.{IsRun}
+use Rattle.switch_text.specs.Runs.{IsPrintable}
 use Rattle.switch_text.proofs.Merged.{IsPlaced, AreStarted, AreStarted-more, AreStarted-all}
 use Rattle.switch_text.proofs.merge.first_heads.Goals as goal
 
@@ -25,7 +25,7 @@ pub returns-clause-heads : goal.returns-clause-heads
 returns-clause-heads c = AreStarted-all c.args.runs.now c.loop-i.heads.heads c.loop-i.i (omega arith) c.loop-i.invariant.started
 
 pub head_at-requires : goal.head_at-requires
-head_at-requires c = subst IsRun (sym c.index-runs-i.is) (All-get_or IsRun c.args.runs.now c.loop-i.i c.index-runs-i.result c.loop-i-test.true c.requires.runs)
+head_at-requires c = subst IsPrintable (sym c.index-runs-i.is) (All-get_or IsPrintable c.args.runs.now c.loop-i.i c.index-runs-i.result c.loop-i-test.true c.requires.runs)
 
 pub change-requires-clause-place : goal.change-requires-clause-place
 change-requires-clause-place c = omega arith

@@ -1,6 +1,6 @@
 use Rattle.std.proofs.Common.{◌≡◌, ◌<◌, ◌≤◌, length, get_or, subst, ◌∙◌, rules, arith}
 use Rattle.std.proofs.lemmas.List.{get_or_default}
-use Rattle.switch_text.specs.private.Ready.{IsReady, who_of}
+use Rattle.switch_text.specs.private.Ready.{IsSlotReady, who_of}
 use Rattle.switch_text.proofs.Kept.{IsReady-kept}
 use Rattle.switch_text.proofs.ready.seat.Goals as goal
 
@@ -19,5 +19,5 @@ returns-else-not-is_of-clause-texts g c = λ d.
     let slot = get_or slots place x in
     let inside : place < length slots = omega arith in
     let same : slot.who ≡ who_of c.args.run c.args.cpu c.args.task = c.is_of.ensures (search rules) ∙ c.who_is.ensures in
-    subst (λ s. IsReady (g.names c.args.run) c.args.cpu c.args.task s) (get_or_default slots place x d inside)
+    subst (λ s. IsSlotReady (g.names c.args.run) c.args.cpu c.args.task s) (get_or_default slots place x d inside)
     (IsReady-kept g.names c.args.run c.args.cpu c.args.task slot same (c.requires.1.1.1.1.1.1 place x inside))

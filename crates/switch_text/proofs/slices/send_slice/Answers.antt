@@ -3,7 +3,7 @@ use Rattle.std.specs.Prelude.{IfOk, IfErr}
 use Rattle.counted_io.specs.Sides.{inner_of}
 use Rattle.counted_io.specs.Faults.{TakesFront}
 use Rattle.switch_text.specs.private.Sending.{Sends}
-use Rattle.switch_text.specs.private.Ready.{AreNamed}
+use Rattle.switch_text.specs.private.Ready.{RunsHaveNames}
 use Rattle.switch_text.proofs.Kept.{AreNamed-one}
 use Rattle.switch_text.proofs.Slicing.{lines_in-slice}
 use Rattle.switch_text.proofs.slices.send_slice.Goals as goal
@@ -14,7 +14,7 @@ pub send_runs-requires : goal.send_runs-requires
 send_runs-requires g c =
     let run = c.slice.result in
     let r = c.requires.1.1 in
-    let named = subst (λ (names : ℕ → List ℕ). AreNamed (λ run. names) (run ∷ [])) (sym r.0) (AreNamed-one (g.S.Slices.names c.args.slices.now) run c.slice.ensures.names) in
+    let named = subst (λ (names : ℕ → List ℕ). RunsHaveNames (λ run. names) (run ∷ [])) (sym r.0) (AreNamed-one (g.S.Slices.names c.args.slices.now) run c.slice.ensures.names) in
     λ κs lives. (lives, (omega arith, (search rules, (named, r.1))))
 
 pub returns-clause-ok : goal.returns-clause-ok

@@ -1,7 +1,7 @@
 use Rattle.std.proofs.Common.{◌+◌, ◌≤◌, sym, ◌∙◌, length, ap, subst, arith}
 use Rattle.std.specs.Prelude.{IfSome}
 use Rattle.std.proofs.lemmas.List.{length-take-le}
-use Rattle.switch_text.specs.Names.{named, HasName}
+use Rattle.switch_text.specs.Names.{name_of_task, HasName}
 use Rattle.switch_text.proofs.Calling.{task_text-is}
 use Rattle.switch_text.proofs.EventRoom.{HasName-in_front, told_line_of-by_parts}
 use Rattle.switch_text.proofs.told_lines.told_line.Goals as goal
@@ -14,7 +14,7 @@ title_piece-requires c =
 
 pub returns-clause-text : goal.returns-clause-text
 returns-clause-text c =
-    let names = named c.args.names.now in
+    let names = name_of_task c.args.names.now in
     let front = c.in_front-front.result in
     told_line_of-by_parts names c.args.base c.args.happened.now front (c.args.base + c.from.result) _ _ _ _ _ c.in_front-front.ensures (ap (λ n. c.args.base + n) c.from.ensures)
     (c.put_task-at.ensures.text ∙ task_text-is names front _ _ c.title_piece.ensures.text c.pid_piece.ensures.text) c.put_cpu-at.ensures.text c.put_second-at.ensures.text c.put_micros-at.ensures.text c.put_fields.ensures.text

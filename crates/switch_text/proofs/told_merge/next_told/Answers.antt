@@ -1,7 +1,7 @@
 use Rattle.std.proofs.Common.{◌≡◌, ◌∙◌, ◌<◌, ◌≤◌, length, true, get_or, subst, sym, arith}
 use Rattle.std.proofs.lemmas.List.{take_all}
 use Rattle.switch_text.specs.Telling.{IsTold}
-use Rattle.switch_text.specs.private.ToldMerging.{is_shown}
+use Rattle.switch_text.specs.private.ToldMerging.{is_line_told}
 use Rattle.switch_text.proofs.ToldFound.{IsHere, IsNextIn, IsNextIn-from, IsBest, IsBest-done, IsBest-better_at, IsBest-kept_at, IsToldFound-best, IsNextTold-cut}
 use Rattle.switch_text.proofs.told_merge.next_told.Goals as goal
 use Rattle.switch_text.proofs.told_merge.next_told.Goals.{then-is_left+else-not-has_a_line+then-is_before_best, then-is_left+else-not-has_a_line+else-is_before_best, else-is_left}
@@ -32,13 +32,13 @@ loop-i-preserved c =
           let n = w.next_in-next.result in
           let left : get_or places i 0 < length t.happened.now = c.is_left.ensures.inside.0 w.if-is_left.true in
           let next : IsNextIn told places n = IsNextIn-from told places i t n here w.next_in-next.ensures.index w.next_in-next.ensures.told left w.next_in-next.ensures.happened (omega (arith, left, c.is_left.ensures.counted)) in
-          let shown : is_shown n.happened.now ≡ true = sym w.has_a_line.ensures ∙ w.if-not-has_a_line.false in
+          let shown : is_line_told n.happened.now ≡ true = sym w.has_a_line.ensures ∙ w.if-not-has_a_line.false in
           rw w.best-is (IsBest-better_at told places i n c.loop-i.best w.next_in-next.ensures.index next shown (sym w.is_before_best.ensures ∙ w.if-is_before_best.true) c.loop-i.invariant)
       | then-is_left+else-not-has_a_line+else-is_before_best w ↦
           let n = w.next_in-next.result in
           let left : get_or places i 0 < length t.happened.now = c.is_left.ensures.inside.0 w.if-is_left.true in
           let next : IsNextIn told places n = IsNextIn-from told places i t n here w.next_in-next.ensures.index w.next_in-next.ensures.told left w.next_in-next.ensures.happened (omega (arith, left, c.is_left.ensures.counted)) in
-          let shown : is_shown n.happened.now ≡ true = sym w.has_a_line.ensures ∙ w.if-not-has_a_line.false in
+          let shown : is_line_told n.happened.now ≡ true = sym w.has_a_line.ensures ∙ w.if-not-has_a_line.false in
           rw w.best-is (IsBest-kept_at told places i n c.loop-i.best w.next_in-next.ensures.index next shown (sym w.is_before_best.ensures ∙ w.if-is_before_best.false) c.loop-i.invariant)
       | else-is_left w ↦
           let past : length t.happened.now ≤ get_or places i 0 = grind (arith, c.is_left.ensures.inside.1, w.if-is_left.false) in

@@ -1,9 +1,9 @@
 use Rattle.std.proofs.Common.{◌∙◌, ◌+◌, ◌++◌, subst, sym, refl, arith}
 use Rattle.std.proofs.lemmas.List.{length-map}
-use Rattle.switch_text.specs.Runs.{view_of, views}
+use Rattle.switch_text.specs.Runs.{switches_view_of, views}
 use Rattle.counted_io.specs.Sides.{inner_of}
 use Rattle.counted_io.specs.Faults.{TakesFront}
-use Rattle.switch_text.specs.private.Merging.{next_entry, stepped}
+use Rattle.switch_text.specs.private.Merging.{next_entry, places_stepped}
 use Rattle.switch_text.specs.private.Sliced.{lines_in, IsSending}
 use Rattle.switch_text.proofs.Few.{few}
 use Rattle.switch_text.proofs.Kept.{IsNamed-among}
@@ -18,7 +18,7 @@ use Rattle.switch_text.proofs.writing.send_runs.Goals as goal
 pub loop-next-init : goal.loop-next-init
 loop-next-init g c = record {
   sending = subst (λ places. IsSending (g.W.Write.contents (inner_of c.args.writer.now)) (g.W.Write.contents (inner_of c.args.writer.now)) c.args.batch.now (views c.args.runs.now) places 0 c.args.batch.now) (sym c.start-merge.ensures.places)
-      (IsSending-start (g.W.Write.contents (inner_of c.args.writer.now)) c.args.batch.now (views c.args.runs.now) (omega (arith, length-map c.args.runs.now view_of, c.requires.1.0)));
+      (IsSending-start (g.W.Write.contents (inner_of c.args.writer.now)) c.args.batch.now (views c.args.runs.now) (omega (arith, length-map c.args.runs.now switches_view_of, c.requires.1.0)));
   heads = c.start-merge.ensures.heads;
   room = c.requires.1.1.1.1.1.1.1.0;
   many = c.requires.1.1.1.1.0;
@@ -52,11 +52,11 @@ loop-next-preserved g c =
     let left = c.make_room.new.self in
     let sends = Sends-more mid after c.loop-next.batch left e.line c.in-Ok.n c.in-Ok.ensures.ok in
     let short = length_from_append left e.line c.append_line.new.batch 384 c.append_line.ensures.text c.append_line.ensures.short in
-    let next = IsSending-next _ mid after first (views c.args.runs.now) c.loop-next.merge.places (stepped c.loop-next.merge.places c.in-Some.next.index) c.loop-next.sent c.in-Ok.n c.loop-next.batch (left ++ e.line) e
+    let next = IsSending-next _ mid after first (views c.args.runs.now) c.loop-next.merge.places (places_stepped c.loop-next.merge.places c.in-Some.next.index) c.loop-next.sent c.in-Ok.n c.loop-next.batch (left ++ e.line) e
     c.loop-next.invariant.sending (in_order-next c.args.runs.now c.loop-next.merge.places c.in-Some.next c.in-Some.ensures) sends (omega (arith, short)) in
     record {
       sending = subst (λ places. IsSending (g.W.Write.contents (inner_of c.args.writer.now)) after first (views c.args.runs.now) places (c.loop-next.sent + c.in-Ok.n) c.append_line.new.batch) (sym c.step.ensures.places)
-          (subst (λ text. IsSending (g.W.Write.contents (inner_of c.args.writer.now)) after first (views c.args.runs.now) (stepped c.loop-next.merge.places c.in-Some.next.index) (c.loop-next.sent + c.in-Ok.n) text) (sym c.append_line.ensures.text) next);
+          (subst (λ text. IsSending (g.W.Write.contents (inner_of c.args.writer.now)) after first (views c.args.runs.now) (places_stepped c.loop-next.merge.places c.in-Some.next.index) (c.loop-next.sent + c.in-Ok.n) text) (sym c.append_line.ensures.text) next);
       heads = c.step.ensures.heads;
       room = omega (arith, c.append_line.ensures.short, c.in-Ok.ensures.room);
       many = c.append_line.ensures.many;

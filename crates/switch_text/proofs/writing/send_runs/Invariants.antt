@@ -1,6 +1,6 @@
 use Rattle.std.proofs.Common.{length, ◌≡◌, ◌≤◌, All}
 use Rattle.switch_text.specs.Runs.{views}
-use Rattle.switch_text.specs.private.Merging.{left_of}
+use Rattle.switch_text.specs.private.Merging.{entries_left}
 use Rattle.switch_text.specs.private.Ready.{AreEnough, IsSlot, IsTexts}
 use Rattle.switch_text.specs.private.Winning.{IsMerge}
 use Rattle.switch_text.specs.private.Sliced.{IsSending}
@@ -22,4 +22,4 @@ abbrev pub ghost-append_line : goal.ghost-append_line
 ghost-append_line g a = g.names
 
 abbrev pub decreases-loop-next : goal.decreases-loop-next
-decreases-loop-next g l = length (left_of (views l.runs) l.merge.places)
+decreases-loop-next g l = length (entries_left (views l.runs) l.merge.places)

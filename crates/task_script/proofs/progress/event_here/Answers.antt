@@ -1,6 +1,6 @@
 use Rattle.std.proofs.Common.{◌<◌, length, sym, subst, arith}
 use Rattle.std.proofs.lemmas.Grind.{common_steps}
-use Rattle.task_script.specs.declared.script.Event.{Event}
+use Rattle.task_script.specs.declared.phase.Event.{Event}
 use Rattle.task_script.specs.private.Progress.{IsEventThere}
 use Rattle.task_script.proofs.Rounds.{phase_read}
 use Rattle.task_script.proofs.Stepping.{index_small, step_within, event_read, event_of_phase, is_event}

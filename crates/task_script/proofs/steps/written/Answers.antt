@@ -9,7 +9,7 @@ loop-phase-init c = c.in_ok-steps.ensures.items
 
 pub loop-phase-preserved : goal.loop-phase-preserved
 loop-phase-preserved c =
-    let phases = c.phases-phases.result.now in
+    let phases = c.args.phases.now in
     let n = c.loop-phase.phase in
     let q = c.index-phases-phase.result in
     let within : n < length phases = grind (arith, common_steps) in

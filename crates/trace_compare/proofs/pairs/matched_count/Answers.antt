@@ -1,7 +1,7 @@
 use Rattle.std.proofs.Common.{arith}
 use Rattle.trace_compare.specs.Pairs.{fits}
 use Rattle.trace_compare.proofs.Walking.{turn_more, count_fit, walk_early, count_late, count_model_end, count_recorded_end}
-use Rattle.trace_compare.specs.Pairs.{matched}
+use Rattle.trace_compare.specs.Pairs.{count_matched}
 use Rattle.std.proofs.Common.{ap}
 use Rattle.trace_compare.proofs.pairs.matched_count.Goals as goal
 
@@ -21,7 +21,7 @@ loop-i-preserved-in-Fit c =
 pub loop-i-preserved-in-Early : goal.loop-i-preserved-in-Early
 loop-i-preserved-in-Early c =
     let v = c.loop-i.invariant in
-    let same = ap matched (walk_early c.args.within c.args.shift c.args.ms.now c.args.rs.now c.loop-i.i c.loop-i.j c.loop-i-test.true c.if-j-rs.true v.model_turn c.in-Early.ensures) in
+    let same = ap count_matched (walk_early c.args.within c.args.shift c.args.ms.now c.args.rs.now c.loop-i.i c.loop-i.j c.loop-i-test.true c.if-j-rs.true v.model_turn c.in-Early.ensures) in
     record {
       counted = omega (arith, same, v.counted);
       model_turn = v.model_turn;

@@ -1,6 +1,6 @@
 use Rattle.std.proofs.Common.{◌+◌, ◌++◌, ◌∙◌, drop, sym, ap}
 use Rattle.std.proofs.lemmas.List.{drop_more}
-use Rattle.trace_compare.specs.Runs.{joined_on, kept}
+use Rattle.trace_compare.specs.Runs.{joined_on, long_runs}
 use Rattle.trace_compare.proofs.Joining.{none_runs, none_turn, none_short, short_first, short_later, all_told, all_in_turn}
 use Rattle.trace_compare.proofs.runs.settled.Goals as goal
 
@@ -27,7 +27,7 @@ loop-run-init c =
     let first = c.in-Some.parts.0.now in
     let later = c.in-Some.parts.1.now in
     record {
-      told = ap (λ rs. rs ++ kept c.args.noise (joined_on c.args.noise first later)) c.new-runs.ensures.items;
+      told = ap (λ rs. rs ++ long_runs c.args.noise (joined_on c.args.noise first later)) c.new-runs.ensures.items;
       current = short_first c.args.raw.now first later c.in-Some.ensures.cases.0 c.requires.small;
       runs = none_short c.new-runs.result.items c.new-runs.ensures.items;
     }
@@ -38,7 +38,7 @@ loop-run-preserved c =
     let i = c.loop-run.run-index in
     let v = c.loop-run.invariant in
     record {
-      told = c.in_ok-current.ensures.told (drop (i + 1) later) ∙ ap (λ rs. c.loop-run.runs.items ++ kept c.args.noise (joined_on c.args.noise c.loop-run.current rs)) (sym (drop_more later i _ c.loop-run-test.true)) ∙ v.told;
+      told = c.in_ok-current.ensures.told (drop (i + 1) later) ∙ ap (λ rs. c.loop-run.runs.items ++ long_runs c.args.noise (joined_on c.args.noise c.loop-run.current rs)) (sym (drop_more later i _ c.loop-run-test.true)) ∙ v.told;
       current = c.in_ok-current.ensures.next;
       runs = c.take_run.ensures.small v.runs;
     }

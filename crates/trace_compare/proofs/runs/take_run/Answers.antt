@@ -1,4 +1,4 @@
-use Rattle.trace_compare.specs.Runs.{kept, joined_on}
+use Rattle.trace_compare.specs.Runs.{long_runs, joined_on}
 use Rattle.std.proofs.Common.{◌∷◌, ◌≡◌, ◌++◌, subst, sym}
 use Rattle.trace_compare.specs.declared.run.Run.{Run}
 use Rattle.trace_compare.proofs.Joining.{told_near, told_far}
@@ -6,7 +6,7 @@ use Rattle.trace_compare.proofs.runs.take_run.Goals as goal
 
 pub returns-then-run-current-clause-told : goal.returns-then-run-current-clause-told
 returns-then-run-current-clause-told c = λ rest.
-    subst (λ (next : Run). c.args.runs.now.items ++ kept c.args.noise (joined_on c.args.noise next rest) ≡ c.args.runs.now.items ++ kept c.args.noise (joined_on c.args.noise c.args.current (c.args.run.now ∷ rest))) (sym c.join_two.ensures)
+    subst (λ (next : Run). c.args.runs.now.items ++ long_runs c.args.noise (joined_on c.args.noise next rest) ≡ c.args.runs.now.items ++ long_runs c.args.noise (joined_on c.args.noise c.args.current (c.args.run.now ∷ rest))) (sym c.join_two.ensures)
     (told_near c.args.noise c.args.runs.now.items c.args.current c.args.run.now rest c.if-run-current.true)
 
 pub returns-clause-told : goal.returns-clause-told

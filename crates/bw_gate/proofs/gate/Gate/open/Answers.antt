@@ -3,7 +3,7 @@ use Rattle.std.proofs.lemmas.List.{length-map, length-take}
 use Rattle.bw_gate.specs.declared.terms.Room.{Room}
 use Rattle.bw_gate.specs.Word.{first_word}
 use Rattle.bw_gate.specs.Terms.{TermsView, AreTerms, terms_of}
-use Rattle.bw_gate.specs.Table.{IsKept, opened}
+use Rattle.bw_gate.specs.Table.{IsTableKept, blank_table}
 use Rattle.bw_gate.proofs.Rooms.{rooms_begin}
 use Rattle.bw_gate.proofs.gate.Gate.open.Goals as goal
 
@@ -21,8 +21,8 @@ pub of_words-requires : goal.of_words-requires
 of_words-requires c =
     let terms = terms_of c.args.rooms.now c.args.n in
     let words = take (length c.args.rooms.now) c.first_words-words.result in
-    let begun : IsKept terms words (opened terms ∷ []) = subst (λ (ws : List ℕ). IsKept terms ws (opened terms ∷ [])) (sym c.first_words-words.ensures) (rooms_begin c.args.rooms.now c.args.n c.requires) in
-    subst (λ (t : TermsView). IsKept t words (opened t ∷ [])) (sym c.new-terms.ensures) begun
+    let begun : IsTableKept terms words (blank_table terms ∷ []) = subst (λ (ws : List ℕ). IsTableKept terms ws (blank_table terms ∷ [])) (sym c.first_words-words.ensures) (rooms_begin c.args.rooms.now c.args.n c.requires) in
+    subst (λ (t : TermsView). IsTableKept t words (blank_table t ∷ [])) (sym c.new-terms.ensures) begun
 
 pub deal-requires-clause-words : goal.deal-requires-clause-words
 deal-requires-clause-words c =

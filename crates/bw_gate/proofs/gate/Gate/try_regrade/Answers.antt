@@ -5,7 +5,7 @@ use Rattle.bw_gate.specs.Terms.{TermsView, cpus_in}
 use Rattle.bw_gate.specs.Word.{IsWord, used_of as used_part, cap_of as cap_part}
 use Rattle.bw_gate.proofs.Parts.{other_used, over_in, room_in, same_cap}
 use Rattle.bw_gate.specs.Table.{held_by}
-use Rattle.bw_gate.specs.Kinds.{told, made}
+use Rattle.bw_gate.specs.Kinds.{with_found, made}
 use Rattle.bw_gate.proofs.Views.{seat_after, blank_of, ticket_shown, took, missed, held_one, held_here}
 use Rattle.bw_gate.proofs.Steps.{regrades}
 use Rattle.bw_gate.proofs.gate.Gate.try_regrade.Goals as goal
@@ -53,7 +53,7 @@ invariant_of-ticket-else-found-seen c =
     let d = c.ticket.inside.domain in
     let found = c.compare_exchange-found.result in
     let step = missed found c.load-seen.result _ _ c.if-found-seen.false c.compare_exchange-found.ensures.2.1 in
-    let s = seat_after _ seat.me c.compare_exchange-found.new.seat.me (told found seat.me.0) (Ticket d c.ticket.inside.bw) seat.me.0.found found c.ticket.invariant.0 step c.ticket.invariant.1 refl in
+    let s = seat_after _ seat.me c.compare_exchange-found.new.seat.me (with_found found seat.me.0) (Ticket d c.ticket.inside.bw) seat.me.0.found found c.ticket.invariant.0 step c.ticket.invariant.1 refl in
     (s.0, s.1, s.2, subst (λ (t : TermsView). d < length t.cpus) (sym (ap (λ (m : _). m.0.terms) step)) c.ticket.invariant.3, c.ticket.invariant.4)
 
 pub returns-then-used_of-ticket : goal.returns-then-used_of-ticket
@@ -98,6 +98,6 @@ returns c =
         room = room_in _ _ _ _ _ _ c.args.bw c.used_of.ensures c.cap_of.ensures held c.if-used_of-ticket.false;
         other = c.if-found-seen.false;
       };
-      ticket = ticket_shown _ c.args.ticket c.load-seen.new.ticket c.ticket.inside.domain c.ticket.inside.bw c.args.ticket.bw seat.table_id after.table_id seat.me after.me (told found seat.me.0) seen found found
+      ticket = ticket_shown _ c.args.ticket c.load-seen.new.ticket c.ticket.inside.domain c.ticket.inside.bw c.args.ticket.bw seat.table_id after.table_id seat.me after.me (with_found found seat.me.0) seen found found
           (ap blank_of c.ticket.view_is) load.ticket (ap (λ (t : TicketView). t.domain) c.ticket.view_is) held c.compare_exchange-found.ensures.0 step refl refl refl;
     }

@@ -1,7 +1,7 @@
 use Rattle.std.proofs.Common.{◌++◌, ◌∷◌, [], List, map, take, sym, ap, ◌∙◌, subst, arith}
 use Rattle.std.proofs.lemmas.List.{map_more, take_all}
 use Rattle.bw_world.specs.WorldView.{DomainView, WorldView}
-use Rattle.bw_world.specs.DomainStep.{opened}
+use Rattle.bw_world.specs.DomainStep.{unused_domain}
 use Rattle.bw_world.specs.ExactWord.{IsExact}
 use Rattle.bw_world.proofs.WorldLaw.{opened_world_exact}
 use Rattle.bw_world.proofs.world.World.open.Goals as goal
@@ -13,7 +13,7 @@ loop-cap-preserved c =
     let is = c.loop-cap.invariant in
     record {
       domains = c.push_reserved.ensures.items ∙ ap (λ (ds : List DomainView). ds ++ c.open.result ∷ []) is.domains
-          ∙ ap (λ (d : DomainView). map opened (take i caps) ++ d ∷ []) c.open.ensures ∙ sym (map_more opened caps i 0 (omega arith));
+          ∙ ap (λ (d : DomainView). map unused_domain (take i caps) ++ d ∷ []) c.open.ensures ∙ sym (map_more unused_domain caps i 0 (omega arith));
       count = omega arith;
       room = omega arith;
     }
@@ -25,7 +25,7 @@ invariant_of-result c =
 pub returns-clause-opened : goal.returns-clause-opened
 returns-clause-opened c =
     let caps = c.args.caps.now in
-    let all = ap (map opened) (take_all c.loop-cap.cap-index caps (omega arith)) in
+    let all = ap (map unused_domain) (take_all c.loop-cap.cap-index caps (omega arith)) in
     let world : List DomainView → WorldView = λ ds. record { domains = ds; applied = 0 } in
     ap world (c.loop-cap.invariant.domains ∙ all)
 

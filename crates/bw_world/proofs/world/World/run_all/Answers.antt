@@ -1,6 +1,6 @@
 use Rattle.std.proofs.Common.{ℕ, List, take, sym, ap, ◌∙◌, subst, arith}
 use Rattle.std.proofs.lemmas.List.{take_all}
-use Rattle.bw_world.specs.WorldStep.{after, outcomes_of}
+use Rattle.bw_world.specs.WorldStep.{after_steps, outcomes_of}
 use Rattle.bw_world.specs.declared.step.Step.{Step}
 use Rattle.bw_world.specs.declared.step.Step.TheVariants.{Load}
 use Rattle.bw_world.specs.WorldView.{WorldView}
@@ -41,13 +41,13 @@ returns-clause-outcomes c =
 pub returns-clause-world : goal.returns-clause-world
 returns-clause-world c =
     let i = c.loop-step.invariant in
-    i.world ∙ ap (λ (n : ℕ). after (take n c.args.steps.now) c.args.self.now.domains) (sym i.applied)
+    i.world ∙ ap (λ (n : ℕ). after_steps (take n c.args.steps.now) c.args.self.now.domains) (sym i.applied)
 
 pub returns-in_err-outcome-clause-world : goal.returns-in_err-outcome-clause-world
 returns-in_err-outcome-clause-world c =
     let i = c.loop-step.invariant in
     let count = ap (λ (w : WorldView). w.applied) c.in_err-outcome.ensures.err ∙ i.applied in
-    ap (λ (w : WorldView). w.domains) c.in_err-outcome.ensures.err ∙ i.world ∙ ap (λ (n : ℕ). after (take n c.args.steps.now) c.args.self.now.domains) (sym count)
+    ap (λ (w : WorldView). w.domains) c.in_err-outcome.ensures.err ∙ i.world ∙ ap (λ (n : ℕ). after_steps (take n c.args.steps.now) c.args.self.now.domains) (sym count)
 
 pub returns-in_err-outcome-clause-beginning : goal.returns-in_err-outcome-clause-beginning
 returns-in_err-outcome-clause-beginning c =

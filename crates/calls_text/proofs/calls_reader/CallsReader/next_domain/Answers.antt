@@ -1,7 +1,7 @@
 use Rattle.std.proofs.Common.{◌∙◌, ◌+◌, ◌-◌, ◌≡◌, length, ap, sym, subst, refl, arith}
 use Rattle.std.proofs.lemmas.List.{get_or-replicate}
 use Rattle.calls_text.specs.declared.fault.PartFault.TheVariants.{Bad}
-use Rattle.calls_text.specs.Reader.{ReaderView, IsBehind, begun}
+use Rattle.calls_text.specs.Reader.{ReaderView, IsBehind, empty_section}
 use Rattle.calls_text.specs.private.Reading.{LacksDomain}
 use Rattle.calls_text.proofs.Entries.{starts}
 use Rattle.calls_text.proofs.Lines.{domain_takes}
@@ -41,7 +41,7 @@ returns-in-Ok-clause-next c = λ text done b.
       after = after;
       header = own.header;
       so_far = own.so_far;
-      domain = domain_found was.rest.now line after (cpus, limit) (begun cpus limit) refl refl (sym c.in-Some.ensures) c.in-Ok.ensures.gives;
+      domain = domain_found was.rest.now line after (cpus, limit) (empty_section cpus limit) refl refl (sym c.in-Some.ensures) c.in-Ok.ensures.gives;
       some = took.some;
       most = took.few;
       low = took.low;

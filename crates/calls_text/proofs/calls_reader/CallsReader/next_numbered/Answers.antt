@@ -2,7 +2,7 @@ use Rattle.std.proofs.Common.{◌∙◌, ℕ, ◌+◌, ◌-◌, ◌≡◌, Bool,
 use Rattle.calls_text.specs.Spelling.{has_later}
 use Rattle.calls_text.specs.ReadSoFar.{Counts}
 use Rattle.calls_text.specs.Reader.{IsWithin}
-use Rattle.calls_text.specs.private.Numbered.{entry_of}
+use Rattle.calls_text.specs.private.Numbered.{numbered_entry}
 use Rattle.calls_text.proofs.Entries.{entry_takes, one_more, counts_more, lacks_unfinished, lacks_bad}
 use Rattle.calls_text.proofs.Readers.{view_of, behind_from, cut_less, found_more}
 use Rattle.calls_text.proofs.calls_reader.CallsReader.next_numbered.Goals as goal
@@ -26,7 +26,7 @@ returns-in-Err-Bad-clause-next c = λ text before s w.
     record { body = b.body; header = b.header; so_far = b.so_far; found = b.found; few = b.few; count = b.count; lines = b.lines; full = b.full }
 
 pub returns-in-Ok-clause-entry : goal.returns-in-Ok-clause-entry
-returns-in-Ok-clause-entry c = (entry_takes c.self.inside.later c.in-Some.line.now c.self.inside.made (entry_of c.in-Ok.numbered) c.in-Ok.ensures.found).0.within
+returns-in-Ok-clause-entry c = (entry_takes c.self.inside.later c.in-Some.line.now c.self.inside.made (numbered_entry c.in-Ok.numbered) c.in-Ok.ensures.found).0.within
 
 pub returns-in-Ok-clause-less : goal.returns-in-Ok-clause-less
 returns-in-Ok-clause-less c = rw (← c.self.view_is) (cut_less c.self.inside.rest.now c.in-Some.line.now c.in-Some.after.now (sym c.in-Some.ensures))
@@ -40,7 +40,7 @@ pub returns-in-Ok-clause-next : goal.returns-in-Ok-clause-next
 returns-in-Ok-clause-next c = λ text before s w.
     let was = c.self.inside in
     let own : IsWithin text before s (view_of was) = subst (IsWithin text before s) (sym c.self.view_is) w in
-    let e = entry_of c.in-Ok.numbered in
+    let e = numbered_entry c.in-Ok.numbered in
     let next = c.in-Ok.ensures.found in
     let more = length-append s.entries (e ∷ []) in
     let calls : was.calls ≡ length s.entries = own.calls in

@@ -3,12 +3,12 @@ use Rattle.std.specs.Prelude.{All}
 use Rattle.std.proofs.lemmas.List.{length-map}
 use Rattle.std.proofs.lemmas.List.Elements.{All-head, All-tail}
 use Rattle.domain_run.specs.declared.call.Call.{Call}
-use Rattle.domain_run.specs.Domain.{Domain, opened}
+use Rattle.domain_run.specs.Domain.{Domain, empty_domain}
 use Rattle.domain_run.specs.Run.{after_calls}
 use Rattle.domain_run.specs.Sound.{IsAdmitted}
 use Rattle.calls_text.specs.Limits.{IsCall}
-use Rattle.switch_text.specs.Names.{named}
-use Rattle.calls_trace.specs.Replay.{names_of, no_names, calls_of}
+use Rattle.switch_text.specs.Names.{name_of_task}
+use Rattle.calls_trace.specs.Replay.{names_of, no_names, calls_in_section}
 use Rattle.calls_trace.specs.Told.{names_in, params_after}
 use Rattle.calls_trace.specs.private.Replaying.{given_in}
 use Rattle.calls_trace.proofs.Sections.{kept_calls, left_names, none_kept, unheard}
@@ -30,18 +30,18 @@ calls-init c =
     let made = c.in_ok-run.ensures in
     let many : length left ≡ length r.section.entries = ap (λ (cs : List Call). length cs) (back ∙ r.same.same_calls) ∙ length-map r.section.entries (λ e. e.call) in
     let time = ap (λ (d : Domain). d.time) made.state in
-    let nobody : named run.names ≡ no_names = λ i m. made.names m i in
+    let nobody : name_of_task run.names ≡ no_names = λ i m. made.names m i in
     record {
       made = λ s same.
-          let start = opened s.cpus s.limit in
-          let all : left ≡ calls_of s = back ∙ same.same_calls in
-          let state : run.state ≡ start = made.state ∙ ap (λ (n : ℕ). opened n kept.limit) same.same_cpus ∙ ap (λ (n : ℕ). opened s.cpus n) same.same_limit in
+          let start = empty_domain s.cpus s.limit in
+          let all : left ≡ calls_in_section s = back ∙ same.same_calls in
+          let state : run.state ≡ start = made.state ∙ ap (λ (n : ℕ). empty_domain n kept.limit) same.same_cpus ∙ ap (λ (n : ℕ). empty_domain s.cpus n) same.same_limit in
           record {
-            domain = ap (after_calls run.state) all ∙ ap (λ (d : Domain). after_calls d (calls_of s)) state;
+            domain = ap (after_calls run.state) all ∙ ap (λ (d : Domain). after_calls d (calls_in_section s)) state;
             called = λ n.
-                ap (λ (cs : List Call). names_of run.state cs (named run.names) n) all
-                ∙ ap (λ (d : Domain). names_of d (calls_of s) (named run.names) n) state
-                ∙ ap (λ (f : ℕ → List ℕ). names_of start (calls_of s) f n) nobody;
+                ap (λ (cs : List Call). names_of run.state cs (name_of_task run.names) n) all
+                ∙ ap (λ (d : Domain). names_of d (calls_in_section s) (name_of_task run.names) n) state
+                ∙ ap (λ (f : ℕ → List ℕ). names_of start (calls_in_section s) f n) nobody;
           };
       are = subst (All IsCall) (sym back) (kept_calls r.section kept r.is r.same);
       all_named = λ n h. let no : false ≡ true = subst (λ (d : Domain). IsAdmitted d.used n) made.state h in absurd cc;
@@ -77,7 +77,7 @@ calls-preserved c =
           let m = i.made s same in
           record {
             domain = ap (λ (d : Domain). after_calls d rest) done.state ∙ sym (ap (after_calls was.state) more) ∙ m.domain;
-            called = left_names was.state is.state k rest all (named was.names) (named is.names) (names_in s) more done.state done.names m.called;
+            called = left_names was.state is.state k rest all (name_of_task was.names) (name_of_task is.names) (names_in s) more done.state done.names m.called;
           };
       are = All-tail IsCall k rest (subst (All IsCall) more i.are);
       all_named = done.named;
@@ -94,7 +94,7 @@ returns-clause-run c = λ s is same.
     let none : ◌≡◌ {A = List Call} c.calls.left [] = c.in_default.ensures.next.0 in
     record {
       domain = sym (ap (λ (cs : List Call). after_calls r.state cs) none) ∙ m.domain;
-      called = λ n. sym (ap (λ (cs : List Call). names_of r.state cs (named r.names) n) none) ∙ m.called n;
+      called = λ n. sym (ap (λ (cs : List Call). names_of r.state cs (name_of_task r.names) n) none) ∙ m.called n;
       all_named = i.all_named;
     }
 

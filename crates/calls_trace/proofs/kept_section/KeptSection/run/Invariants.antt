@@ -4,14 +4,14 @@ use Rattle.calls_text.specs.SectionView.{SectionView}
 use Rattle.calls_text.specs.Limits.{IsCall}
 use Rattle.calls_trace.specs.private.Kept.{IsKeptSection, IsMadeUpTo}
 use Rattle.calls_trace.specs.Told.{no_params}
-use Rattle.calls_trace.specs.private.Replaying.{AreNamed, GivesParams}
+use Rattle.calls_trace.specs.private.Replaying.{AdmittedHaveNames, GivesParams}
 use Rattle.calls_trace.proofs.kept_section.KeptSection.run.Given as goal
 
 abbrev pub invariant-calls : goal.invariant-calls
 invariant-calls l = record {
   made : (s : SectionView) → IsKeptSection s l.fn.self → IsMadeUpTo s l.left l.run;
   are : All IsCall l.left;
-  all_named : AreNamed l.run.state l.run.names;
+  all_named : AdmittedHaveNames l.run.state l.run.names;
   silent : l.run.log.wanted ≡ false;
   unknown : GivesParams l.run.given no_params;
   early : l.run.state.time + length l.left * 60000000 ≤ 2 ^ 42;

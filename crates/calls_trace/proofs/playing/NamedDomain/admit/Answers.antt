@@ -1,8 +1,8 @@
 use Rattle.std.proofs.Common.{◌≡◌, ℕ, List, ◌∙◌, ap, sym, subst}
-use Rattle.switch_text.specs.Names.{named}
+use Rattle.switch_text.specs.Names.{name_of_task}
 use Rattle.domain_run.specs.Domain.{Domain}
 use Rattle.calls_trace.specs.Replay.{with_name}
-use Rattle.calls_trace.specs.private.Replaying.{AreNamed}
+use Rattle.calls_trace.specs.private.Replaying.{AdmittedHaveNames}
 use Rattle.calls_trace.proofs.Naming.{named_step}
 use Rattle.calls_trace.proofs.playing.NamedDomain.admit.Goals as goal
 
@@ -12,5 +12,5 @@ returns-in-Ok-clause-called c =
     let d = a.self.now.domain in
     let was = a.self.now.names in
     let is = c.put.new.self.names in
-    let each : (n : ℕ) → named is n ≡ with_name (named was) a.number a.name n = λ n. c.put.ensures.names n ∙ ap (λ (t : List ℕ). with_name (named was) a.number t n) c.requires.text in
-    subst (λ (x : Domain). AreNamed x is) (sym (c.put.ensures.domain ∙ c.in-Ok.ensures.domain)) (named_step d was is a.number a.name a.params a.delay c.lay_out_if_admitted.new.script c.in-Ok.ensures.admitted c.requires.called c.as_str.ensures.name each)
+    let each : (n : ℕ) → name_of_task is n ≡ with_name (name_of_task was) a.number a.name n = λ n. c.put.ensures.names n ∙ ap (λ (t : List ℕ). with_name (name_of_task was) a.number t n) c.requires.text in
+    subst (λ (x : Domain). AdmittedHaveNames x is) (sym (c.put.ensures.domain ∙ c.in-Ok.ensures.domain)) (named_step d was is a.number a.name a.params a.delay c.lay_out_if_admitted.new.script c.in-Ok.ensures.admitted c.requires.called c.as_str.ensures.name each)

@@ -2,7 +2,7 @@ use Rattle.std.proofs.Common.{◌≡◌, ℕ, ◌+◌, ◌-◌, List, ap, subst,
 use Rattle.domain_run.specs.Domain.{Domain}
 use Rattle.domain_run.specs.Sound.{IsAdmitted}
 use Rattle.domain_run.proofs.CallerLemmas.{ticks_time}
-use Rattle.switch_text.specs.Names.{named}
+use Rattle.switch_text.specs.Names.{name_of_task}
 use Rattle.calls_trace.proofs.Naming.{ticks_used}
 use Rattle.calls_trace.proofs.Pieces.{end_advanced, names_on}
 use Rattle.calls_trace.proofs.playing.Playing.advance.Goals as goal
@@ -32,4 +32,4 @@ returns-clause-names c =
     let p = c.args.self.now in
     let made = c.advance-made.result in
     let sum : made + (p.left - made) ≡ p.left = omega (arith, c.advance-made.ensures.most) in
-    λ n. names_on p.run.domain c.advance-made.new.self made (p.left - made) p.left p.calls (named p.run.names) n c.advance-made.ensures.ticks sum
+    λ n. names_on p.run.domain c.advance-made.new.self made (p.left - made) p.left p.calls (name_of_task p.run.names) n c.advance-made.ensures.ticks sum

@@ -7,9 +7,9 @@ use Rattle.domain_run.specs.declared.call.Call.TheVariants.{Advance}
 use Rattle.indexmap.specs.IndexMap.{spare}
 use Rattle.domain_run.specs.Run.{after_calls}
 use Rattle.domain_run.specs.Tick.{ticks}
-use Rattle.switch_text.specs.Names.{named}
+use Rattle.switch_text.specs.Names.{name_of_task}
 use Rattle.calls_trace.specs.Replay.{names_of}
-use Rattle.calls_trace.specs.private.Calls.{IsReady}
+use Rattle.calls_trace.specs.private.Calls.{IsCallReady}
 use Rattle.calls_trace.specs.private.Kept.{room_of}
 use Rattle.calls_trace.proofs.Sections.{left_names}
 use Rattle.calls_trace.proofs.Ready.{call_left_time}
@@ -18,7 +18,7 @@ use Rattle.calls_trace.proofs.playing.Playing.begin.Goals as goal
 pub make-self-requires-clause-call : goal.make-self-requires-clause-call
 make-self-requires-clause-call c =
     let p = c.args.self.now in
-    All-head IsReady c.in-Some.call c.next.new.self (subst (All IsReady) c.in-Some.ensures.next p.kept)
+    All-head IsCallReady c.in-Some.call c.next.new.self (subst (All IsCallReady) c.in-Some.ensures.next p.kept)
 
 pub make-self-requires-clause-room : goal.make-self-requires-clause-room
 make-self-requires-clause-room c =
@@ -32,14 +32,14 @@ invariant_of-self c =
     let k = c.in-Some.call in
     let rest = c.next.new.self in
     let more : p.calls ≡ k ∷ rest = c.in-Some.ensures.next in
-    let all = subst (All IsReady) more p.kept in
+    let all = subst (All IsCallReady) more p.kept in
     let long = ap (λ (cs : List Call). length cs) more in
     let sum : sum_by room_of p.calls ≡ room_of k + sum_by room_of rest = ap (sum_by room_of) more ∙ sum_by-cons room_of k rest in
     let time = call_left_time p.run.domain c.make-self.new.self.domain k c.make-self.result c.make-self.ensures.domain in
-    let short = (All-head IsReady k rest all).short in
+    let short = (All-head IsCallReady k rest all).short in
     record {
       called = c.make-self.ensures.called;
-      kept = All-tail IsReady k rest all;
+      kept = All-tail IsCallReady k rest all;
       room = omega (arith, sum, c.make-self.ensures.room, p.room);
       early = omega (arith, long, time, short, p.early);
     }
@@ -48,9 +48,9 @@ pub returns-in-Some-clause-names : goal.returns-in-Some-clause-names
 returns-in-Some-clause-names c =
     let p = c.args.self.now in
     let d = p.run.domain in
-    let was = named p.run.names in
+    let was = name_of_task p.run.names in
     λ n.
-    left_names d (ticks c.make-self.result c.make-self.new.self.domain) c.in-Some.call c.next.new.self p.calls was (named c.make-self.new.self.names) (names_of d p.calls was)
+    left_names d (ticks c.make-self.result c.make-self.new.self.domain) c.in-Some.call c.next.new.self p.calls was (name_of_task c.make-self.new.self.names) (names_of d p.calls was)
     c.in-Some.ensures.next c.make-self.ensures.domain c.make-self.ensures.names (λ m. refl) n
     ∙ ap (λ (j : ℕ). names_of d (Advance j ∷ p.calls) was n) (sym c.requires)
 
@@ -65,7 +65,7 @@ pub returns-in-None-clause-names : goal.returns-in-None-clause-names
 returns-in-None-clause-names c =
     let p = c.args.self.now in
     let none = c.in-None.ensures.next in
-    λ n. ap (λ (cs : List Call). names_of p.run.domain (Advance p.left ∷ cs) (named p.run.names) n) (none.1 ∙ sym none.0)
+    λ n. ap (λ (cs : List Call). names_of p.run.domain (Advance p.left ∷ cs) (name_of_task p.run.names) n) (none.1 ∙ sym none.0)
 
 pub returns-in-None-clause-stopped : goal.returns-in-None-clause-stopped
 returns-in-None-clause-stopped c = λ stopped.
@@ -79,7 +79,7 @@ invariant_of-self-in-None c =
     let same : p.calls ≡ c.next.new.self = none.0 ∙ sym none.1 in
     record {
       called = p.called;
-      kept = subst (All IsReady) same p.kept;
+      kept = subst (All IsCallReady) same p.kept;
       room = subst (λ (cs : List Call). sum_by room_of cs ≤ spare p.run.names) same p.room;
       early = subst (λ (cs : List Call). p.run.domain.time + p.left + length cs * 60000000 ≤ 2 ^ 42) same p.early;
     }

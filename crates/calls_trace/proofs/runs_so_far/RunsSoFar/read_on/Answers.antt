@@ -1,6 +1,6 @@
 use Rattle.std.proofs.Common.{ℕ, Option, Ok, subst, arith}
 use Rattle.std.proofs.lemmas.Result.{err_from_is_err_and}
-use Rattle.calls_text.specs.Reader.{IsWithin, IsNextDomain, begun}
+use Rattle.calls_text.specs.Reader.{IsWithin, IsNextDomain, empty_section}
 use Rattle.calls_text.proofs.CallerLemmas.{section_within, whole_none}
 use Rattle.calls_trace.proofs.runs_so_far.RunsSoFar.read_on.Goals as goal
 
@@ -19,7 +19,7 @@ pub read-requires-clause-few : goal.read-requires-clause-few
 read-requires-clause-few c =
     let u = c.requires.under_way in
     let i = c.sections.invariant.so_far u.text u.so_far in
-    let w : IsWithin u.text i.done (begun c.in-Some.cpus c.in-Some.limit) c.next_domain.new.self = subst (λ (o : Option (ℕ × ℕ)). IsNextDomain u.text i.done c.next_domain.new.self (Ok o)) c.in-Some.is (c.in_ok-cpus.ensures.next u.text i.done i.behind) in
+    let w : IsWithin u.text i.done (empty_section c.in-Some.cpus c.in-Some.limit) c.next_domain.new.self = subst (λ (o : Option (ℕ × ℕ)). IsNextDomain u.text i.done c.next_domain.new.self (Ok o)) c.in-Some.is (c.in_ok-cpus.ensures.next u.text i.done i.behind) in
     omega (arith, i.placed.count, w.few)
 
 -- at most 8 sections, each of at most 64 CPUs
@@ -27,8 +27,8 @@ pub read-requires-clause-inside : goal.read-requires-clause-inside
 read-requires-clause-inside c =
     let u = c.requires.under_way in
     let i = c.sections.invariant.so_far u.text u.so_far in
-    let w : IsWithin u.text i.done (begun c.in-Some.cpus c.in-Some.limit) c.next_domain.new.self = subst (λ (o : Option (ℕ × ℕ)). IsNextDomain u.text i.done c.next_domain.new.self (Ok o)) c.in-Some.is (c.in_ok-cpus.ensures.next u.text i.done i.behind) in
-    let few = (section_within u.text i.done (begun c.in-Some.cpus c.in-Some.limit) c.next_domain.new.self w).most_cpus in
+    let w : IsWithin u.text i.done (empty_section c.in-Some.cpus c.in-Some.limit) c.next_domain.new.self = subst (λ (o : Option (ℕ × ℕ)). IsNextDomain u.text i.done c.next_domain.new.self (Ok o)) c.in-Some.is (c.in_ok-cpus.ensures.next u.text i.done i.behind) in
+    let few = (section_within u.text i.done (empty_section c.in-Some.cpus c.in-Some.limit) c.next_domain.new.self w).most_cpus in
     omega (arith, i.placed.inside, few, w.few)
 
 pub sections-preserved : goal.sections-preserved

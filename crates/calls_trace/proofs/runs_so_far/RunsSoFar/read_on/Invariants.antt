@@ -1,5 +1,5 @@
 use Rattle.std.proofs.Common.{ℕ, List}
-use Rattle.calls_text.specs.Reader.{left}
+use Rattle.calls_text.specs.Reader.{bytes_left}
 use Rattle.calls_trace.specs.private.ReadRuns.{ArePlacedSoFar}
 use Rattle.calls_trace.proofs.runs_so_far.RunsSoFar.read_on.Given as goal
 
@@ -9,4 +9,4 @@ invariant-sections l = record {
 }
 
 abbrev pub decreases-sections : goal.decreases-sections
-decreases-sections l = left l.reader
+decreases-sections l = bytes_left l.reader

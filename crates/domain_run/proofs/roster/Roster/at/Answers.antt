@@ -1,7 +1,7 @@
 use Rattle.std.proofs.Common.{◌≡◌, ◌<◌, None, length, get_or, sym, subst}
 use Rattle.domain_run.specs.declared.task.Task.{Task}
 use Rattle.domain_run.specs.private.Roster.{RosterView}
-use Rattle.domain_run.specs.private.Waiting.{seat_of}
+use Rattle.domain_run.specs.private.Waiting.{seat_of_task}
 use Rattle.domain_run.proofs.Bare.{inside_seen, bare_at, home_seen}
 use Rattle.domain_run.proofs.roster.Roster.at.Goals as goal
 
@@ -11,7 +11,7 @@ returns-clause-task c d =
     let x = c.at.result.now in
     let p = c.args.place in
     let h = inside_seen s.seats.upto s.seats.seats s.tasks p (subst (λ (r : RosterView). p < length r.tasks) (sym c.self.view_is) c.requires.there) in
-    let free = subst (λ (r : RosterView). (e : Task) → seat_of r.seats (get_or r.tasks p e) ≡ None) (sym c.self.view_is) c.requires.free in
+    let free = subst (λ (r : RosterView). (e : Task) → seat_of_task r.seats (get_or r.tasks p e) ≡ None) (sym c.self.view_is) c.requires.free in
     subst (λ (r : RosterView). x ≡ get_or r.tasks p d) c.self.view_is (bare_at s.seats.upto s.seats.seats s.tasks p x h c.at.ensures free d)
 
 pub returns-clause-home : goal.returns-clause-home

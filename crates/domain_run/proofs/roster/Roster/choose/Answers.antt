@@ -6,9 +6,9 @@ use Rattle.edf_pick.specs.Moves.{moved_from}
 use Rattle.edf_pick.specs.Places.{placed}
 use Rattle.domain_run.specs.declared.run_queue.RunQueue.{RunQueue}
 use Rattle.domain_run.specs.Parts.{with_last_cpu}
-use Rattle.domain_run.specs.Sound.{IsApart}
+use Rattle.domain_run.specs.Sound.{HasNoTaskTwice}
 use Rattle.domain_run.specs.Tick.{candidates}
-use Rattle.domain_run.specs.private.Choosing.{AreWithin, homed_by}
+use Rattle.domain_run.specs.private.Choosing.{AreWithin, task_homed_by}
 use Rattle.domain_run.specs.private.Doubts.{AreSettled}
 use Rattle.domain_run.specs.private.Roster.{RosterView}
 use Rattle.domain_run.specs.private.RunQueue.{IsCounted}
@@ -21,8 +21,8 @@ use Rattle.domain_run.proofs.Seating.{IsSeating}
 use Rattle.domain_run.proofs.roster.Roster.choose.Goals as goal
 use Rattle.domain_run.proofs.roster.Roster.choose.Goals.{After-home_all}
 
-stood : (c : After-home_all) → IsApart c.self.inside.queue.schedule.places
-stood c = subst (λ (r : RosterView). IsApart r.places) (sym c.self.view_is) c.requires.apart
+stood : (c : After-home_all) → HasNoTaskTwice c.self.inside.queue.schedule.places
+stood c = subst (λ (r : RosterView). HasNoTaskTwice r.places) (sym c.self.view_is) c.requires.apart
 
 -- who stands is placed
 seating : (c : After-home_all) → IsSeating (candidates (owed_all c.self.inside.seats c.self.inside.tasks)) (length c.self.inside.queue.schedule.places) c.pick.new.self.places
@@ -51,7 +51,7 @@ homes c =
     let after = c.pick.new.self.places in
     let tasks = owed_all s.seats s.tasks in
     c.home_all.ensures.tasks
-    ∙ ap (λ (ms : List Moved). map (homed_by after ms) tasks) c.pick.ensures.moves
+    ∙ ap (λ (ms : List Moved). map (task_homed_by after ms) tasks) c.pick.ensures.moves
     ∙ homed_moves before after tasks (seating c).wide (stood c).once (seating c).apart.once c.self.invariant.counted.homed
 
 pub invariant_of-self : goal.invariant_of-self

@@ -6,9 +6,9 @@ use Rattle.edf_pick.specs.Places.{placed}
 use Rattle.edf_pick.proofs.CallerLemmas.{moved_length}
 use Rattle.domain_run.specs.declared.run_queue.RunQueue.{RunQueue}
 use Rattle.domain_run.specs.Parts.{with_last_cpu}
-use Rattle.domain_run.specs.Sound.{IsApart}
+use Rattle.domain_run.specs.Sound.{HasNoTaskTwice}
 use Rattle.domain_run.specs.Tick.{candidates, sum_of}
-use Rattle.domain_run.specs.private.Choosing.{AreWithin, homed_by, switch_of}
+use Rattle.domain_run.specs.private.Choosing.{AreWithin, task_homed_by, switch_made}
 use Rattle.domain_run.specs.private.Doubts.{IsTrusted, AreSettled, AreSettledBut}
 use Rattle.domain_run.specs.private.Roster.{RosterView}
 use Rattle.domain_run.specs.private.RunQueue.{IsCounted}
@@ -22,8 +22,8 @@ use Rattle.domain_run.proofs.Starting.{may_stand}
 use Rattle.domain_run.proofs.roster.Roster.choose_seated.Goals as goal
 use Rattle.domain_run.proofs.roster.Roster.choose_seated.Goals.{After-pick, After-seat_moved}
 
-stood : (c : After-pick) → IsApart c.self.inside.queue.schedule.places
-stood c = subst (λ (r : RosterView). IsApart r.places) (sym c.self.view_is) c.requires.apart
+stood : (c : After-pick) → HasNoTaskTwice c.self.inside.queue.schedule.places
+stood c = subst (λ (r : RosterView). HasNoTaskTwice r.places) (sym c.self.view_is) c.requires.apart
 
 -- who stands is placed
 seating : (c : After-pick) → IsSeating (candidates (owed_all c.self.inside.seats c.self.inside.tasks)) (length c.self.inside.queue.schedule.places) c.pick.new.self.places
@@ -78,8 +78,8 @@ seat_moved-requires-clause-spare c =
     let len : length before ≡ length c.args.self.now.places = ap (λ (r : RosterView). length r.places) c.self.view_is in
     omega (arith, c.requires.spare, len, ap (λ (ms : List Moved). length ms) c.pick.ensures.moves, moved_length 0 before after)
 
-stood_still : (c : After-seat_moved) → IsApart c.self.inside.queue.schedule.places
-stood_still c = subst (λ (r : RosterView). IsApart r.places) (sym c.self.view_is) c.requires.apart
+stood_still : (c : After-seat_moved) → HasNoTaskTwice c.self.inside.queue.schedule.places
+stood_still c = subst (λ (r : RosterView). HasNoTaskTwice r.places) (sym c.self.view_is) c.requires.apart
 
 seated : (c : After-seat_moved) → IsSeating (candidates (owed_all c.self.inside.seats c.self.inside.tasks)) (length c.self.inside.queue.schedule.places) c.pick.new.self.places
 seated c =
@@ -94,7 +94,7 @@ homes c =
     let after = c.pick.new.self.places in
     let tasks = owed_all s.seats s.tasks in
     c.seat_moved.ensures.tasks
-    ∙ ap (λ (ms : List Moved). map (homed_by after ms) tasks) c.pick.ensures.moves
+    ∙ ap (λ (ms : List Moved). map (task_homed_by after ms) tasks) c.pick.ensures.moves
     ∙ homed_moves before after tasks (seated c).wide (stood_still c).once (seated c).apart.once c.self.invariant.counted.homed
 
 pub invariant_of-self : goal.invariant_of-self
@@ -133,4 +133,4 @@ returns-clause-wide c =
 pub returns-clause-switches : goal.returns-clause-switches
 returns-clause-switches c =
     c.seat_moved.ensures.switches
-    ∙ ap (λ (r : RosterView). c.args.switches.now.items ++ map (switch_of c.args.moment.time r.tasks c.pick.new.self.places) c.pick.new.self.moves) c.self.view_is
+    ∙ ap (λ (r : RosterView). c.args.switches.now.items ++ map (switch_made c.args.moment.time r.tasks c.pick.new.self.places) c.pick.new.self.moves) c.self.view_is

@@ -1,6 +1,6 @@
 use Rattle.std.proofs.Common.{◌<◌, length, eqb, sym, subst}
 use Rattle.std.specs.Prelude.{find}
-use Rattle.domain_run.specs.private.Index.{IsAt}
+use Rattle.domain_run.specs.private.Index.{IsListedAt}
 use Rattle.domain_run.specs.private.Roster.{RosterView, IsSeenAs}
 use Rattle.domain_run.proofs.Bare.{inside_seen}
 use Rattle.domain_run.proofs.Finding.{find_absent}
@@ -14,7 +14,7 @@ pub returns-in-Some-clause-there : goal.returns-in-Some-clause-there
 returns-in-Some-clause-there c =
     let s = c.self.inside in
     let x = c.at.result.now in
-    let at = subst (λ (r : RosterView). IsAt r.tasks c.args.number c.in-Some.place) (sym c.self.view_is) c.in-Some.ensures.there in
+    let at = subst (λ (r : RosterView). IsListedAt r.tasks c.args.number c.in-Some.place) (sym c.self.view_is) c.in-Some.ensures.there in
     subst (λ (r : RosterView). IsSeenAs x (find (λ t. eqb t.number c.args.number) r.tasks)) c.self.view_is
     (seen_owed s.seats.upto s.seats.seats x _ (found_owed s.seats.upto s.seats.seats s.tasks c.args.number c.in-Some.place x c.self.invariant.counted.roster.numbered at c.at.ensures))
 

@@ -7,12 +7,12 @@ use Rattle.std.proofs.lemmas.List.{get_or_default}
 use Rattle.std.proofs.lemmas.Grind.{common_steps}
 use Rattle.domain_run.specs.declared.task.Task.{Task}
 use Rattle.domain_run.specs.private.Paying.{ran_until}
-use Rattle.domain_run.specs.private.Roster.{RosterView, MayRun, bared}
+use Rattle.domain_run.specs.private.Roster.{RosterView, MayRun, without_zero_lag}
 use Rattle.domain_run.specs.private.Dozing.{with_lags, passed_bare, IsBare}
 use Rattle.domain_run.specs.Conditions.{is_contending}
 use Rattle.std.proofs.lemmas.List.Elements.{All-set}
 use Rattle.domain_run.proofs.Aside.{orphan_bare, orphan_lags, finished_bare, finished_lags}
-use Rattle.domain_run.specs.private.Waiting.{passed}
+use Rattle.domain_run.specs.private.Waiting.{time_passed}
 use Rattle.domain_run.proofs.Paying.{same_ran_until, is_Ready}
 use Rattle.domain_run.proofs.Seatings.{none_at}
 use Rattle.domain_run.proofs.Later.{facts_of, times_one}
@@ -31,7 +31,7 @@ returns-in_default-at-clause-lags c past order =
     let old = c.args.self.now in
     let seat = c.in-Some.seat in
     let sits : get_or old.seats c.args.cpu None ≡ Some seat = ap (λ (r : RosterView). get_or r.seats c.args.cpu None) (sym c.self.view_is) ∙ sym c.in-Some.ensures.seat in
-    ap (λ (r : RosterView). map (passed c.args.time c.args.ticks r.seats) (with_lags past c.args.lags.now r.tasks)) c.vacate.ensures
+    ap (λ (r : RosterView). map (time_passed c.args.time c.args.ticks r.seats) (with_lags past c.args.lags.now r.tasks)) c.vacate.ensures
     ∙ orphan_lags c.args.time c.args.ticks c.args.cpu old.seats old.tasks seat sits past c.args.lags.now c.in_default-at.ensures.absent
 
 pub used_in-requires-clause-high : goal.used_in-requires-clause-high
@@ -102,7 +102,7 @@ pub record IsFinished (c : goal.After-turn_charged) : Type 0 where
   pub contends : is_contending c.at.result.now.condition ≡ true
   pub numbered : AllPairs (λ a b. a.number ≢ b.number) c.args.self.now.tasks
   pub seats : c.turn_charged.new.self.seats ≡ set c.args.self.now.seats c.args.cpu None
-  pub tasks : c.turn_charged.new.self.tasks ≡ set c.args.self.now.tasks c.in-Some-at.place (bared (ran_until c.args.time c.args.ticks (c.at.result.now.server.left -ℤ pos (c.in-Some.seat.rate * c.args.ticks)) c.at.result.now))
+  pub tasks : c.turn_charged.new.self.tasks ≡ set c.args.self.now.tasks c.in-Some-at.place (without_zero_lag (ran_until c.args.time c.args.ticks (c.at.result.now.server.left -ℤ pos (c.in-Some.seat.rate * c.args.ticks)) c.at.result.now))
   pub aside : c.turn_charged.result ≡ (ran_until c.args.time c.args.ticks (c.at.result.now.server.left -ℤ pos (c.in-Some.seat.rate * c.args.ticks)) c.at.result.now).zero_lag
 
 finished : (c : goal.After-turn_charged) → IsFinished c
@@ -120,7 +120,7 @@ finished c =
     let x = c.at.result.now in
     let p = c.in-Some-at.place in
     let k = c.args.ticks in
-    let y : ℤ → Task = λ z. bared (ran_until c.args.time k z x) in
+    let y : ℤ → Task = λ z. without_zero_lag (ran_until c.args.time k z x) in
     let is : get_or mid.tasks p x ≡ x = sym (f.read ∙ ap (λ (r : RosterView). get_or r.tasks p x) (sym c.vacate_at.ensures)) in
     record {
       sits = f.sits;
@@ -130,7 +130,7 @@ finished c =
       contends = ap is_contending (is_Ready x.condition f.fin.lasts.ready);
       numbered = subst (λ (r : RosterView). AllPairs (λ a b. a.number ≢ b.number) r.tasks) c.self.view_is c.self.invariant.counted.roster.numbered;
       seats = c.turn_charged.ensures.seats ∙ ap (λ (r : RosterView). r.seats) c.vacate_at.ensures;
-      tasks = c.turn_charged.ensures.step.is x ∙ ap (λ (t : Task). set mid.tasks p (bared (ran_until c.args.time k (to_z w128 (of_z w128 new)) t))) is ∙ ap (λ (r : RosterView). set r.tasks p (y (to_z w128 (of_z w128 new)))) c.vacate_at.ensures ∙ ap (λ (z : ℤ). set c.args.self.now.tasks p (y z)) left_is;
+      tasks = c.turn_charged.ensures.step.is x ∙ ap (λ (t : Task). set mid.tasks p (without_zero_lag (ran_until c.args.time k (to_z w128 (of_z w128 new)) t))) is ∙ ap (λ (r : RosterView). set r.tasks p (y (to_z w128 (of_z w128 new)))) c.vacate_at.ensures ∙ ap (λ (z : ℤ). set c.args.self.now.tasks p (y z)) left_is;
       aside = c.turn_charged.ensures.aside x ∙ ap (λ (t : Task). (ran_until c.args.time k (to_z w128 (of_z w128 new)) t).zero_lag) is ∙ ap (λ (z : ℤ). (ran_until c.args.time k z x).zero_lag) left_is;
     }
 
@@ -153,7 +153,7 @@ returns-clause-lags c past order =
     let p = c.in-Some-at.place in
     let z = x.server.left -ℤ pos (c.in-Some.seat.rate * k) in
     let bare : x.zero_lag ≡ None = ap (λ (t : Task). t.zero_lag) f.read ∙ (c.requires.bare p x c.in-Some-at.ensures.there.within).lag in
-    (λ i. map (passed c.args.time k (f.seats i)) (with_lags past (set c.args.lags.now p (f.aside i)) (f.tasks i)))
+    (λ i. map (time_passed c.args.time k (f.seats i)) (with_lags past (set c.args.lags.now p (f.aside i)) (f.tasks i)))
     ∙ finished_lags c.args.time k c.args.cpu old.seats old.tasks c.in-Some.seat f.sits p x c.in-Some-at.ensures.there.within f.read f.number f.home f.numbered past c.args.lags.now (ran_until c.args.time k z x) order (omega (arith, c.in-Some-at.ensures.there.within, c.self.invariant.counted.roster.few, ap (λ (r : RosterView). length r.tasks) c.self.view_is)) bare f.contends (same_ran_until c.args.time k z x).cpu refl
 
 pub returns-clause-bare : goal.returns-clause-bare
@@ -164,7 +164,7 @@ returns-clause-bare c =
     let p = c.in-Some-at.place in
     let z = x.server.left -ℤ pos (c.in-Some.seat.rate * k) in
     let fixed : x.params.reclaim ≡ false = ap (λ (t : Task). t.params.reclaim) f.read ∙ (c.requires.bare p x c.in-Some-at.ensures.there.within).fixed in
-    subst (λ ts. All IsBare ts) (sym f.tasks) (All-set IsBare c.args.self.now.tasks p (bared (ran_until c.args.time k z x)) (record { lag = refl; fixed = ap (λ q. q.reclaim) (same_ran_until c.args.time k z x).params ∙ fixed }) c.requires.bare)
+    subst (λ ts. All IsBare ts) (sym f.tasks) (All-set IsBare c.args.self.now.tasks p (without_zero_lag (ran_until c.args.time k z x)) (record { lag = refl; fixed = ap (λ q. q.reclaim) (same_ran_until c.args.time k z x).params ∙ fixed }) c.requires.bare)
 
 pub returns-in_default-clause-cpus : goal.returns-in_default-clause-cpus
 returns-in_default-clause-cpus c = grind (arith, common_steps)

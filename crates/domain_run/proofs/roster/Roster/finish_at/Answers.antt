@@ -8,7 +8,7 @@ use Rattle.std.proofs.lemmas.Grind.{common_steps}
 use Rattle.domain_run.specs.declared.task.Task.{Task}
 use Rattle.domain_run.specs.private.Paying.{ran_until}
 use Rattle.domain_run.specs.private.Roster.{RosterView, MayRun}
-use Rattle.domain_run.specs.private.Waiting.{passed}
+use Rattle.domain_run.specs.private.Waiting.{time_passed}
 use Rattle.domain_run.proofs.Paying.{same_ran_until}
 use Rattle.domain_run.proofs.Seatings.{none_at}
 use Rattle.domain_run.proofs.Later.{facts_of, times_one, orphan_passes, finished_passes}
@@ -19,7 +19,7 @@ returns-in_default-at-clause-tasks c =
     let old = c.args.self.now in
     let seat = c.in-Some.seat in
     let sits : get_or old.seats c.args.cpu None ≡ Some seat = ap (λ (r : RosterView). get_or r.seats c.args.cpu None) (sym c.self.view_is) ∙ sym c.in-Some.ensures.seat in
-    ap (λ (r : RosterView). map (passed c.args.time c.args.ticks r.seats) r.tasks) c.vacate.ensures
+    ap (λ (r : RosterView). map (time_passed c.args.time c.args.ticks r.seats) r.tasks) c.vacate.ensures
     ∙ orphan_passes c.args.time c.args.ticks c.args.cpu old.seats old.tasks seat sits c.in_default-at.ensures.absent
 
 pub used_in-requires-clause-high : goal.used_in-requires-clause-high
@@ -102,7 +102,7 @@ returns-clause-tasks c =
     let is : get_or mid.tasks p x ≡ x = sym (f.read ∙ ap (λ (r : RosterView). get_or r.tasks p x) (sym c.vacate_at.ensures)) in
     let seats : c.turn_charged.new.self.seats ≡ set old.seats c.args.cpu None = c.turn_charged.ensures.seats ∙ ap (λ (r : RosterView). r.seats) c.vacate_at.ensures in
     let tasks : c.turn_charged.new.self.tasks ≡ set old.tasks p y = c.turn_charged.ensures.step.is x ∙ ap (λ (t : Task). set mid.tasks p (ran_until c.args.time k z t)) is ∙ ap (λ (r : RosterView). set r.tasks p y) c.vacate_at.ensures in
-    (λ i. map (passed c.args.time k (seats i)) (tasks i))
+    (λ i. map (time_passed c.args.time k (seats i)) (tasks i))
     ∙ finished_passes c.args.time k c.args.cpu old.seats old.tasks c.in-Some.seat f.sits p x y c.in-Some-at.ensures.there.within f.read f.number f.home (same_ran_until c.args.time k z x).cpu
     (subst (λ (r : RosterView). AllPairs (λ a b. a.number ≢ b.number) r.tasks) c.self.view_is c.self.invariant.counted.roster.numbered)
     (ap (λ (w : ℤ). ran_until c.args.time k w x) left_is)

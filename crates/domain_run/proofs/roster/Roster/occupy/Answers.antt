@@ -6,7 +6,7 @@ use Rattle.domain_run.specs.declared.task.Task.{Task}
 use Rattle.domain_run.specs.Tick.{sum_of}
 use Rattle.domain_run.specs.private.Doubts.{IsSettled, IsTrusted, AreSettled}
 use Rattle.domain_run.specs.private.Roster.{RosterView, rate_in, basis_in}
-use Rattle.domain_run.specs.private.Waiting.{owed_all, seat_of, MaySit, IsRight}
+use Rattle.domain_run.specs.private.Waiting.{owed_all, seat_of_task, MaySit, IsRight}
 use Rattle.domain_run.proofs.Bare.{inside_seen}
 use Rattle.domain_run.proofs.Doubting.{settled_right}
 use Rattle.domain_run.proofs.Seatings.{kept_again}
@@ -115,5 +115,5 @@ returns-clause-right c =
     (subst (λ (n : Option ℕ). IsSettled n (basis_in w limit (owed_all s.seats items) cpu) (get_or v.seats cpu None)) (stands a)
     ((e.sits x))) in
     let all = settled_right w limit v.upto cpu o v.seats items mine (e.waits) in
-    let moved = subst (λ (ts : List Task). All (λ t. t.cpu ≡ cpu → IsRight o t.number (rate_in w limit ts t) (seat_of v.seats t)) now) (seen a) all in
-    subst (λ (r : RosterView). All (λ t. t.cpu ≡ cpu → IsRight (get_or r.places cpu None) t.number (rate_in r.cpus limit r.tasks t) (seat_of v.seats t)) now) c.self.view_is moved
+    let moved = subst (λ (ts : List Task). All (λ t. t.cpu ≡ cpu → IsRight o t.number (rate_in w limit ts t) (seat_of_task v.seats t)) now) (seen a) all in
+    subst (λ (r : RosterView). All (λ t. t.cpu ≡ cpu → IsRight (get_or r.places cpu None) t.number (rate_in r.cpus limit r.tasks t) (seat_of_task v.seats t)) now) c.self.view_is moved

@@ -8,7 +8,7 @@ use Rattle.domain_run.specs.Sound.{IsSound}
 use Rattle.domain_run.specs.private.Roster.{RosterView}
 use Rattle.due_times.specs.Seats.{SeatsView, IsAhead, end_of}
 use Rattle.due_times.specs.Timers.{AreLater}
-use Rattle.domain_run.specs.private.Waiting.{owed, owed_all, seat_of, AllWait, passed}
+use Rattle.domain_run.specs.private.Waiting.{owed, owed_all, seat_of_task, AllWait, time_passed}
 use Rattle.domain_run.proofs.Waiting.{alike_owed, counted_like, counted_unlike}
 use Rattle.domain_run.proofs.Later.{later_next, ends_next, strict_ends, pass_view, pass_sound}
 use Rattle.domain_run.proofs.Doubting.{clock_settled}
@@ -40,7 +40,7 @@ loop-cpu-preserved c =
     }
 
 -- no seat ends up to then
-strict : (c : goal.After-pass) → (t : Task) → IfSome (seat_of c.self-2.inside.seats.seats t) (λ s. IsAhead c.self-2.inside.seats.upto s × (c.self-2.inside.seats.upto + c.args.ticks < s.end))
+strict : (c : goal.After-pass) → (t : Task) → IfSome (seat_of_task c.self-2.inside.seats.seats t) (λ s. IsAhead c.self-2.inside.seats.upto s × (c.self-2.inside.seats.upto + c.args.ticks < s.end))
 strict c =
     let l = c.loop-cpu in
     let s = c.self-2.inside in
@@ -60,7 +60,7 @@ returns-clause-tasks c =
     let k = c.args.ticks in
     ap (λ (v : SeatsView). owed_all v s.tasks) c.pass.ensures.passed
     ∙ pass_view s.seats.upto c.args.time k s.seats.seats s.tasks (strict c) c.self-2.invariant.waits
-    ∙ ap (λ (r : RosterView). map (passed c.args.time k r.seats) r.tasks) c.self-2.view_is
+    ∙ ap (λ (r : RosterView). map (time_passed c.args.time k r.seats) r.tasks) c.self-2.view_is
     ∙ l.invariant.left
 
 pub invariant_of-self : goal.invariant_of-self

@@ -3,7 +3,7 @@ use Rattle.std.specs.Prelude.{IfSome}
 use Rattle.domain_run.specs.Sound.{IsSound}
 use Rattle.due_times.specs.Seats.{end_of}
 use Rattle.due_times.specs.Timers.{AreLater}
-use Rattle.domain_run.specs.private.Waiting.{passed}
+use Rattle.domain_run.specs.private.Waiting.{time_passed}
 use Rattle.domain_run.proofs.roster.Roster.pass.Given as goal
 
 abbrev pub invariant-loop-cpu : goal.invariant-loop-cpu
@@ -16,7 +16,7 @@ invariant-loop-cpu l = record {
   long : length l.self.seats ≡ length l.fn.self.seats;
   later : AreLater (map end_of l.self.seats) l.end 0 l.cpu;
   ends : (cpu : ℕ) → IfSome (get_or l.self.seats cpu None) (λ s. l.fn.self.clock + l.ticks ≤ s.end);
-  left : map (passed l.time l.ticks l.self.seats) l.self.tasks ≡ map (passed l.time l.ticks l.fn.self.seats) l.fn.self.tasks;
+  left : map (time_passed l.time l.ticks l.self.seats) l.self.tasks ≡ map (time_passed l.time l.ticks l.fn.self.seats) l.fn.self.tasks;
   sound : All (IsSound l.time) l.self.tasks;
 }
 

@@ -3,7 +3,7 @@ use Rattle.std.specs.Prelude.{IfSome}
 use Rattle.domain_run.specs.Sound.{IsSound}
 use Rattle.due_times.specs.Seats.{end_of}
 use Rattle.due_times.specs.Timers.{AreLater}
-use Rattle.domain_run.specs.private.Waiting.{passed}
+use Rattle.domain_run.specs.private.Waiting.{time_passed}
 use Rattle.domain_run.specs.private.Dozing.{with_lags, passed_bare, IsBare}
 use Rattle.domain_run.proofs.roster.Roster.pass_aside.Given as goal
 
@@ -18,7 +18,7 @@ invariant-loop-cpu l = record {
   later : AreLater (map end_of l.self.seats) l.end 0 l.cpu;
   ends : (cpu : ℕ) → IfSome (get_or l.self.seats cpu None) (λ s. l.fn.self.clock + l.ticks ≤ s.end);
   left : map (passed_bare l.time l.ticks l.self.seats) l.self.tasks ≡ map (passed_bare l.time l.ticks l.fn.self.seats) l.fn.self.tasks;
-  lags : (past : ℕ) → past ≤ l.time → map (passed l.time l.ticks l.self.seats) (with_lags past l.lags l.self.tasks) ≡ map (passed l.time l.ticks l.fn.self.seats) (with_lags past l.fn.lags l.fn.self.tasks);
+  lags : (past : ℕ) → past ≤ l.time → map (time_passed l.time l.ticks l.self.seats) (with_lags past l.lags l.self.tasks) ≡ map (time_passed l.time l.ticks l.fn.self.seats) (with_lags past l.fn.lags l.fn.self.tasks);
   bare : All IsBare l.self.tasks;
   sound : All (IsSound l.time) l.self.tasks;
 }

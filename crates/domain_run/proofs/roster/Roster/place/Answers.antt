@@ -1,6 +1,6 @@
 use Rattle.std.proofs.Common.{subst}
 use Rattle.std.specs.Prelude.{IfSome, IfNone}
-use Rattle.domain_run.specs.private.Index.{IsAt, IsAbsent}
+use Rattle.domain_run.specs.private.Index.{IsListedAt, IsUnlisted}
 use Rattle.domain_run.specs.private.Roster.{RosterView}
 use Rattle.domain_run.specs.private.Waiting.{owed}
 use Rattle.domain_run.proofs.Waiting.{alike_owed, some_like, none_like}
@@ -10,12 +10,12 @@ pub returns-clause-there : goal.returns-clause-there
 returns-clause-there c =
     let s = c.self.inside in
     let o = c.place.result in
-    subst (λ (r : RosterView). IfSome o (IsAt r.tasks c.args.number)) c.self.view_is
+    subst (λ (r : RosterView). IfSome o (IsListedAt r.tasks c.args.number)) c.self.view_is
     (some_like (owed s.seats.upto s.seats.seats) (alike_owed s.seats.upto s.seats.seats) s.tasks c.args.number o (c.place.ensures.there))
 
 pub returns-clause-absent : goal.returns-clause-absent
 returns-clause-absent c =
     let s = c.self.inside in
     let o = c.place.result in
-    subst (λ (r : RosterView). IfNone o (IsAbsent r.tasks c.args.number)) c.self.view_is
+    subst (λ (r : RosterView). IfNone o (IsUnlisted r.tasks c.args.number)) c.self.view_is
     (none_like (owed s.seats.upto s.seats.seats) (alike_owed s.seats.upto s.seats.seats) s.tasks c.args.number o (c.place.ensures.absent))

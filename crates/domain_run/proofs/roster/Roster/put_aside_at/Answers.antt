@@ -2,7 +2,7 @@ use Rattle.std.proofs.Common.{◌≡◌, ℕ, ◌<◌, ◌∙◌, false, Option,
 use Rattle.std.specs.Prelude.{is_some}
 use Rattle.domain_run.specs.declared.task.Task.{Task}
 use Rattle.std.proofs.lemmas.Grind.{common_steps}
-use Rattle.domain_run.specs.private.Roster.{RosterView, bared}
+use Rattle.domain_run.specs.private.Roster.{RosterView, without_zero_lag}
 use Rattle.domain_run.proofs.Due.{step_none}
 use Rattle.domain_run.proofs.Dozing.{seen_alike}
 use Rattle.domain_run.proofs.roster.Roster.put_aside_at.Goals as goal
@@ -61,7 +61,7 @@ returns-else-is_some-clause-lag c d =
 pub at-requires : goal.at-requires
 at-requires c = grind (arith, common_steps)
 
-bared_none : (t : Task) → t.zero_lag ≡ None → bared t ≡ t
+bared_none : (t : Task) → t.zero_lag ≡ None → without_zero_lag t ≡ t
 bared_none t e = ap (λ (o : Option ℕ). record t { zero_lag = o }) (sym e)
 
 none_is : (o : Option ℕ) → is_some o ≡ false → o ≡ None
@@ -76,5 +76,5 @@ returns-else-is_some-clause-step c =
     let old = c.args.self.now.tasks in
     let within = subst (λ (r : RosterView). p < length r.tasks) (sym c.self.view_is) c.requires.there in
     let none : x.zero_lag ≡ None = none_is x.zero_lag (sym c.is_some.ensures ∙ c.if-is_some.false) in
-    step_none old p bared (λ d.
+    step_none old p without_zero_lag (λ d.
     bared_none (get_or old p d) (subst (λ (r : RosterView). (get_or r.tasks p d).zero_lag ≡ None) c.self.view_is ((seen_alike s.seats s.tasks p x d within c.at.ensures).zero_lag ∙ none)))

@@ -2,7 +2,7 @@ use Rattle.std.proofs.Common.{◌≡◌, None, Some, get_or, sym, ap, subst, ◌
 use Rattle.std.specs.Prelude.{All}
 use Rattle.std.proofs.lemmas.Grind.{common_steps}
 use Rattle.domain_run.specs.private.Roster.{RosterView, rate_in}
-use Rattle.domain_run.specs.private.Waiting.{seat_of, IsRight}
+use Rattle.domain_run.specs.private.Waiting.{seat_of_task, IsRight}
 use Rattle.domain_run.proofs.roster.Roster.reseat.Goals as goal
 
 pub occupy-requires-clause-stands : goal.occupy-requires-clause-stands
@@ -15,8 +15,8 @@ returns-in-Some-clause-right c =
     let new = c.occupy.new.self in
     let cpu = c.args.cpu in
     let stands : get_or mid.places cpu None ≡ Some c.args.number = ap (λ (x : RosterView). get_or x.places cpu None) c.leave_free.ensures ∙ c.requires.stands in
-    subst (λ (r : RosterView). All (λ t. t.cpu ≡ cpu → IsRight (Some c.args.number) t.number (rate_in r.cpus c.args.limit r.tasks t) (seat_of new.seats t)) new.tasks) c.leave_free.ensures
-    (subst (λ o. All (λ t. t.cpu ≡ cpu → IsRight o t.number (rate_in mid.cpus c.args.limit mid.tasks t) (seat_of new.seats t)) new.tasks) stands c.occupy.ensures.right)
+    subst (λ (r : RosterView). All (λ t. t.cpu ≡ cpu → IsRight (Some c.args.number) t.number (rate_in r.cpus c.args.limit r.tasks t) (seat_of_task new.seats t)) new.tasks) c.leave_free.ensures
+    (subst (λ o. All (λ t. t.cpu ≡ cpu → IsRight o t.number (rate_in mid.cpus c.args.limit mid.tasks t) (seat_of_task new.seats t)) new.tasks) stands c.occupy.ensures.right)
 
 pub occupy-requires-clause-there : goal.occupy-requires-clause-there
 occupy-requires-clause-there c = grind (arith, common_steps)

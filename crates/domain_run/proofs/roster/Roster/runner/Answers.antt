@@ -6,7 +6,7 @@ use Rattle.std.proofs.lemmas.Grind.{common_steps}
 use Rattle.domain_run.specs.Tick.{shares}
 use Rattle.domain_run.specs.declared.task.Task.{Task}
 use Rattle.domain_run.specs.declared.running.Running.{Running}
-use Rattle.domain_run.specs.private.Index.{IsAt}
+use Rattle.domain_run.specs.private.Index.{IsListedAt}
 use Rattle.domain_run.specs.private.Roster.{RosterView, runner_in}
 use Rattle.domain_run.specs.private.Waiting.{owed, owed_all, runner_of}
 use Rattle.domain_run.proofs.Counting.{home_at}
@@ -29,7 +29,7 @@ pub returns-in-Some : goal.returns-in-Some
 returns-in-Some c =
     let s = c.self.inside in
     let x = c.at-task.result.now in
-    let at = subst (λ (r : RosterView). IsAt r.tasks c.args.number c.in-Some.place) (sym c.self.view_is) c.in-Some.ensures.there in
+    let at = subst (λ (r : RosterView). IsListedAt r.tasks c.args.number c.in-Some.place) (sym c.self.view_is) c.in-Some.ensures.there in
     let found = found_owed s.seats.upto s.seats.seats s.tasks c.args.number c.in-Some.place x c.self.invariant.counted.roster.numbered at c.at-task.ensures in
     let view : owed_all s.seats s.tasks ≡ c.args.self.now.tasks = ap (λ (r : RosterView). r.tasks) c.self.view_is in
     let y = owed s.seats.upto s.seats.seats x in

@@ -3,7 +3,7 @@ use Rattle.std.specs.Prelude.{All}
 use Rattle.std.proofs.lemmas.Grind.{common_steps}
 use Rattle.domain_run.specs.private.Doubts.{IsSettled}
 use Rattle.domain_run.specs.private.Roster.{RosterView, rate_in, basis_in}
-use Rattle.domain_run.specs.private.Waiting.{seat_of, IsRight}
+use Rattle.domain_run.specs.private.Waiting.{seat_of_task, IsRight}
 use Rattle.domain_run.proofs.Seatings.{none_at}
 use Rattle.domain_run.proofs.roster.Roster.seat_on.Goals as goal
 
@@ -21,9 +21,9 @@ returns-in-None-clause-right c =
     let v = c.leave_free.new.self in
     let cpu = c.args.cpu in
     let stands : get_or v.places cpu None ≡ c.args.occupant = ap (λ (x : RosterView). get_or x.places cpu None) c.leave_free.ensures ∙ c.requires.stands in
-    subst (λ (x : RosterView). All (λ t. t.cpu ≡ cpu → IsRight c.args.occupant t.number (rate_in old.cpus c.args.limit old.tasks t) (seat_of x.seats t)) x.tasks) (sym c.trust.ensures.roster)
-    (subst (λ (r : RosterView). All (λ t. t.cpu ≡ cpu → IsRight c.args.occupant t.number (rate_in r.cpus c.args.limit r.tasks t) (seat_of v.seats t)) v.tasks) c.leave_free.ensures
-    (subst (λ o. All (λ t. t.cpu ≡ cpu → IsRight o t.number (rate_in v.cpus c.args.limit v.tasks t) (seat_of v.seats t)) v.tasks) stands c.trust.ensures.right))
+    subst (λ (x : RosterView). All (λ t. t.cpu ≡ cpu → IsRight c.args.occupant t.number (rate_in old.cpus c.args.limit old.tasks t) (seat_of_task x.seats t)) x.tasks) (sym c.trust.ensures.roster)
+    (subst (λ (r : RosterView). All (λ t. t.cpu ≡ cpu → IsRight c.args.occupant t.number (rate_in r.cpus c.args.limit r.tasks t) (seat_of_task v.seats t)) v.tasks) c.leave_free.ensures
+    (subst (λ o. All (λ t. t.cpu ≡ cpu → IsRight o t.number (rate_in v.cpus c.args.limit v.tasks t) (seat_of_task v.seats t)) v.tasks) stands c.trust.ensures.right))
 
 pub trust-requires-clause-there : goal.trust-requires-clause-there
 trust-requires-clause-there c = grind (arith, common_steps)

@@ -3,7 +3,7 @@ use Rattle.std.specs.Prelude.{All}
 use Rattle.std.proofs.lemmas.Grind.{common_steps}
 use Rattle.domain_run.specs.private.Doubts.{IsSettled}
 use Rattle.domain_run.specs.private.Roster.{RosterView, basis_in, rate_in}
-use Rattle.domain_run.specs.private.Waiting.{IsRight, seat_of}
+use Rattle.domain_run.specs.private.Waiting.{IsRight, seat_of_task}
 use Rattle.domain_run.proofs.roster.Roster.seat_rightly.Goals as goal
 
 pub trust-requires-clause-settled : goal.trust-requires-clause-settled
@@ -15,7 +15,7 @@ pub returns-then-is_right-clause-right : goal.returns-then-is_right-clause-right
 returns-then-is_right-clause-right c =
     let r = c.args.self.now in
     let cpu = c.args.cpu in
-    subst (λ (x : RosterView). All (λ t. t.cpu ≡ cpu → IsRight (get_or r.places cpu None) t.number (rate_in r.cpus c.args.limit r.tasks t) (seat_of x.seats t)) x.tasks) (sym c.trust.ensures.roster) c.trust.ensures.right
+    subst (λ (x : RosterView). All (λ t. t.cpu ≡ cpu → IsRight (get_or r.places cpu None) t.number (rate_in r.cpus c.args.limit r.tasks t) (seat_of_task x.seats t)) x.tasks) (sym c.trust.ensures.roster) c.trust.ensures.right
 
 pub trust-requires-clause-there : goal.trust-requires-clause-there
 trust-requires-clause-there c = grind (arith, common_steps)

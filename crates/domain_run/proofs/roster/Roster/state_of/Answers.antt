@@ -1,5 +1,5 @@
 use Rattle.std.proofs.Common.{ap, ◌∙◌}
-use Rattle.domain_run.specs.Switches.{state_of}
+use Rattle.domain_run.specs.Switches.{prev_state_of}
 use Rattle.domain_run.specs.private.Roster.{RosterView}
 use Rattle.domain_run.specs.private.Waiting.{owed}
 use Rattle.domain_run.proofs.Starting.{state_stored}
@@ -19,4 +19,4 @@ returns c =
     let o = c.args.occupant in
     c.state_of.ensures
     ∙ state_stored s.seats.upto s.seats.seats s.tasks o
-    ∙ ap (λ (r : RosterView). state_of r.tasks o) c.self.view_is
+    ∙ ap (λ (r : RosterView). prev_state_of r.tasks o) c.self.view_is

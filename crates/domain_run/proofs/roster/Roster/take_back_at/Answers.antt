@@ -5,7 +5,7 @@ use Rattle.domain_run.specs.Conditions.{is_contending}
 use Rattle.domain_run.specs.declared.task.Task.{Task}
 use Rattle.domain_run.specs.private.Dozing.{with_lag}
 use Rattle.domain_run.specs.private.Roster.{RosterView}
-use Rattle.domain_run.specs.private.Timers.{IsStep}
+use Rattle.domain_run.specs.private.Timers.{IsTimerStep}
 use Rattle.domain_run.specs.private.Waiting.{owed_all}
 use Rattle.domain_run.proofs.Due.{step_none}
 use Rattle.domain_run.proofs.Dozing.{lag_gone, lag_kept, seen_alike, false_not, true_not}
@@ -24,7 +24,7 @@ returns-else-is_ahead-clause-step c =
     let still = step_none seen p (with_lag past c.args.lag) (λ d.
     ap (λ o. with_lag past o (get_or seen p d)) c.in-Some.is
     ∙ lag_gone past z (get_or seen p d) (ap (λ k. is_contending k || nat_le z past) (seen_alike s.seats s.tasks p raw d there c.at.ensures).condition ∙ gone)) in
-    subst (λ (r : RosterView). IsStep (with_lag past c.args.lag) p r.tasks r.tasks) c.self.view_is still
+    subst (λ (r : RosterView). IsTimerStep (with_lag past c.args.lag) p r.tasks r.tasks) c.self.view_is still
 
 pub returns-in_default-clause-cpus : goal.returns-in_default-clause-cpus
 returns-in_default-clause-cpus c = grind (arith, common_steps)

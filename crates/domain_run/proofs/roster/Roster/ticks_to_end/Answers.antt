@@ -1,7 +1,7 @@
 use Rattle.std.proofs.Common.{◌≤◌, ◌+◌, ℕ, None, get_or, subst, arith}
 use Rattle.std.specs.Prelude.{All, IfSome}
 use Rattle.domain_run.specs.private.Roster.{RosterView}
-use Rattle.domain_run.specs.private.Waiting.{seat_of, Lasts}
+use Rattle.domain_run.specs.private.Waiting.{seat_of_task, Lasts}
 use Rattle.domain_run.proofs.Later.{ends_from, both_ends, all_last}
 use Rattle.domain_run.proofs.roster.Roster.ticks_to_end.Goals as goal
 
@@ -15,6 +15,6 @@ pub returns-clause-lasts : goal.returns-clause-lasts
 returns-clause-lasts c =
     let s = c.self.inside in
     let ends = ends_from (s.seats.upto + c.min.result) s.seats.seats (omega (arith, c.first_end.ensures.end, c.first_end.ensures.ahead, c.upto.ensures.upto, c.min.ensures)) in
-    subst (λ (r : RosterView). All (λ t. IfSome (seat_of r.seats t) (λ s. Lasts c.min.result s.rate t)) r.tasks) c.self.view_is
+    subst (λ (r : RosterView). All (λ t. IfSome (seat_of_task r.seats t) (λ s. Lasts c.min.result s.rate t)) r.tasks) c.self.view_is
     (all_last s.seats.upto c.min.result s.seats.seats s.tasks (omega (arith, c.first_end.ensures.ahead, c.upto.ensures.upto, c.min.ensures, c.requires.some))
     (both_ends s.seats.upto (s.seats.upto + c.min.result) s.seats.seats c.first_end.ensures.seats ends) c.self.invariant.waits)

@@ -3,7 +3,7 @@ use Rattle.std.specs.Prelude.{All}
 use Rattle.domain_run.specs.Tick.{sum_of}
 use Rattle.domain_run.specs.private.Doubts.{IsSettled}
 use Rattle.domain_run.specs.private.Roster.{RosterView, basis_in, rate_in}
-use Rattle.domain_run.specs.private.Waiting.{owed_all, seat_of, IsRight}
+use Rattle.domain_run.specs.private.Waiting.{owed_all, seat_of_task, IsRight}
 use Rattle.domain_run.proofs.Doubting.{trust_settled, settled_right}
 use Rattle.domain_run.proofs.roster.Roster.trust.Goals as goal
 
@@ -31,7 +31,7 @@ returns-then-may_trust-clause-right c =
     let cpu = c.args.cpu in
     let limit = c.args.limit in
     let here = subst (λ (r : RosterView). IsSettled (get_or r.places cpu None) (basis_in r.cpus limit r.tasks cpu) (get_or r.seats cpu None)) (sym c.self.view_is) c.requires.settled in
-    subst (λ (v : RosterView). All (λ t. t.cpu ≡ cpu → IsRight (get_or v.places cpu None) t.number (rate_in v.cpus limit v.tasks t) (seat_of v.seats t)) v.tasks) c.self.view_is
+    subst (λ (v : RosterView). All (λ t. t.cpu ≡ cpu → IsRight (get_or v.places cpu None) t.number (rate_in v.cpus limit v.tasks t) (seat_of_task v.seats t)) v.tasks) c.self.view_is
     (settled_right (length s.queue.accounts.all) limit s.seats.upto cpu (get_or s.queue.schedule.places cpu None) s.seats.seats s.tasks here c.self.invariant.waits)
 
 pub returns-else-may_trust-clause-right : goal.returns-else-may_trust-clause-right
@@ -40,5 +40,5 @@ returns-else-may_trust-clause-right c =
     let cpu = c.args.cpu in
     let limit = c.args.limit in
     let here = subst (λ (r : RosterView). IsSettled (get_or r.places cpu None) (basis_in r.cpus limit r.tasks cpu) (get_or r.seats cpu None)) (sym c.self.view_is) c.requires.settled in
-    subst (λ (v : RosterView). All (λ t. t.cpu ≡ cpu → IsRight (get_or v.places cpu None) t.number (rate_in v.cpus limit v.tasks t) (seat_of v.seats t)) v.tasks) c.self.view_is
+    subst (λ (v : RosterView). All (λ t. t.cpu ≡ cpu → IsRight (get_or v.places cpu None) t.number (rate_in v.cpus limit v.tasks t) (seat_of_task v.seats t)) v.tasks) c.self.view_is
     (settled_right (length s.queue.accounts.all) limit s.seats.upto cpu (get_or s.queue.schedule.places cpu None) s.seats.seats s.tasks here c.self.invariant.waits)

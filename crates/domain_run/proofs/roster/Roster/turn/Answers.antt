@@ -6,9 +6,9 @@ use Rattle.domain_run.specs.declared.task.Task.{Task}
 use Rattle.edf_pick.specs.Places.{Places}
 use Rattle.domain_run.specs.private.Doubts.{AreSettled}
 use Rattle.domain_run.specs.private.RunQueue.{IsCounted}
-use Rattle.domain_run.specs.private.Roster.{RosterView, after_change, Fits}
+use Rattle.domain_run.specs.private.Roster.{RosterView, task_after, Fits}
 use Rattle.due_times.specs.Seats.{seat_by}
-use Rattle.domain_run.specs.private.Waiting.{seat_of, owed, owed_all}
+use Rattle.domain_run.specs.private.Waiting.{seat_of_task, owed, owed_all}
 use Rattle.domain_run.proofs.Doubting.{turn_settled, left_unseated, IsLeft}
 use Rattle.domain_run.proofs.Making.{place_fit}
 use Rattle.domain_run.proofs.Waiting.{alike_owed}
@@ -32,11 +32,11 @@ invariant_of-self c =
     let home : x.cpu ≡ raw.cpu = ap (λ (t : Task). t.cpu) seen ∙ alike.cpu ∙ sym (ap (λ (t : Task). t.cpu) c.at-2.ensures) in
     let named : x.number ≡ raw.number = ap (λ (t : Task). t.number) seen ∙ alike.number ∙ sym (ap (λ (t : Task). t.number) c.at-2.ensures) in
     let fit = place_fit w s.queue tasks p c.args.time c.args.change.now x inside (subst (λ (r : RosterView). Fits r.cpus c.args.change.now) (sym c.self.view_is) c.requires.fits) c.self.invariant.counted in
-    let stays : (after_change c.args.time c.args.change.now x).cpu ≡ x.cpu = ap (λ (t : Task). (after_change c.args.time c.args.change.now t).cpu) read ∙ fit.cpu ∙ ap (λ (t : Task). t.cpu) (sym read) in
-    let keeps : (after_change c.args.time c.args.change.now x).number ≡ x.number = ap (λ (t : Task). (after_change c.args.time c.args.change.now t).number) read ∙ fit.number ∙ ap (λ (t : Task). t.number) (sym read) in
+    let stays : (task_after c.args.time c.args.change.now x).cpu ≡ x.cpu = ap (λ (t : Task). (task_after c.args.time c.args.change.now t).cpu) read ∙ fit.cpu ∙ ap (λ (t : Task). t.cpu) (sym read) in
+    let keeps : (task_after c.args.time c.args.change.now x).number ≡ x.number = ap (λ (t : Task). (task_after c.args.time c.args.change.now t).number) read ∙ fit.number ∙ ap (λ (t : Task). t.number) (sym read) in
     let d = c.mark_left.new.self in
     let marks = c.mark_left.ensures in
-    let sat : c.turn_task-sat.result ≡ is_some (seat_of s.seats.seats raw) = e.sat raw ∙ ap (λ (t : Task). is_some (seat_of s.seats.seats t)) (sym c.at-2.ensures) in
+    let sat : c.turn_task-sat.result ≡ is_some (seat_of_task s.seats.seats raw) = e.sat raw ∙ ap (λ (t : Task). is_some (seat_of_task s.seats.seats t)) (sym c.at-2.ensures) in
     let left_it : IsLeft s.doubts.rated d.cpus raw.cpu raw.number s.seats.seats = left_unseated s.doubts.rated d.cpus raw.cpu raw.number s.seats.seats (seat_by raw.number (get_or s.seats.seats raw.cpu None)) c.turn_task-sat.result refl sat marks.sat marks.free in
     let queue = c.turn_task-sat.new.queue in
     let seats = c.turn_task-sat.new.seats in
@@ -47,7 +47,7 @@ invariant_of-self c =
       wide = e.wide ∙ c.self.invariant.wide ∙ sym e.counted.wide;
       settled = subst (λ (n : ℕ). AreSettled d n queue.schedule.places seats.seats (owed_all seats items)) (sym e.counted.wide)
           (subst (λ (ps : Places). AreSettled d w ps seats.seats (owed_all seats items)) (sym e.places)
-          (turn_settled s.doubts d w s.queue.schedule.places s.seats.seats seats.seats tasks (owed_all seats items) p raw.cpu raw.number (after_change c.args.time c.args.change.now) x inside read home named stays keeps
+          (turn_settled s.doubts d w s.queue.schedule.places s.seats.seats seats.seats tasks (owed_all seats items) p raw.cpu raw.number (task_after c.args.time c.args.change.now) x inside read home named stays keeps
           e.step e.seats left_it marks.bare marks.rated marks.sum marks.limit c.self.invariant.settled));
     }
 

@@ -6,11 +6,11 @@ use Rattle.domain_run.specs.declared.run_queue.RunQueue.{RunQueue}
 use Rattle.edf_pick.specs.Places.{Places}
 use Rattle.domain_run.specs.Sound.{IsSound}
 use Rattle.domain_run.specs.private.Doubts.{AreSettled}
-use Rattle.domain_run.specs.private.Roster.{RosterView, after_change, put_aside, MayMake, Fits}
+use Rattle.domain_run.specs.private.Roster.{RosterView, task_after, put_aside, MayMake, Fits}
 use Rattle.domain_run.specs.private.RunQueue.{IsCounted}
 use Rattle.due_times.specs.Seats.{SeatsView, seat_by}
-use Rattle.domain_run.specs.private.Timers.{IsStep}
-use Rattle.domain_run.specs.private.Waiting.{seat_of, owed_all}
+use Rattle.domain_run.specs.private.Timers.{IsTimerStep}
+use Rattle.domain_run.specs.private.Waiting.{seat_of_task, owed_all}
 use Rattle.domain_run.proofs.Bare.{inside_seen, bare_at, cpu_seen}
 use Rattle.domain_run.proofs.Seatings.{roster_view}
 use Rattle.domain_run.proofs.Turning.{sound_bare, may_bare, turns_bare, step_bare, sound_all_bare, counted_bare, waits_bare, settled_bare}
@@ -26,7 +26,7 @@ empty queue s items r p x view h read free =
     ∙ subst (λ (v : RosterView). get_or v.seats (get_or v.tasks p x).cpu None ≡ None) (sym view) (free x)
 
 -- so it sits nowhere
-unseated : (queue : RunQueue) (s : SeatsView) (items : List Task) (r : RosterView) (p : ℕ) (x : Task) → roster_view queue s items ≡ r → p < length items → x ≡ get_or items p x → ((d : Task) → get_or r.seats (get_or r.tasks p d).cpu None ≡ None) → seat_of s.seats x ≡ None
+unseated : (queue : RunQueue) (s : SeatsView) (items : List Task) (r : RosterView) (p : ℕ) (x : Task) → roster_view queue s items ≡ r → p < length items → x ≡ get_or items p x → ((d : Task) → get_or r.seats (get_or r.tasks p d).cpu None ≡ None) → seat_of_task s.seats x ≡ None
 unseated queue s items r p x view h read free = ap (seat_by x.number) (empty queue s items r p x view h read free)
 
 -- so it is seen as it is stored
@@ -115,7 +115,7 @@ returns-clause-step c =
     let none = unseated s.queue s.seats s.tasks c.args.self.now p x c.self.view_is h read c.requires.free in
     let y = c.turn_settled.new.task in
     let made = c.turn_settled.ensures.task in
-    subst (λ (r : RosterView). IsStep (after_change c.args.time c.args.change.now) p r.tasks (owed_all s.seats (set s.tasks p y))) c.self.view_is
+    subst (λ (r : RosterView). IsTimerStep (task_after c.args.time c.args.change.now) p r.tasks (owed_all s.seats (set s.tasks p y))) c.self.view_is
     (step_bare (length s.queue.accounts.all) c.args.time c.args.change.now s.queue s.seats s.tasks p x h read fits c.self.invariant.counted none c.turn_settled.new.queue y made)
 
 pub returns-clause-sound : goal.returns-clause-sound

@@ -1,5 +1,5 @@
 use Rattle.std.proofs.Common.{sym, ◌∙◌}
-use Rattle.domain_run.specs.private.Roster.{after_change}
+use Rattle.domain_run.specs.private.Roster.{task_after}
 use Rattle.domain_run.proofs.Due.{some_task}
 use Rattle.domain_run.proofs.Finding.{map_at, map_others}
 use Rattle.domain_run.proofs.roster.Roster.turn_number.Goals as goal
@@ -10,7 +10,7 @@ returns-in-Some-clause-tasks c =
     let p = c.in-Some.place in
     let at = c.in-Some.ensures.there in
     let d = some_task tasks p at.within in
-    c.turn.ensures.step.is d ∙ sym (map_at (after_change c.args.time c.args.change.now) c.args.number tasks p d c.place.ensures.numbered at)
+    c.turn.ensures.step.is d ∙ sym (map_at (task_after c.args.time c.args.change.now) c.args.number tasks p d c.place.ensures.numbered at)
 
 pub returns-in_default-clause-tasks : goal.returns-in_default-clause-tasks
-returns-in_default-clause-tasks c = sym (map_others (after_change c.args.time c.args.change.now) c.args.number c.args.self.now.tasks c.in_default.ensures.absent)
+returns-in_default-clause-tasks c = sym (map_others (task_after c.args.time c.args.change.now) c.args.number c.args.self.now.tasks c.in_default.ensures.absent)

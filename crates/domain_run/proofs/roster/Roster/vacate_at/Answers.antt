@@ -1,6 +1,6 @@
 use Rattle.std.proofs.Common.{◌≡◌, ◌<◌, Some, None, length, get_or, sym, ap, subst, ◌∙◌, arith}
 use Rattle.std.proofs.lemmas.List.{length-set}
-use Rattle.domain_run.specs.private.Index.{IsAt}
+use Rattle.domain_run.specs.private.Index.{IsListedAt}
 use Rattle.domain_run.specs.private.Roster.{RosterView}
 use Rattle.due_times.specs.Seats.{SeatsView, IsAhead}
 use Rattle.domain_run.specs.private.Waiting.{owed}
@@ -21,7 +21,7 @@ pub vacate_place-requires-clause-at : goal.vacate_place-requires-clause-at
 vacate_place-requires-clause-at c =
     let s = c.self.inside in
     at_unlike (owed s.seats.upto s.seats.seats) (alike_owed s.seats.upto s.seats.seats) c.args.seat.number c.args.place s.tasks
-    (subst (λ (r : RosterView). IsAt r.tasks c.args.seat.number c.args.place) (sym c.self.view_is) c.requires.at)
+    (subst (λ (r : RosterView). IsListedAt r.tasks c.args.seat.number c.args.place) (sym c.self.view_is) c.requires.at)
 
 pub vacate_place-requires-clause-ahead : goal.vacate_place-requires-clause-ahead
 vacate_place-requires-clause-ahead c = subst (λ (r : RosterView). IsAhead r.clock c.args.seat) (sym c.self.view_is) c.requires.ahead

@@ -2,7 +2,7 @@ use Rattle.std.proofs.Common.{eqb, Some, sym, ap, subst, ◌∙◌, arith}
 use Rattle.std.specs.Prelude.{find, option_map}
 use Rattle.std.proofs.lemmas.Grind.{common_steps}
 use Rattle.domain_run.specs.Views.{view_of}
-use Rattle.domain_run.specs.private.Index.{IsAt}
+use Rattle.domain_run.specs.private.Index.{IsListedAt}
 use Rattle.domain_run.specs.private.Roster.{RosterView}
 use Rattle.domain_run.specs.declared.task.TaskView.{TaskView}
 use Rattle.domain_run.proofs.Finding.{find_absent}
@@ -16,7 +16,7 @@ pub returns-in-Some : goal.returns-in-Some
 returns-in-Some c =
     let s = c.self.inside in
     let x = c.at.result.now in
-    let at = subst (λ (r : RosterView). IsAt r.tasks c.args.number c.in-Some.place) (sym c.self.view_is) c.in-Some.ensures.there in
+    let at = subst (λ (r : RosterView). IsListedAt r.tasks c.args.number c.in-Some.place) (sym c.self.view_is) c.in-Some.ensures.there in
     let found = found_owed s.seats.upto s.seats.seats s.tasks c.args.number c.in-Some.place x c.self.invariant.counted.roster.numbered at c.at.ensures in
     ap (λ (v : TaskView). Some v) c.view_at.ensures
     ∙ sym (ap (option_map view_of) found)

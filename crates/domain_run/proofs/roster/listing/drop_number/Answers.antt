@@ -8,7 +8,7 @@ use Rattle.domain_run.specs.declared.task.Task.{Task}
 use Rattle.domain_run.specs.declared.run_queue.RunQueue.{RunQueue}
 use Rattle.domain_run.specs.Calls.{is_other}
 use Rattle.domain_run.specs.Tick.{share_of, shares}
-use Rattle.domain_run.specs.private.Index.{IsAt}
+use Rattle.domain_run.specs.private.Index.{IsListedAt}
 use Rattle.domain_run.specs.private.RunQueue.{IsCounted}
 use Rattle.domain_run.specs.private.Timers.{due_of}
 use Rattle.domain_run.proofs.Departing.{counted_others}
@@ -20,7 +20,7 @@ pub part-requires : goal.part-requires
 part-requires c =
     let tasks = c.args.tasks.now in
     let p = c.in-Some.place in
-    let at : IsAt tasks c.args.number p = c.in-Some.ensures.there in
+    let at : IsListedAt tasks c.args.number p = c.in-Some.ensures.there in
     rw (c.share_of.ensures, c.at.ensures) (held_at share_of c.args.queue.now.accounts tasks p c.at.result.now at.within c.requires.counted.counts.sums)
 
 pub returns-clause-tasks : goal.returns-clause-tasks
@@ -28,7 +28,7 @@ returns-clause-tasks c =
     let tasks = c.args.tasks.now in
     let number = c.args.number in
     let p = c.in-Some.place in
-    let at : IsAt tasks number p = c.in-Some.ensures.there in
+    let at : IsListedAt tasks number p = c.in-Some.ensures.there in
     c.remove.ensures ∙ removed_parts tasks p ∙ sym (others_at tasks p number c.requires.counted.roster.numbered at.within (λ d. sym (at.is d)))
 
 pub returns-clause-counted : goal.returns-clause-counted
@@ -38,7 +38,7 @@ returns-clause-counted c =
     let number = c.args.number in
     let p = c.in-Some.place in
     let x = c.at.result.now in
-    let at : IsAt tasks number p = c.in-Some.ensures.there in
+    let at : IsListedAt tasks number p = c.in-Some.ensures.there in
     let new : RunQueue = record { accounts = c.part.new.self; schedule = queue.schedule; timers = c.remove_timer.new.timers } in
     let others : filter (is_other number) tasks ≡ take p tasks ++ drop (p + 1) tasks = others_at tasks p number c.requires.counted.roster.numbered at.within (λ d. sym (at.is d)) in
     let left : c.remove.new.self ≡ filter (is_other number) tasks = c.remove.ensures ∙ removed_parts tasks p ∙ sym others in
@@ -56,7 +56,7 @@ remove_timer-requires-clause-there c =
     let tasks = c.args.tasks.now in
     let number = c.args.number in
     let p = c.in-Some.place in
-    let at : IsAt tasks number p = c.in-Some.ensures.there in
+    let at : IsListedAt tasks number p = c.in-Some.ensures.there in
     let left : c.remove.new.self ≡ filter (is_other number) tasks = c.remove.ensures ∙ removed_parts tasks p ∙ sym (others_at tasks p number c.requires.counted.roster.numbered at.within (λ d. sym (at.is d))) in
     subst (λ (ts : List Task). p ≤ length ts) (sym left) (others_long tasks number p c.requires.counted.roster.numbered at)
 

@@ -10,9 +10,9 @@ use Rattle.domain_run.specs.Switch.{Switch, IsLeftIn}
 use Rattle.domain_run.specs.declared.switch.PrevState.{PrevState}
 use Rattle.domain_run.specs.declared.task.Task.{Task}
 use Rattle.domain_run.specs.Sound.{occupant}
-use Rattle.domain_run.specs.Switches.{state_of}
+use Rattle.domain_run.specs.Switches.{prev_state_of}
 use Rattle.domain_run.specs.Tick.{sum_of}
-use Rattle.domain_run.specs.private.Choosing.{AreWithin, switch_of}
+use Rattle.domain_run.specs.private.Choosing.{AreWithin, switch_made}
 use Rattle.domain_run.specs.private.Doubts.{IsTrusted, AreSettledBut}
 use Rattle.domain_run.specs.private.Waiting.{owed, owed_all, MaySitOf}
 use Rattle.domain_run.proofs.Choosing.{nobody, homed_more, homed_none}
@@ -93,9 +93,9 @@ loop-i-preserved c =
     let o = c.occupant_of-next.result in
     let m : Moved = get_or moves l.i nobody in
     let first = owed_all c.args.seats.now c.args.tasks.now in
-    let f : Moved → Switch = switch_of c.args.moment.time first places in
+    let f : Moved → Switch = switch_made c.args.moment.time first places in
     let start = c.args.switches.now.items in
-    let state : c.state_of-state.result ≡ state_of first m.before =
+    let state : c.state_of-state.result ≡ prev_state_of first m.before =
     c.state_of-state.ensures
     ∙ state_started l.seats.upto l.seats.seats l.tasks first places (take l.i moves) m.before l.invariant.written in
     let one : c.switch_of.result ≡ f m =

@@ -4,7 +4,7 @@ use Rattle.attr_check.specs.Ratio.{cap}
 use Rattle.edf_pick.specs.declared.moves.Moved.{Moved}
 use Rattle.domain_run.specs.Sound.{occupant}
 use Rattle.domain_run.specs.Tick.{sum_of}
-use Rattle.domain_run.specs.private.Choosing.{AreCounted, homed_by, switch_of}
+use Rattle.domain_run.specs.private.Choosing.{AreCounted, task_homed_by, switch_made}
 use Rattle.domain_run.specs.private.Doubts.{IsTrusted}
 use Rattle.domain_run.specs.private.Waiting.{owed_all, MaySitOf}
 use Rattle.domain_run.proofs.roster.starting.seat_moved.Given as goal
@@ -13,14 +13,14 @@ abbrev pub invariant-loop-i : goal.invariant-loop-i
 invariant-loop-i l = record {
   wide : length l.accounts.all ≡ length l.fn.accounts.all;
   counts : AreCounted l.accounts l.seats l.tasks;
-  written : owed_all l.seats l.tasks ≡ map (homed_by l.places (take l.i l.moves)) (owed_all l.fn.seats l.fn.tasks);
+  written : owed_all l.seats l.tasks ≡ map (task_homed_by l.places (take l.i l.moves)) (owed_all l.fn.seats l.fn.tasks);
   within : sum_of (owed_all l.seats l.tasks) ≤ cap (length l.fn.accounts.all) l.moment.limit;
   may : (cpu : ℕ) → IfSome (occupant l.places cpu) (MaySitOf (owed_all l.seats l.tasks));
   clock : l.seats.upto ≡ l.fn.seats.upto;
   long : length l.seats.seats ≡ length l.fn.seats.seats;
   trusted : (cpu : ℕ) → ((j : ℕ) (d : Moved) → l.i ≤ j → j < length l.moves → (get_or l.moves j d).cpu ≢ cpu)
       → IsTrusted l.doubts (length l.fn.accounts.all) (occupant l.places cpu) l.seats.seats (owed_all l.seats l.tasks) cpu;
-  switches : l.switches.items ≡ l.fn.switches.items ++ map (switch_of l.moment.time (owed_all l.fn.seats l.fn.tasks) l.places) (take l.i l.moves);
+  switches : l.switches.items ≡ l.fn.switches.items ++ map (switch_made l.moment.time (owed_all l.fn.seats l.fn.tasks) l.places) (take l.i l.moves);
   few : vec_len l.switches ≤ vec_len l.fn.switches + l.i;
   spare : vec_capacity l.switches ≡ vec_capacity l.fn.switches;
 }

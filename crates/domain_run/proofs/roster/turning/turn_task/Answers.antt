@@ -3,7 +3,7 @@ use Rattle.std.specs.Prelude.{is_some}
 use Rattle.std.proofs.lemmas.List.{get_or_default}
 use Rattle.domain_run.specs.declared.task.Task.{Task}
 use Rattle.due_times.specs.Seats.{SeatsView}
-use Rattle.domain_run.specs.private.Waiting.{seat_of}
+use Rattle.domain_run.specs.private.Waiting.{seat_of_task}
 use Rattle.domain_run.proofs.Turning.{waits_at, sound_at, may_at, turns_at, step_turned, sound_turned, counted_turned, waits_turned, seats_turned, wide_turned}
 use Rattle.domain_run.proofs.roster.turning.turn_task.Goals as goal
 
@@ -41,4 +41,4 @@ pub returns-clause-clock : goal.returns-clause-clock
 returns-clause-clock c = ap (λ (v : SeatsView). v.upto) c.turn_one.ensures.seats
 
 pub returns-clause-sat : goal.returns-clause-sat
-returns-clause-sat c d = c.turn_one.ensures.sat ∙ ap (λ (t : Task). is_some (seat_of c.args.seats.now.seats t)) (c.at_mut.ensures.value ∙ get_or_default c.args.tasks.now c.args.place c.at_mut.result.now d c.requires.there)
+returns-clause-sat c d = c.turn_one.ensures.sat ∙ ap (λ (t : Task). is_some (seat_of_task c.args.seats.now.seats t)) (c.at_mut.ensures.value ∙ get_or_default c.args.tasks.now c.args.place c.at_mut.result.now d c.requires.there)

@@ -1,7 +1,7 @@
 use Rattle.std.proofs.Common.{◌≡◌, Bool, true, false, not, refl, sym, subst}
 use Rattle.std.specs.Prelude.{All, IsTrue}
 use Rattle.domain_run.specs.Domain.{Domain}
-use Rattle.domain_run.specs.private.Dozing.{IsBare, IsPlain}
+use Rattle.domain_run.specs.private.Dozing.{IsBare, IsWithoutLag}
 use Rattle.domain_run.proofs.Aside.{all_plain}
 use Rattle.domain_run.proofs.state.State.all_stay.Goals as goal
 
@@ -12,5 +12,5 @@ negated false h = refl
 pub returns : goal.returns
 returns c h =
     let s = c.self.inside in
-    subst (λ (d : Domain). All IsPlain d.tasks) c.self.view_is
+    subst (λ (d : Domain). All IsWithoutLag d.tasks) c.self.view_is
     (all_plain s.roster.tasks (subst (λ (d : Domain). All IsBare d.tasks) (sym c.self.view_is) c.requires.bare) (c.may_be_due.ensures (negated c.may_be_due.result h)))

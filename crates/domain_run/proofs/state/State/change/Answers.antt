@@ -2,7 +2,7 @@ use Rattle.std.proofs.Common.{◌≡◌, sym, subst, ap, ◌∙◌}
 use Rattle.std.specs.Prelude.{None}
 use Rattle.domain_run.specs.declared.call.Reply.TheVariants.{Changed}
 use Rattle.domain_run.specs.Domain.{Domain}
-use Rattle.domain_run.specs.Calls.{regrade_reply, task_of, changed, regraded}
+use Rattle.domain_run.specs.Calls.{regrade_reply, task_of, with_task_changed, with_new_params}
 use Rattle.domain_run.specs.Jump.{running_numbers}
 use Rattle.domain_run.specs.Sound.{IsDomain}
 use Rattle.domain_run.proofs.Changing.{regrade_keeps}
@@ -11,7 +11,7 @@ use Rattle.domain_run.proofs.state.State.change.Goals as goal
 abbrev before : goal.After-turn_number → Domain
 before c = let s = c.self.inside in record { cpus = s.cpus; limit = s.limit; time = s.time; tasks = s.roster.tasks; used = s.used; curr = s.roster.places; switches = s.switches.items }
 
-after_is : (c : goal.After-turn_number) → record (before c) { tasks = c.turn_number.new.self.tasks; curr = c.turn_number.new.self.places } ≡ changed (before c) c.args.number (regraded c.args.params.now)
+after_is : (c : goal.After-turn_number) → record (before c) { tasks = c.turn_number.new.self.tasks; curr = c.turn_number.new.self.places } ≡ with_task_changed (before c) c.args.number (with_new_params c.args.params.now)
 after_is c = λ i. record (before c) { tasks = c.turn_number.ensures.tasks i; curr = c.turn_number.ensures.places i }
 
 pub turn_number-requires-clause-may : goal.turn_number-requires-clause-may

@@ -1,6 +1,6 @@
 use Rattle.std.proofs.Common.{◌≡◌, sym, subst, ap, ◌∙◌}
 use Rattle.domain_run.specs.Domain.{Domain}
-use Rattle.domain_run.specs.Calls.{changed, ended}
+use Rattle.domain_run.specs.Calls.{with_task_changed, ended_at}
 use Rattle.domain_run.specs.Jump.{running_numbers}
 use Rattle.domain_run.specs.Sound.{IsDomain}
 use Rattle.domain_run.proofs.Changing.{leave_keeps}
@@ -9,7 +9,7 @@ use Rattle.domain_run.proofs.state.State.end.Goals as goal
 abbrev before : goal.After-turn_number → Domain
 before c = let s = c.self.inside in record { cpus = s.cpus; limit = s.limit; time = s.time; tasks = s.roster.tasks; used = s.used; curr = s.roster.places; switches = s.switches.items }
 
-after_is : (c : goal.After-turn_number) → record (before c) { tasks = c.turn_number.new.self.tasks; curr = c.turn_number.new.self.places } ≡ changed (before c) c.args.number (ended c.self.inside.time)
+after_is : (c : goal.After-turn_number) → record (before c) { tasks = c.turn_number.new.self.tasks; curr = c.turn_number.new.self.places } ≡ with_task_changed (before c) c.args.number (ended_at c.self.inside.time)
 after_is c = λ i. record (before c) { tasks = c.turn_number.ensures.tasks i; curr = c.turn_number.ensures.places i }
 
 pub turn_number-requires-clause-may : goal.turn_number-requires-clause-may

@@ -1,10 +1,10 @@
 use Rattle.std.proofs.Common.{◌≡◌, ◌<◌, ◌%◌, ℕ, refl, sym, ap, subst, ◌∙◌, arith, eqb, false}
 use Rattle.domain_run.specs.Domain.{Domain}
-use Rattle.domain_run.specs.Calls.{new_task, listed}
+use Rattle.domain_run.specs.Calls.{new_task, with_task_listed}
 use Rattle.domain_run.specs.Sound.{IsDomain}
 use Rattle.domain_run.specs.declared.task.Task.{Task}
 use Rattle.domain_run.specs.Conditions.{is_ready}
-use Rattle.domain_run.specs.private.Index.{IsAbsent}
+use Rattle.domain_run.specs.private.Index.{IsUnlisted}
 use Rattle.std.specs.List.{list_any}
 use Rattle.edf_pick.specs.Places.{Places}
 use Rattle.domain_run.specs.Jump.{running_numbers}
@@ -18,7 +18,7 @@ before c = let s = c.self.inside in record { cpus = s.cpus; limit = s.limit; tim
 abbrev after : goal.After-push → Domain
 after c = record (before c) { tasks = c.push.new.self.tasks; used = c.insert.new.self; curr = c.push.new.self.places }
 
-after_is : (c : goal.After-push) → after c ≡ listed c.args.self.now (new_task c.args.self.now c.args.number c.args.name c.args.params c.args.delay c.args.script)
+after_is : (c : goal.After-push) → after c ≡ with_task_listed c.args.self.now (new_task c.args.self.now c.args.number c.args.name c.args.params c.args.delay c.args.script)
 after_is c = ap (λ (ps : Places). record (after c) { curr = ps }) c.push.ensures.places ∙ listed_as (before c) c.args.self.now c.args.number c.args.name c.args.params c.args.delay c.args.script c.new_task-task.result c.push.new.self.tasks c.insert.new.self c.self.view_is (c.new_task-task.ensures (before c) c.args.delay refl refl) c.push.ensures.tasks c.insert.ensures
 
 pub insert-requires-clause-absent : goal.insert-requires-clause-absent
@@ -60,7 +60,7 @@ push-requires-clause-absent c =
     let s = c.self.inside in
     let d : Domain = record { cpus = s.cpus; limit = s.limit; time = s.time; tasks = s.roster.tasks; used = s.used; curr = s.roster.places; switches = s.switches.items } in
     let is : c.new_task-task.result ≡ new_task d c.args.number c.args.name c.args.params c.args.delay c.args.script = c.new_task-task.ensures d c.args.delay refl refl in
-    subst (λ (n : ℕ). IsAbsent d.tasks n) (sym (ap (λ (t : Task). t.number) is)) (new_is d c.args.self.now c.args.number c.args.params c.self.view_is c.self.invariant.domain c.requires.granted).absent
+    subst (λ (n : ℕ). IsUnlisted d.tasks n) (sym (ap (λ (t : Task). t.number) is)) (new_is d c.args.self.now c.args.number c.args.params c.self.view_is c.self.invariant.domain c.requires.granted).absent
 
 pub push-requires-clause-homed : goal.push-requires-clause-homed
 push-requires-clause-homed c =
@@ -76,7 +76,7 @@ pub invariant_of-self : goal.invariant_of-self
 invariant_of-self c = record {
   domain = subst IsDomain (sym (after_is c)) (list_keeps (before c) c.args.self.now c.args.number c.args.name c.args.params c.args.delay c.args.script c.self.view_is c.self.invariant.domain c.requires.delay c.requires.granted);
   wide = c.push.ensures.cpus ∙ c.self.invariant.wide;
-  running_is = λ listed. c.self.invariant.running_is listed ∙ ap running_numbers (sym c.push.ensures.places);
+  running_is = λ l. c.self.invariant.running_is l ∙ ap running_numbers (sym c.push.ensures.places);
   running_room = c.self.invariant.running_room;
   switch_room = c.self.invariant.switch_room;
 }

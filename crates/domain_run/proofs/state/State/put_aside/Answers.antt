@@ -6,7 +6,7 @@ use Rattle.domain_run.specs.Domain.{Domain}
 use Rattle.domain_run.specs.Jump.{running_numbers}
 use Rattle.domain_run.specs.Sound.{IsDomain}
 use Rattle.domain_run.specs.private.Dozing.{with_lags, awake, IsBare, MayDoze}
-use Rattle.domain_run.specs.private.Roster.{bared}
+use Rattle.domain_run.specs.private.Roster.{without_zero_lag}
 use Rattle.domain_run.proofs.Aside.{back_all, doze_bare, same_bared}
 use Rattle.domain_run.proofs.Paying.{later_is}
 use Rattle.domain_run.proofs.state.State.put_aside.Goals as goal
@@ -17,7 +17,7 @@ invariant_of-self c =
     let d : Domain = record { cpus = s.cpus; limit = s.limit; time = s.time; tasks = s.roster.tasks; used = s.used; curr = s.roster.places; switches = s.switches.items } in
     let e = c.put_aside.ensures in
     record {
-      domain = subst (λ (ps : Places). IsDomain (record d { tasks = c.put_aside.new.self.tasks; curr = ps })) (sym e.places) (later_is d bared d.time c.put_aside.new.self.tasks c.self.invariant.domain same_bared (omega arith) c.self.invariant.domain.steady.early e.tasks e.sound);
+      domain = subst (λ (ps : Places). IsDomain (record d { tasks = c.put_aside.new.self.tasks; curr = ps })) (sym e.places) (later_is d without_zero_lag d.time c.put_aside.new.self.tasks c.self.invariant.domain same_bared (omega arith) c.self.invariant.domain.steady.early e.tasks e.sound);
       wide = e.cpus ∙ c.self.invariant.wide;
       running_is = λ listed. c.self.invariant.running_is listed ∙ ap running_numbers (sym e.places);
       running_room = c.self.invariant.running_room;

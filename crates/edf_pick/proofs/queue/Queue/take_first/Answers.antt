@@ -2,7 +2,7 @@ use Rattle.std.proofs.Common.{◌<◌, ◌∙◌, ◌∷◌, List, length, get_o
 use Rattle.std.specs.Prelude.{vec_capacity}
 use Rattle.std.specs.List.{remove}
 use Rattle.edf_pick.specs.declared.candidate.Candidate.{Candidate}
-use Rattle.edf_pick.specs.private.Room.{tasks_in}
+use Rattle.edf_pick.specs.private.Room.{tasks_in_room}
 use Rattle.edf_pick.proofs.Rising.{first_rest, few_rest, queue_rest}
 use Rattle.edf_pick.proofs.queue.Queue.take_first.Goals as goal
 
@@ -20,17 +20,17 @@ remove_first-requires-clause-some c = subst (λ (xs : List Candidate). 0 < lengt
 
 pub invariant_of-self : goal.invariant_of-self
 invariant_of-self c =
-    let old = tasks_in c.self.inside.room in
+    let old = tasks_in_room c.self.inside.room in
     let e = c.remove_first.ensures in
     let some : 0 < length old = subst (λ (xs : List Candidate). 0 < length xs) (sym c.self.view_is) c.requires in
     record {
-      queue = queue_rest old (tasks_in c.remove_first.new.self) (vec_capacity c.self.inside.room.tasks) (vec_capacity c.remove_first.new.self.tasks) c.self.invariant.queue some e.tasks e.capacity;
+      queue = queue_rest old (tasks_in_room c.remove_first.new.self) (vec_capacity c.self.inside.room.tasks) (vec_capacity c.remove_first.new.self.tasks) c.self.invariant.queue some e.tasks e.capacity;
       is = e.is;
     }
 
 pub returns-clause-first : goal.returns-clause-first
 returns-clause-first c =
-    let old = tasks_in c.self.inside.room in
+    let old = tasks_in_room c.self.inside.room in
     let d : Candidate = record { deadline = 0; number = 0; home = 0 } in
     let some : 0 < length old = subst (λ (xs : List Candidate). 0 < length xs) (sym c.self.view_is) c.requires in
     sym c.self.view_is ∙ first_rest old d some
@@ -39,6 +39,6 @@ returns-clause-first c =
 
 pub returns-clause-few : goal.returns-clause-few
 returns-clause-few c =
-    let old = tasks_in c.self.inside.room in
+    let old = tasks_in_room c.self.inside.room in
     let some : 0 < length old = subst (λ (xs : List Candidate). 0 < length xs) (sym c.self.view_is) c.requires in
     subst (λ (xs : List Candidate). length xs < 256) (sym c.remove_first.ensures.tasks) (few_rest old c.self.invariant.queue.few some)

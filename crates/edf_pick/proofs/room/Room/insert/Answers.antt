@@ -2,11 +2,11 @@ use Rattle.std.proofs.Common.{◌≡◌, ◌≤◌, ◌+◌, ◌∙◌, ℕ, Lis
 use Rattle.std.specs.List.{insert}
 use Rattle.edf_pick.specs.declared.candidate.Candidate.{Candidate}
 use Rattle.edf_pick.specs.declared.room.Room.{Room}
-use Rattle.edf_pick.specs.private.Room.{IsRoom, tasks_in}
+use Rattle.edf_pick.specs.private.Room.{IsTaskRoom, tasks_in_room}
 use Rattle.edf_pick.proofs.Spans.{between_len}
 use Rattle.edf_pick.proofs.room.Room.insert.Goals as goal
 
-there : (room : Room) (place : ℕ) → IsRoom room → place ≤ length (tasks_in room) → room.front + place ≤ room.end
+there : (room : Room) (place : ℕ) → IsTaskRoom room → place ≤ length (tasks_in_room room) → room.front + place ≤ room.end
 there room place is h =
     let many = between_len room.front room.end room.tasks.items is.forward (let within = is.within in let full = is.full in omega (arith, within, full)) in
     let forward = is.forward in
@@ -48,7 +48,7 @@ insert_above-requires-clause-free c = c.free_end.ensures.free
 pub insert_above-requires-clause-there : goal.insert_above-requires-clause-there
 insert_above-requires-clause-there c =
     let e = c.free_end.ensures in
-    let same : length (tasks_in c.free_end.new.self) ≡ length (tasks_in c.args.self.now) = ap (λ (xs : List Candidate). length xs) e.tasks in
+    let same : length (tasks_in_room c.free_end.new.self) ≡ length (tasks_in_room c.args.self.now) = ap (λ (xs : List Candidate). length xs) e.tasks in
     there c.free_end.new.self c.args.place e.is (let h = c.requires.there in omega (arith, h, same))
 
 pub returns-clause-is : goal.returns-clause-is

@@ -3,7 +3,7 @@ use Rattle.std.specs.Prelude.{All}
 use Rattle.std.proofs.lemmas.Nat.Bits.{bit_at-zero}
 use Rattle.edf_pick.specs.declared.candidate.Candidate.{Candidate}
 use Rattle.edf_pick.specs.Choice.{is_before}
-use Rattle.edf_pick.specs.private.Waiting.{held}
+use Rattle.edf_pick.specs.private.Waiting.{all_held}
 use Rattle.edf_pick.proofs.Stays.{latest_bound, latest_at, held_bound, latest_stays}
 use Rattle.edf_pick.proofs.staying.Staying.latest.Goals as goal
 
@@ -29,7 +29,7 @@ returns-clause-bound c =
     let s = c.self.inside in
     let inv = c.self.invariant in
     let last = c.latest_of_eight-latest.result in
-    subst (λ (stays : List (Option Candidate)). All (λ a. is_before last a ≡ false) (held stays)) c.self.view_is
+    subst (λ (stays : List (Option Candidate)). All (λ a. is_before last a ≡ false) (all_held stays)) c.self.view_is
     (held_bound s.marks s.cpus s.keys last inv.full inv.few inv.within (latest_bound s.keys c.look_anew.new.most last inv.full c.look_anew.ensures c.latest_of_eight-latest.ensures))
 
 pub returns-clause-there : goal.returns-clause-there

@@ -4,7 +4,7 @@ use Rattle.std.specs.Int.{bit_at}
 use Rattle.std.proofs.lemmas.Nat.Bits.{bit_at-lt}
 use Rattle.edf_pick.specs.declared.candidate.Candidate.{Candidate}
 use Rattle.edf_pick.specs.private.Staying.{bare_key}
-use Rattle.edf_pick.specs.private.Waiting.{held}
+use Rattle.edf_pick.specs.private.Waiting.{all_held}
 use Rattle.edf_pick.proofs.Stays.{is_mark, view_at, count_less, is_off, gone_view}
 use Rattle.edf_pick.proofs.staying.Staying.off.Goals as goal
 use Rattle.edf_pick.proofs.staying.Staying.off.Goals.{After-self}
@@ -27,7 +27,7 @@ pub overflow_sub-self : goal.overflow_sub-self
 overflow_sub-self c =
     let inv = c.self.invariant in
     let less = count_less c.args.self.now c.args.cpu c.requires in
-    let many = inv.many ∙ ap (λ (stays : List (Option Candidate)). length (held stays)) c.self.view_is in
+    let many = inv.many ∙ ap (λ (stays : List (Option Candidate)). length (all_held stays)) c.self.view_is in
     omega (arith, less, many)
 
 pub with-self-inside-requires : goal.with-self-inside-requires
@@ -47,7 +47,7 @@ invariant_of-self c =
     let w = c.without-self-inside in
     let v = c.with-self-inside in
     let less = count_less c.args.self.now c.args.cpu c.requires in
-    let many = inv.many ∙ ap (λ (stays : List (Option Candidate)). length (held stays)) c.self.view_is in
+    let many = inv.many ∙ ap (λ (stays : List (Option Candidate)). length (all_held stays)) c.self.view_is in
     is_off s.cpus s.busy (s.busy - 1) s.marks w.result s.unknown v.result c.args.cpu s.keys s.most s.top inv (mark k) w.ensures.bare w.ensures.others v.ensures.marked v.ensures.others (omega (arith, less, many))
 
 pub returns : goal.returns

@@ -3,7 +3,7 @@ use Rattle.std.specs.Int.{bit_at}
 use Rattle.std.proofs.lemmas.Nat.Bits.{bit_at-lt}
 use Rattle.edf_pick.specs.declared.candidate.Candidate.{Candidate}
 use Rattle.edf_pick.specs.private.Staying.{bare_key}
-use Rattle.edf_pick.specs.private.Waiting.{held}
+use Rattle.edf_pick.specs.private.Waiting.{all_held}
 use Rattle.edf_pick.proofs.Held.{held_length}
 use Rattle.edf_pick.proofs.Stays.{no_mark, view_at, view_length, is_stayed, came_view}
 use Rattle.edf_pick.proofs.staying.Staying.stay.Goals as goal
@@ -41,7 +41,7 @@ overflow_add-self c =
     let most = held_length c.args.self.now in
     let len = view_length s.marks s.cpus s.keys inv.full inv.few in
     let same = ap (λ (stays : List (Option Candidate)). length stays) c.self.view_is in
-    let many = inv.many ∙ ap (λ (stays : List (Option Candidate)). length (held stays)) c.self.view_is in
+    let many = inv.many ∙ ap (λ (stays : List (Option Candidate)). length (all_held stays)) c.self.view_is in
     omega (arith, most, len, same, many, inv.few)
 
 pub offset_bounds-self-inside-cpu : goal.offset_bounds-self-inside-cpu

@@ -2,7 +2,7 @@ use Rattle.std.proofs.Common.{◌≡◌, All, List, [], ◌∷◌, ◌++◌, tak
 use Rattle.std.proofs.lemmas.List.Elements.{All-head}
 use Rattle.pass_seats.specs.declared.view.Mine.{Mine}
 use Rattle.pass_seats.specs.Lists.{own}
-use Rattle.pass_seats.specs.private.Pass.{first_entries, entries_of}
+use Rattle.pass_seats.specs.private.Pass.{first_entries, pass_entries}
 use Rattle.pass_seats.proofs.Steps.{joins, splits, agrees, passes_back}
 use Rattle.pass_seats.proofs.spine.Spine.agree.Goals as goal
 
@@ -29,7 +29,7 @@ pub returns-clause-own : goal.returns-clause-own
 returns-clause-own g c =
     let E = g.row.E.Denot in
     let client = c.pass.inside.client in
-    let entries = entries_of c.pass.inside.badge.views in
+    let entries = pass_entries c.pass.inside.badge.views in
     let p : Mine E = record { client = client; entries = entries } in
     let into = c.into_seat-seat in
     let join = c.join_seat.ensures.2 in
@@ -40,7 +40,7 @@ returns-clause-own g c =
     let spine : c.join_seat.new.seat.me.0.is_spine ≡ true = ap (λ (m : _). m.0.is_spine) join ∙ ap (λ (m : _). m.0.is_spine) c.self.invariant.2 in
     let all = subst (All (λ (q : Mine E). q.entries ≡ own q.client c.join_seat.new.seat.me.0.log)) passes (told.1 spine) in
     let own_now : entries ≡ own client c.join_seat.new.seat.me.0.log = All-head (λ (q : Mine E). q.entries ≡ own q.client c.join_seat.new.seat.me.0.log) p [] all in
-    ap entries_of c.into_badge.ensures.2
+    ap pass_entries c.into_badge.ensures.2
     ∙ ap (λ (m : _). first_entries m.0.passes) split.4
     ∙ ap (λ (m : _). first_entries (take 1 m.0.passes)) told.0
     ∙ ap (λ (ps : List (Mine E)). first_entries (take 1 ps)) passes

@@ -1,6 +1,6 @@
 use Rattle.std.proofs.Common.{◌≡◌, [], ◌∷◌, ◌++◌, true, sym, ap, ◌∙◌, arith}
 use Rattle.pass_seats.specs.declared.view.Mine.{Mine}
-use Rattle.pass_seats.specs.private.Pass.{entries_of}
+use Rattle.pass_seats.specs.private.Pass.{pass_entries}
 use Rattle.pass_seats.proofs.Steps.{joins, splits, appends, passes_back}
 use Rattle.pass_seats.proofs.spine.Spine.append_as.Goals as goal
 
@@ -17,7 +17,7 @@ load-requires g c =
     let shared = c.self.inside.table.shared in
     let seat = c.join_seat.new.seat in
     let client = c.pass.inside.client in
-    let entries = entries_of c.pass.inside.badge.views in
+    let entries = pass_entries c.pass.inside.badge.views in
     let p : Mine g.row.E.Denot = record { client = client; entries = entries } in
     let into = c.into_seat-seat in
     let join = c.join_seat.ensures.2 in

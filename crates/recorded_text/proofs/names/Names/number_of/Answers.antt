@@ -1,6 +1,6 @@
 use Rattle.std.proofs.Common.{◌≡◌, ℕ, List, [], Some, append-nil, sym, subst}
 use Rattle.std.specs.Prelude.{slice_get}
-use Rattle.recorded_text.specs.Names.{with_name}
+use Rattle.recorded_text.specs.Names.{names_with}
 use Rattle.recorded_text.proofs.Naming.{found_named, stored_named, kept_differ, known_called, new_called, texts}
 use Rattle.recorded_text.proofs.names.Names.number_of.Goals as goal
 
@@ -18,12 +18,12 @@ returns-in_ok-number-in-None-clause-found c =
 
 pub returns-in-Some-clause-called : goal.returns-in-Some-clause-called
 returns-in-Some-clause-called c =
-    subst (λ (names : List (List ℕ)). names ≡ with_name names c.args.name.now) c.self.view_is (known_called c.args.name.now c.self.inside.set.keys (sym c.in-Some.ensures.found))
+    subst (λ (names : List (List ℕ)). names ≡ names_with names c.args.name.now) c.self.view_is (known_called c.args.name.now c.self.inside.set.keys (sym c.in-Some.ensures.found))
 
 pub returns-in_ok-number-in-None-clause-called : goal.returns-in_ok-number-in-None-clause-called
 returns-in_ok-number-in-None-clause-called c =
     let new = texts c.insert_full.new.self.keys in
-    subst (λ (names : List (List ℕ)). new ≡ with_name names c.args.name.now) c.self.view_is
+    subst (λ (names : List (List ℕ)). new ≡ names_with names c.args.name.now) c.self.view_is
     (new_called c.self.inside.set.keys c.insert_full.new.self.keys c.args.name.now c.in_ok-name-in-None.name (sym c.in-None.ensures.found) c.in_ok-name-in-None.ensures.items c.in_ok-number-in-None.ensures.keys)
 
 pub returns-in-Some-clause-grows : goal.returns-in-Some-clause-grows

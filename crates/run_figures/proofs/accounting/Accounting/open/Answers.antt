@@ -1,6 +1,6 @@
 use Rattle.std.proofs.Common.{map, sym, ap, ◌∙◌}
 use Rattle.run_figures.specs.declared.run.Admitted.{Admitted}
-use Rattle.run_figures.specs.private.Telling.{untold}
+use Rattle.run_figures.specs.private.Telling.{nothing_told}
 use Rattle.run_figures.specs.private.Running.{not_run}
 use Rattle.run_figures.proofs.Passing.{map-map}
 use Rattle.run_figures.proofs.Hearing.{nothing_kept, nothing_of_run}
@@ -10,7 +10,7 @@ pub invariant_of-result : goal.invariant_of-result
 invariant_of-result c =
     let tasks = c.args.tasks.now in (
       nothing_kept _ _ _ _ c.new.ensures c.new-2.ensures
-          (c.in_ok-untold_all.ensures ∙ sym (map-map untold (λ (t : Admitted). t.number) tasks) ∙ ap (map untold) (sym c.in_ok-of.ensures))
+          (c.in_ok-untold_all.ensures ∙ sym (map-map nothing_told (λ (t : Admitted). t.number) tasks) ∙ ap (map nothing_told) (sym c.in_ok-of.ensures))
           (c.in_ok-open.ensures.tasks ∙ sym (map-map not_run (λ (t : Admitted). t.number) tasks) ∙ ap (map not_run) (sym c.in_ok-of.ensures))
           c.in_ok-open.ensures.cpus,
       nothing_of_run _ c.new.ensures c.new-2.ensures c.requires.early c.requires.cpus,

@@ -6,9 +6,9 @@ use Rattle.domain_run.specs.declared.call.Call.TheVariants as calls
 use Rattle.rtapp_scenario.specs.ScenarioView.{TaskSpecView}
 use Rattle.call_book.specs.Book.{AdmissionView, admission}
 use Rattle.session.specs.declared.refusal.Refusal.TheVariants as refusals
-use Rattle.session.specs.SessionId.{cpus_of}
-use Rattle.session.specs.Asks.{ClientView, Makes, made_by, call_of, AsksGate}
-use Rattle.session.specs.private.Entering.{IsVerdict}
+use Rattle.session.specs.SessionId.{cpu_set_of}
+use Rattle.session.specs.Asks.{ClientView, Makes, made_by, admit_call, AsksGate}
+use Rattle.session.specs.private.Entering.{IsEntryVerdict}
 use Rattle.session.proofs.Asked.{accepted_is, refused_makes}
 use Rattle.session.proofs.client.Client.admit_with.Goals as goal
 
@@ -21,7 +21,7 @@ returns-in-Ok-clause-made g c =
 
 pub returns-in-Ok-clause-verdict : goal.returns-in-Ok-clause-verdict
 returns-in-Ok-clause-verdict g c =
-    subst (λ (p : ParamsView). IsVerdict (length (cpus_of g.N.Names.id c.args.place)) p.bw c.submit.result)
+    subst (λ (p : ParamsView). IsEntryVerdict (length (cpu_set_of g.N.Names.id c.args.place)) p.bw c.submit.result)
     (ap (λ (a : AdmissionView). a.params) c.in-Ok.ensures ∙ accepted_is c.args.task.now.attr c.args.params c.requires.checked) c.submit.ensures.verdict
 
 pub returns-in-Ok-clause-last : goal.returns-in-Ok-clause-last
@@ -34,7 +34,7 @@ returns-in-Ok-clause-gate g c =
 
 pub returns-in-Err-clause-made : goal.returns-in-Err-clause-made
 returns-in-Err-clause-made g c =
-    refused_makes c.args.self.now _ c.args.place (call_of c.args.task.now) refusals.Enomem (ap (λ (v : ClientView). v.number) c.keep.ensures) (ap (λ (v : ClientView). v.passes) c.keep.ensures)
+    refused_makes c.args.self.now _ c.args.place (admit_call c.args.task.now) refusals.Enomem (ap (λ (v : ClientView). v.number) c.keep.ensures) (ap (λ (v : ClientView). v.passes) c.keep.ensures)
 
 pub submit-requires-clause-place : goal.submit-requires-clause-place
 submit-requires-clause-place g c = grind (arith, common_steps)

@@ -2,7 +2,7 @@ use Rattle.std.proofs.Common.{◌≡◌, ℕ, Some, Err, ap, refl, sym, subst, l
 use Rattle.bw_gate.specs.Pieces.{GateId, cpus_of as gate_cpus}
 use Rattle.call_book.specs.Book.{admission}
 use Rattle.session.specs.declared.refusal.Refusal.TheVariants as refusals
-use Rattle.session.specs.SessionId.{cpus_of}
+use Rattle.session.specs.SessionId.{cpu_set_of}
 use Rattle.session.specs.Asks.{ClientView, AsksGate, IsLastFound, IsOverCap, IsGateRefusal}
 use Rattle.session.proofs.Asked.{refused_makes, last_seen, gate_over, gate_refused}
 use Rattle.session.proofs.client.Client.submit.Goals as goal
@@ -13,7 +13,7 @@ returns-in-Refused-clause-made g c =
 
 pub returns-in-Refused-clause-verdict : goal.returns-in-Refused-clause-verdict
 returns-in-Refused-clause-verdict g c =
-    let cpus = length (cpus_of g.N.Names.id c.args.place) in
+    let cpus = length (cpu_set_of g.N.Names.id c.args.place) in
     let same : gate_cpus c.args.blank.gate c.args.place ≡ cpus =
     ap (λ (i : GateId). gate_cpus i c.args.place) c.requires.own ∙ c.shared.invariant.2.machines c.args.place c.requires.place in
     subst (λ (bw : ℕ). IsOverCap cpus bw c.used_of.result) c.bw.ensures.value

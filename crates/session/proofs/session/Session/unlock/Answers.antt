@@ -1,7 +1,7 @@
 use Rattle.std.proofs.Common.{◌≡◌, ℕ, List, length, sym, ap, subst, ◌∙◌, arith}
 use Rattle.std.proofs.lemmas.List.{length-map}
 use Rattle.std.proofs.lemmas.Grind.{common_steps}
-use Rattle.session.specs.private.Closing.{IsRoom}
+use Rattle.session.specs.private.Closing.{IsClosingRoom}
 use Rattle.session.proofs.session.Session.unlock.Goals as goal
 
 pub shut-requires : goal.shut-requires
@@ -26,7 +26,7 @@ pub new-requires-clause-room : goal.new-requires-clause-room
 new-requires-clause-room g c =
     let sets = c.shared.inside.cpu_sets in
     let count : c.len.result ≡ length g.N.Names.id.cpu_sets = c.len.ensures ∙ sets.ok.0 ∙ sym (length-map sets.items (λ v. v.items)) ∙ ap (λ (l : List (List ℕ)). length l) c.shared.invariant.1 in
-    subst (λ (n : ℕ). IsRoom n c.in-Ok.rooms.room) count c.in-Ok.ensures.room
+    subst (λ (n : ℕ). IsClosingRoom n c.in-Ok.rooms.room) count c.in-Ok.ensures.room
 
 pub new-requires-clause-blanks : goal.new-requires-clause-blanks
 new-requires-clause-blanks g c = grind (arith, common_steps)

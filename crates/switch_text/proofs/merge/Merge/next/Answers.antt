@@ -1,6 +1,6 @@
 use Rattle.std.proofs.Common.{◌∙◌, ◌<◌, ◌≤◌, length, get_or, arith}
 use Rattle.std.proofs.lemmas.List.{length-map}
-use Rattle.switch_text.specs.Runs.{view_of, views}
+use Rattle.switch_text.specs.Runs.{switches_view_of, views}
 use Rattle.switch_text.proofs.Merged.{IsPlaced, left_at-past, left_placed, none_from, found_none, found_by}
 use Rattle.switch_text.proofs.merge.Merge.next.Goals as goal
 
@@ -8,7 +8,7 @@ pub returns-then-index-runs : goal.returns-then-index-runs
 returns-then-index-runs c =
     let runs = c.args.runs.now in
     let m = c.args.self.now in
-    found_none runs m c.requires.few c.requires.runs c.requires.heads (left_at-past (views runs) m.places m.heads.first (omega (arith, length-map runs view_of)))
+    found_none runs m c.requires.few c.requires.runs c.requires.heads (left_at-past (views runs) m.places m.heads.first (omega (arith, length-map runs switches_view_of)))
 
 pub returns-then-is_left : goal.returns-then-is_left
 returns-then-is_left c =
@@ -27,4 +27,4 @@ returns c =
     let inside : m.heads.first < length runs = omega arith in
     let at : IsPlaced runs m.places m.heads.first run = record { inside = inside; room = omega (arith, inside, c.requires.few); is = c.index-runs-index.is } in
     let past : length run.switches.now ≤ get_or m.places m.heads.first 0 = grind (arith, c.is_left.ensures.inside.1, c.if-is_left.false) in
-    found_none runs m c.requires.few c.requires.runs c.requires.heads (left_placed runs m.places m.heads.first run at ∙ none_from (view_of run) (get_or m.places m.heads.first 0) past)
+    found_none runs m c.requires.few c.requires.runs c.requires.heads (left_placed runs m.places m.heads.first run at ∙ none_from (switches_view_of run) (get_or m.places m.heads.first 0) past)

@@ -13,7 +13,7 @@ use Rattle.domain_run.specs.Tick.{sum_of}
 use Rattle.domain_run.specs.Busy.{IfBusy, LacksRoomFor}
 use Rattle.calls_text.specs.Limits.{IsAdmission}
 use Rattle.call_book.specs.Book.{AdmissionView, admission}
-use Rattle.call_book.specs.private.Listing.{Says, IsCallOf}
+use Rattle.call_book.specs.private.Listing.{ListingSays, IsCallOf}
 use Rattle.call_book.proofs.book.prepared.Prepared.list.Goals as goal
 
 abbrev admission_from : ℕ → List ℕ → ParamsView → ℕ → ScriptView → AdmissionView
@@ -33,8 +33,8 @@ call_by a b name script n s same is =
     let whole : admission_from a.number name a.params a.delay script ≡ b = back_by a name script n s ∙ same in
     record { same = ap (λ (x : AdmissionView). admission x) whole; spelled = admission_by a name script n s is }
 
-says_by : (old new : Domain) (a b : AdmissionView) (answer : Reply) → a ≡ b → reply_to old (admission a) ≡ answer → new ≡ after_call old (admission a) → Says old new b answer
-says_by old new a b answer same reply state = subst (λ (x : AdmissionView). Says old new x answer) same (record { reply = reply; state = state })
+says_by : (old new : Domain) (a b : AdmissionView) (answer : Reply) → a ≡ b → reply_to old (admission a) ≡ answer → new ≡ after_call old (admission a) → ListingSays old new b answer
+says_by old new a b answer same reply state = subst (λ (x : AdmissionView). ListingSays old new x answer) same (record { reply = reply; state = state })
 
 -- a refusal that is not of another kind
 twice_by : (d : Domain) (number : ℕ) (params : ParamsView) (r : Reply) → r ≡ admit_reply d number params → is_refusal r ≡ true → (r ≡ replies.Full → ⊥) → ((s : ℕ) → r ≡ replies.Busy s → ⊥) → r ≡ replies.Twice

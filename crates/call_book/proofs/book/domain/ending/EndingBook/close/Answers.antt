@@ -1,7 +1,7 @@
 use Rattle.std.proofs.Common.{◌≡◌, ℕ, List, length, map, All, sym, ap, ◌∙◌, subst, arith}
 use Rattle.std.proofs.lemmas.List.{length-map}
 use Rattle.std.proofs.lemmas.List.Elements.{All-map}
-use Rattle.bw_gate.specs.Pieces.{GateId, TicketView, BlankView, sum_of, cpus_of}
+use Rattle.bw_gate.specs.Pieces.{GateId, TicketView, BlankView, bw_of_tickets, cpus_of}
 use Rattle.pass_seats.specs.Lists.{PassView}
 use Rattle.calls_text.specs.declared.section.Entry.{Entry}
 use Rattle.call_book.specs.declared.book.stock.Held.{Held}
@@ -66,7 +66,7 @@ returns-clause-sums c =
     let stock = c.self.inside.stock in
     let tickets = c.into_pieces-tickets.result.0.items in
     let domain : c.args.self.book.domain ≡ stock.domain = ap (λ (e : EndingView). e.book.domain) (sym c.self.view_is) in
-    ap (λ (d : ℕ). sum_of d tickets) domain ∙ ap (sum_of stock.domain) c.into_pieces-tickets.ensures.tickets
+    ap (λ (d : ℕ). bw_of_tickets d tickets) domain ∙ ap (bw_of_tickets stock.domain) c.into_pieces-tickets.ensures.tickets
     ∙ tickets_sum stock.gate stock.domain c.self.inside.state stock.tickets (holds_left _ _ _ c.self.invariant) c.into_pieces-tickets.ensures.pieces.held
 
 pub returns-clause-homes : goal.returns-clause-homes

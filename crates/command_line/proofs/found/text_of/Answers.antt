@@ -2,7 +2,7 @@ use Rattle.std.proofs.Common.{◌∙◌, ℕ, List, Bor, Option, ap, option_map,
 use Rattle.clap.specs.Words.{found_of}
 use Rattle.clap.proofs.WalkLemmas.{first_value-rows}
 use Rattle.command_line.proofs.Printing.{none_read, text_read}
-use Rattle.command_line.proofs.words.text_of.Goals as goal
+use Rattle.command_line.proofs.found.text_of.Goals as goal
 
 -- the text of a reference
 abbrev text_in : Option (Bor (List ℕ)) → Option (List ℕ)

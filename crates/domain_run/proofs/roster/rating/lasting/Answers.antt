@@ -1,6 +1,6 @@
 use Rattle.std.proofs.Common.{arith}
 use Rattle.std.proofs.lemmas.Grind.{common_steps}
-use Rattle.domain_run.proofs.roster.seating.lasting.Goals as goal
+use Rattle.domain_run.proofs.roster.rating.lasting.Goals as goal
 
 pub lasting_at_one-at_one-requires-clause-left : goal.lasting_at_one-at_one-requires-clause-left
 lasting_at_one-at_one-requires-clause-left c = grind (arith, common_steps)

@@ -2,14 +2,14 @@ use Rattle.std.proofs.Common.{◌≡◌, ◌∙◌, ap, subst, arith, All}
 use Rattle.std.specs.Prelude.{IfOk}
 use Rattle.run_figures.specs.Accounting.{AccountingView, heard_run, with_piece}
 use Rattle.run_figures.specs.Figures.{task_figures, cpu_figures}
-use Rattle.run_figures.specs.Laws.{AreKnown, IsShared, IsToldOfCalls, IsBalanced}
-use Rattle.run_figures.specs.Runs.{view_of}
+use Rattle.run_figures.specs.Laws.{AreKnown, IsShared, IsToldOfCalls, ThrottlesBalance}
+use Rattle.run_figures.specs.Runs.{run_view_of}
 use Rattle.run_figures.proofs.Hearing.{whole_next}
-use Rattle.run_figures.proofs.summary.summary_of.Goals as goal
+use Rattle.run_figures.proofs.accounting.summary_of.Goals as goal
 
 pub hear-requires : goal.hear-requires
 hear-requires c =
-    record { next = whole_next (view_of c.args.run.now) c.in_ok-accounting.accounting c.requires.run c.in_ok-accounting.ensures (omega arith) (omega arith) }
+    record { next = whole_next (run_view_of c.args.run.now) c.in_ok-accounting.accounting c.requires.run c.in_ok-accounting.ensures (omega arith) (omega arith) }
 
 pub returns-clause-tasks : goal.returns-clause-tasks
 returns-clause-tasks c =
@@ -33,4 +33,4 @@ pub returns-clause-balanced : goal.returns-clause-balanced
 returns-clause-balanced c =
     let run = c.args.run.now in
     let whole = c.hear.ensures ∙ ap (λ (a : AccountingView). with_piece a run.happened.now run.switches.now) c.in_ok-accounting.ensures in
-    subst (λ (a : AccountingView). IfOk c.summary.result (λ s. IsToldOfCalls a.happened → All (IsBalanced a.happened) s.tasks.items)) whole c.summary.ensures.balanced
+    subst (λ (a : AccountingView). IfOk c.summary.result (λ s. IsToldOfCalls a.happened → All (ThrottlesBalance a.happened) s.tasks.items)) whole c.summary.ensures.balanced

@@ -3,7 +3,7 @@ use Rattle.std.specs.Str.Parse.{ExplainsUnsignedError, HasUnsignedDigitsIfOk}
 use Rattle.clap.specs.Words.{found_of}
 use Rattle.clap.proofs.WalkLemmas.{one_text-rows}
 use Rattle.command_line.proofs.Numbers.{read_other, read_spelled}
-use Rattle.command_line.proofs.words.read_at.Goals as goal
+use Rattle.command_line.proofs.found.read_at.Goals as goal
 
 pub returns : goal.returns
 returns c =

@@ -4,7 +4,7 @@ use Rattle.std.specs.Str.Parse.{ExplainsUnsignedError, HasUnsignedDigitsIfOk}
 use Rattle.clap.specs.Words.{found_of}
 use Rattle.clap.proofs.WalkLemmas.{one_text-rows}
 use Rattle.command_line.proofs.Numbers.{read_other, read_spelled}
-use Rattle.command_line.proofs.words.number.Goals as goal
+use Rattle.command_line.proofs.found.number.Goals as goal
 
 pub returns-clause-found : goal.returns-clause-found
 returns-clause-found c =

@@ -1,7 +1,7 @@
 use Rattle.std.proofs.Common.{◌<◌, length, get_or, length-append, arith}
 use Rattle.std.proofs.lemmas.List.{get_or_default, length-map, length-take, length-drop}
 use Rattle.std.proofs.lemmas.List.Edits.{map_over_more}
-use Rattle.tick_split.proofs.workers.work_on.Goals as goal
+use Rattle.tick_split.proofs.pieces.work_on.Goals as goal
 
 pub loop-item-preserved : goal.loop-item-preserved
 loop-item-preserved g c =
