@@ -1,2 +1,3 @@
 mod Known
 mod Asked
+pub mod CallerLemmas

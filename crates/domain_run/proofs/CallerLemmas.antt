@@ -40,6 +40,7 @@ pub use Rattle.domain_run.proofs.Passing.{after_call_behind, after_calls_behind,
 pub use Rattle.domain_run.proofs.ToldIn.{HasKnown, has_call, has_opened}
 pub use Rattle.domain_run.proofs.ToldRising.{IsBeginning, IsEnd, beginning_is, ending_is}
 pub use Rattle.domain_run.proofs.ToldSorted.{pairs_first, pairs_rest, length-in_order}
+pub use Rattle.domain_run.proofs.ToldFew.{ticks_few, told_few, event_few, begun_switches}
 pub use Rattle.domain_run.proofs.Tracing.{AllPairs-append, before_time}
 
 and_left : (a b : Bool) → (a && b) ≡ true → a ≡ true

@@ -52,3 +52,4 @@ pub mod Leaping
 pub mod Leapt
 pub mod Dozing
 pub mod Aside
+pub mod ToldFew

@@ -43,15 +43,12 @@ impl Model for Buffered {
 impl Buffered {
     /// A domain with a buffer for its switches, those so far among them. `Err` where the room was
     /// refused.
-    pub fn of(mut state: State) -> Result<Buffered, NoMemory>
+    pub fn of(state: State) -> Result<Buffered, NoMemory>
         ensures { IfOk result (λ b. b ≡ state) }
     {
-        match state.make_room(PIECE) {
-            Ok(()) => Ok(Buffered { state }),
-            Err(error) => {
-                drop(state);
-                Err(error)
-            }
+        match state.with_room(PIECE) {
+            Ok(state) => Ok(Buffered { state }),
+            Err(error) => Err(error),
         }
     }
 

@@ -1,9 +1,8 @@
 //! A root domain: the state between two ticks, and what changes it.
 
-ghost use Rattle.std.specs.Prelude.{◌≡◌, ◌<◌, ◌≤◌, OnOk, IfOk, length, IsTrue, IfErr};
+ghost use Rattle.std.specs.Prelude.{◌≡◌, ◌<◌, ◌≤◌, OnOk, length, IsTrue, IfErr};
 ghost use Rattle.domain_run.specs.declared.call.Call.TheVariants as Call;
 ghost use Rattle.domain_run.specs.declared.call.Reply.TheVariants as Reply;
-ghost use Rattle.domain_run.specs.Domain.{IsCpus, IsLimit, empty_domain};
 ghost use Rattle.domain_run.specs.Views.{view_in};
 ghost use Rattle.domain_run.specs.Tick as tick;
 ghost use Rattle.domain_run.specs.Calls as calls;
@@ -14,6 +13,7 @@ ghost use Rattle.attr_check.specs.Ratio.{cap};
 mod calls;
 mod cutting;
 mod dozing;
+mod growing;
 mod jumps;
 mod leaping;
 mod lending;
@@ -28,8 +28,7 @@ use crate::roster::Roster;
 use crate::switch::Switch;
 use crate::task::TaskView;
 use attr_check::Params;
-use no_memory::NoMemory;
-use std::alloc::Global;
+use growing::Room;
 use std::marker::Model;
 use task_script::{Name, Script};
 
@@ -42,6 +41,8 @@ pub struct State {
     roster: Roster,
     used: Numbers,
     switches: Vec<Switch>,
+    // For how many switches there is room: what `growing` made, and nobody else.
+    room: Room,
     // Who stands on the CPUs, one after another, where that is listed: a leap needs no list.
     running: Vec<u32>,
     is_listed: bool,
@@ -80,46 +81,10 @@ impl Model for State {
           switches =
               s.switches.items;
         }) s.roster.cpus s.is_listed s.running.items (vec_capacity s.running)
-        (vec_capacity s.switches) };
+        (vec_capacity s.switches) s.room.count };
 }
 
 impl State {
-    /// An empty domain of 1 to 64 CPUs that may give away `limit` of each, 10485 to 1048576 in
-    /// 1/2^20. Room for 256 tasks, for the numbers ever admitted and for the switches of one event
-    /// is made here; after it only [`State::tick`], [`State::begin`], [`State::begin_told`] and
-    /// [`State::leap`] take memory. `Err` where a growth was refused.
-    pub fn open(alloc: Global, cpus: u32, limit: u64) -> Result<State, NoMemory>
-        requires cpus { IsCpus cpus }
-        requires limit { IsLimit limit }
-        ensures { IfOk result (λ s. s ≡ empty_domain cpus limit) }
-    {
-        let cpus = cpus as usize;
-        // The roster comes last, so that there is none to let go of where the room for another part
-        // is refused.
-        let switches = Vec::with_capacity(alloc, cpus)?;
-        // For the prover alone: matched, and not handed on by `?`.
-        let Ok(running) = Vec::with_capacity(alloc, cpus) else {
-            return Err(NoMemory);
-        };
-        let Ok(used) = Numbers::open(alloc) else {
-            return Err(NoMemory);
-        };
-        let Ok(roster) = Roster::open(alloc, cpus) else {
-            return Err(NoMemory);
-        };
-        Ok(State {
-            cpus,
-            limit,
-            time: 0,
-            roster,
-            used,
-            switches,
-            running,
-            is_listed: true,
-            wakeful: 0,
-        })
-    }
-
     /// Microseconds from the beginning; every call is made at this time.
     pub fn now(&self) -> u64
         ensures time { result ≡ self.now.time }

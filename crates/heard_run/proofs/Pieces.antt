@@ -12,13 +12,13 @@ use Rattle.domain_run.specs.Sound.{IsDomain, IsSwitch}
 use Rattle.domain_run.specs.Switches.{is_switch_before}
 use Rattle.domain_run.specs.Tick.{ticks}
 use Rattle.domain_run.specs.Happened.{told_by_ticks}
-use Rattle.domain_run.proofs.CallerLemmas.{ticks_time, ticks_cpus, ticks_behind, told_by_ticks_behind, before_time, AllPairs-append}
+use Rattle.domain_run.proofs.CallerLemmas.{ticks_time, ticks_cpus, ticks_behind, told_by_ticks_behind, before_time, AllPairs-append, ticks_few, told_few}
 use Rattle.jump_run.proofs.CallerLemmas.{ticks_more, told_more}
 use Rattle.run_figures.specs.Accounting.{AccountingView, IsNextPiece, with_piece}
 use Rattle.run_figures.specs.Runs.{AreTasks}
 use Rattle.run_figures.specs.declared.run.Admitted.{Admitted}
 use Rattle.heard_run.specs.Heard.{nothing_heard, heard_after, heard_of}
-use Rattle.heard_run.proofs.Bounded.{few_switches, ticks_few, told_few}
+use Rattle.heard_run.proofs.Bounded.{few_switches}
 use Rattle.heard_run.proofs.Span.{IsWithin, told_within, made_later}
 
 -- ---- so many ticks, and then so many of a domain that has forgotten its switches

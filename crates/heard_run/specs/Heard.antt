@@ -36,3 +36,7 @@ heard_of d told = record {
   happened = told;
   switches = d.switches;
 }
+
+-- THE PIECES in which it is heard: so many switches, or so much that happened, end one
+abbrev pub piece_end : ℕ
+piece_end = 4096

@@ -1,12 +1,15 @@
 //! An advance, heard piece by piece.
 
-ghost use Rattle.std.specs.Prelude.{◌≡◌, ◌≤◌, ◌+◌, ◌^◌, [], map, IfOk};
+ghost use Rattle.std.specs.Prelude.{◌≡◌, ◌<◌, ◌≤◌, ◌+◌, ◌^◌, [], map, IfOk, OnOk, OnErr};
 ghost use Rattle.domain_run.specs.Tick.{ticks as ticks_of};
+ghost use Rattle.domain_run.specs.Happened.{told_by_ticks};
 ghost use Rattle.domain_run.specs.Keys.{AreKept};
+ghost use Rattle.domain_run.specs.Log.{Tells};
 ghost use Rattle.domain_run.specs.Passing.{without_switches};
 ghost use Rattle.run_figures.specs.Accounting.{IsNextPiece, with_piece};
 ghost use Rattle.run_figures.specs.Runs.{AreTasks};
-ghost use Rattle.heard_run.specs.Heard.{nothing_heard, heard_after};
+ghost use Rattle.heard_run.specs.Heard.{nothing_heard, heard_after, piece_end};
+ghost use Rattle.jump_run.specs.Pieces.{IsBounded};
 
 use domain_run::{Log, NoMemory, State};
 use jump_run::{Done, advance_piece};
@@ -67,6 +70,28 @@ fn hear(state: &mut State, log: &mut Log, accounting: &mut Accounting)
     state.forget_switches();
 }
 
+/// The next piece, of so many ticks at most: how many were made, and at least one. `Err` where a
+/// growth was refused before it; nothing has changed then.
+fn next_piece(state: &mut State, n: u64, log: &mut Log) -> Result<u64, NoMemory>
+    requires early { state.old.time + n ≤ 2 ^ 42 }
+    requires some { 0 < n }
+    requires forgotten { state.old.switches ≡ [] }
+    requires empty { log.old.happened ≡ [] }
+    ensures some { IfOk result (λ made. 0 < made) }
+    ensures most { IfOk result (λ made. made ≤ n) }
+    ensures ok { IfOk result (λ made. state.new ≡ ticks_of made state.old) }
+    ensures err { OnErr result (state.new ≡ state.old) }
+    ensures keys { AreKept state.old.tasks state.new.tasks }
+    ensures told { IfOk result (λ made. Tells log.old (told_by_ticks made state.old) log.new) }
+    ensures bounded { OnOk result (IsBounded piece_end state.new log.new) }
+{
+    let piece = advance_piece(state, n, ENOUGH, log);
+    if piece.is_refused && piece.ticks == 0 {
+        return Err(NoMemory);
+    }
+    Ok(piece.ticks)
+}
+
 /// Goes on by so many ticks, as [`advance_told`](jump_run::advance_told) does with a log of its
 /// own, while the accounting hears the run: first the switches so far, and then, piece by piece,
 /// what happens in these ticks and the switches that they make. State and log forget what was
@@ -89,10 +114,9 @@ pub fn advance_heard(alloc: Global, state: &mut State, n: u64, accounting: &mut 
     hear(state, &mut log, accounting);
     let mut ticks = 0;
     'pieces: while ticks < n {
-        let made = advance_piece(state, n - ticks, ENOUGH, &mut log).ticks;
-        if made == 0 {
+        let Ok(made) = next_piece(state, n - ticks, &mut log) else {
             break;
-        }
+        };
         let _ = state.now();
         hear(state, &mut log, accounting);
         ticks += made;

@@ -1,4 +1,5 @@
 pub mod Ticks
 pub mod Gathering
 pub mod Crewing
+pub mod Piecing
 pub mod CallerLemmas

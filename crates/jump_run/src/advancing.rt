@@ -1,10 +1,11 @@
 //! From event to event.
 
-ghost use Rattle.std.specs.Prelude.{◌≡◌, [], ◌<◌, ◌≤◌, ◌^◌, ◌+◌, IfOk, OnErr, vec_capacity};
+ghost use Rattle.std.specs.Prelude.{◌≡◌, [], true, false, ◌<◌, ◌≤◌, ◌^◌, ◌+◌, ◌⊎◌, IfOk, OnErr, vec_capacity};
 ghost use Rattle.domain_run.specs.Tick.{ticks as ticks_of};
 ghost use Rattle.domain_run.specs.Happened.{told_by_ticks};
 ghost use Rattle.domain_run.specs.Keys.{AreKept};
 ghost use Rattle.domain_run.specs.Log.{Tells};
+ghost use Rattle.jump_run.specs.Pieces as piece;
 
 use crate::alone;
 use crate::crew::{self, Crew, Lists};
@@ -20,6 +21,20 @@ use tick_split::Turn;
 #[derive(Clone, Copy, PartialEq, Eq)]
 pub struct Done {
     pub ticks: u64,
+}
+
+/// How many ticks a piece made, and whether a growth was refused, which ended it.
+#[derive(Clone, Copy)]
+pub struct Piece {
+    pub ticks: u64,
+    pub is_refused: bool,
+}
+
+/// What an advance made that was one piece.
+fn made_by(piece: Piece) -> Done
+    ensures { result.ticks ≡ piece.ticks }
+{
+    Done { ticks: piece.ticks }
 }
 
 /// One event and the ticks up to the next, which the log is told: how many they were. `Err` where
@@ -40,6 +55,7 @@ fn jump<G: Turn>(
     ensures keys { AreKept state.old.tasks state.new.tasks }
     ensures told { IfOk result (λ made. Tells log.old (told_by_ticks made state.old) log.new) }
     ensures untold { OnErr result (Tells log.old [] log.new) }
+    ensures event { IfOk result (λ _. piece.AddsAnEvent state.old log.old state.new log.new) }
 {
     state.begin_told(log)?;
     let span = alone::make(state, most, room, turn);
@@ -77,27 +93,44 @@ fn jump_with<R: Threads + Wait, G: Turn>(
 }
 
 /// Whether the switches of a state, or what a log was told, are so many by now.
-fn has_enough(state: &State, log: &Log, enough: usize) -> bool {
+fn has_enough(state: &State, log: &Log, enough: usize) -> bool
+    ensures { result ≡ piece.has_enough enough state.now log.now }
+{
     state.switches().len() >= enough || log.happened().len() >= enough
 }
 
 /// As [`advance_piece`], with the turns of one piece.
-fn advance_alone<G: Turn>(state: &mut State, n: u64, turn: &G, enough: usize, log: &mut Log) -> Done
+fn advance_alone<G: Turn>(
+    state: &mut State,
+    n: u64,
+    turn: &G,
+    enough: usize,
+    log: &mut Log,
+) -> Piece
     requires { state.old.time + n ≤ 2 ^ 42 }
     ensures state { state.new ≡ ticks_of result.ticks state.old }
     ensures most { result.ticks ≤ n }
     ensures keys { AreKept state.old.tasks state.new.tasks }
     ensures told { Tells log.old (told_by_ticks result.ticks state.old) log.new }
+    ensures ended { result.is_refused ≡ false
+        → (result.ticks ≡ n) ⊎ (piece.has_enough enough state.new log.new ≡ true) }
+    ensures bounded { 0 < result.ticks → piece.IsBounded enough state.new log.new }
 {
     let mut room = Room::new();
     let mut ticks = 0;
     'events: while ticks < n && !has_enough(state, log, enough) {
         let Ok(made) = jump(state, n - ticks, &mut room, turn, log) else {
-            break;
+            return Piece {
+                ticks,
+                is_refused: true,
+            };
         };
         ticks += made;
     }
-    Done { ticks }
+    Piece {
+        ticks,
+        is_refused: false,
+    }
 }
 
 /// As [`advance_told`], by several workers.
@@ -161,19 +194,24 @@ pub fn advance_told(state: &mut State, n: u64, log: &mut Log) -> Done
     if !log.is_wanted() {
         return advance(state, n);
     }
-    advance_piece(state, n, usize::MAX, log)
+    made_by(advance_piece(state, n, usize::MAX, log))
 }
 
 /// As [`advance_told`], but no event more is made once the state has `enough` switches or the log
 /// was told of `enough`, what it was told before among them: so what both hold stays bounded,
-/// however much happens. Where both have fewer at first, at least one tick is made, or a growth was
-/// refused.
-pub fn advance_piece(state: &mut State, n: u64, enough: usize, log: &mut Log) -> Done
+/// however much happens. Unless a growth was refused, it ends there or with all ticks made. Where
+/// both have fewer at first, at least one tick is made then.
+pub fn advance_piece(state: &mut State, n: u64, enough: usize, log: &mut Log) -> Piece
     requires { state.old.time + n ≤ 2 ^ 42 }
     ensures state { state.new ≡ ticks_of result.ticks state.old }
     ensures most { result.ticks ≤ n }
     ensures keys { AreKept state.old.tasks state.new.tasks }
     ensures told { Tells log.old (told_by_ticks result.ticks state.old) log.new }
+    ensures ended { result.is_refused ≡ false
+        → (result.ticks ≡ n) ⊎ (piece.has_enough enough state.new log.new ≡ true) }
+    ensures progress { result.is_refused ≡ false → 0 < n
+        → piece.has_enough enough state.old log.old ≡ false → 0 < result.ticks }
+    ensures bounded { 0 < result.ticks → piece.IsBounded enough state.new log.new }
 {
     advance_alone(state, n, &Silent, enough, log)
 }
@@ -222,10 +260,10 @@ pub fn advance_with_told<R: Threads + Wait, G: Turn>(
     ensures told { Tells log.old (told_by_ticks result.ticks state.old) log.new }
 {
     let Some(crew) = Crew::of(rt, alloc, workers, turn) else {
-        return advance_alone(state, n, turn, usize::MAX, log);
+        return made_by(advance_alone(state, n, turn, usize::MAX, log));
     };
     let Ok(lists) = crew.lists() else {
-        return advance_alone(state, n, turn, usize::MAX, log);
+        return made_by(advance_alone(state, n, turn, usize::MAX, log));
     };
     advance_by(&crew, state, n, lists, log)
 }

@@ -12,6 +12,8 @@ mod crew;
 mod plan;
 mod silent;
 
-pub use advancing::{Done, advance, advance_piece, advance_told, advance_with, advance_with_told};
+pub use advancing::{
+    Done, Piece, advance, advance_piece, advance_told, advance_with, advance_with_told,
+};
 pub use silent::Silent;
 pub use tick_split::Turn;

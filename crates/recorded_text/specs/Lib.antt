@@ -4,5 +4,6 @@ pub mod Views
 pub mod Names
 pub mod Steps
 pub mod Text
+pub mod Reads
 pub mod Examples
 pub mod private

@@ -122,12 +122,21 @@ unfoldable pub without_colon : List ℕ → Option (List ℕ)
 without_colon text =
     last_cut (codes ":") (end_trimmed text) >>= λ q. if length q.1 == 0 then Some q.0 else None
 
--- what stands before the event, up to the colon of its time, and the event's fields. No name of a
--- task is as long as either mark, so none is taken for one
+-- what precedes the event, up to the colon of its time, and the event's fields: by perf's mark or
+-- by ftrace's, whichever comes first. No name of a task is as long as either mark, so none is taken
+-- for one
+unfoldable pub by_first_mark : Option (List ℕ × List ℕ) → Option (List ℕ × List ℕ)
+    → Option (List ℕ × List ℕ)
+by_first_mark None ftrace = ftrace
+by_first_mark (Some p) None = option_map (λ head. (head, p.1)) (without_colon p.0)
+by_first_mark (Some p) (Some q) =
+    if nat_lt (length q.0) (length p.0) then Some q
+    else option_map (λ head. (head, p.1)) (without_colon p.0)
+
 unfoldable pub event_and_rest : List ℕ → Option (List ℕ × List ℕ)
 event_and_rest line =
-    option_map_or (λ p. option_map (λ head. (head, p.1)) (without_colon p.0))
-    (first_cut (codes "sched:sched_switch: ") line) (first_cut (codes ": sched_switch: ") line)
+    by_first_mark (first_cut (codes "sched:sched_switch: ") line)
+    (first_cut (codes ": sched_switch: ") line)
 
 -- the switch, where the CPU and the fields are there
 unfoldable pub timed_at : ℕ → List ℕ → List ℕ → LineView

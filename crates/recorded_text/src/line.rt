@@ -176,17 +176,22 @@ fn up_to_colon(text: &[u8]) -> Option<&[u8]>
     if rest.is_empty() { Some(head) } else { None }
 }
 
-/// What stands before the event, and its fields.
-#[tactic(auto, unfolding(crate::specs::Line::event_and_rest))]
+/// What stands before the event, and its fields, by the mark of `perf script` or that of ftrace,
+/// whichever comes first.
+#[tactic(auto, unfolding(crate::specs::Line::event_and_rest, crate::specs::Line::by_first_mark))]
 fn event_of(line: &[u8]) -> Option<(&[u8], &[u8])>
     ensures { option_map (λ p. (p.0.now, p.1.now)) result ≡ event_and_rest line.now }
 {
-    match cut_first(line, b"sched:sched_switch: ") {
-        Some((head, tail)) => match up_to_colon(head) {
+    let by_ftrace = cut_first(line, b": sched_switch: ");
+    let Some((before, tail)) = cut_first(line, b"sched:sched_switch: ") else {
+        return by_ftrace;
+    };
+    match by_ftrace {
+        Some((head, rest)) if head.len() < before.len() => Some((head, rest)),
+        _ => match up_to_colon(before) {
             Some(head) => Some((head, tail)),
             None => None,
         },
-        None => cut_first(line, b": sched_switch: "),
     }
 }
 

@@ -1,10 +1,12 @@
 //! A whole recording.
 
 ghost use Rattle.std.specs.Prelude.{◌≡◌, ◌+◌, ◌<◌, ◌≤◌, ◌^◌, ◌++◌, [], List, ℕ, false, map, length, All, IfSome, IfOk, IfErr, OnOk};
-ghost use Rattle.counted_io.specs.Sides.{inner_of, faults_of};
+ghost use Rattle.counted_io.specs.declared.call.Call.{Call};
+ghost use Rattle.counted_io.specs.Sides.{inner_of, port_calls, faults_of};
 ghost use Rattle.recorded_text.specs.Names.{Grows, with_next, names_on};
 ghost use Rattle.recorded_text.specs.Views.{switch_view};
 ghost use Rattle.recorded_text.specs.Text.{is_bad_line, switches_in_line, IsRead, IsRecordedFault, is_read, recorded_faults_after};
+ghost use Rattle.recorded_text.specs.Reads.{AreReadsOf, is_endless};
 ghost use Rattle.recorded_text.specs.Steps.{step_view, IsNamed, AreNamed};
 ghost use Rattle.recorded_text.specs.private.SoFar.{Lacks, IsReadSoFar, LineFails, BringsOn};
 
@@ -127,6 +129,7 @@ fn take_piece(
         BringsOn first names.old (map (step_view names.old) steps.old.items)
         → BringsOn first names.new (map (step_view names.new) steps.new.items)) }
     ensures not_read { IfErr result (λ e. is_read e ≡ false) }
+    ensures not_endless { IfErr result (λ e. is_endless e ≡ false) }
     ensures rest { OnOk result (Lacks 10 rest.new.items) }
     ensures named { OnOk result (AreNamed names.new steps.new.items) }
     ensures few { OnOk result (lines.new ≤ lines.old + length piece.now) }
@@ -173,6 +176,8 @@ pub fn read_switches<R: Read>(
         IsRecordedFault text e)) }
     ensures grows { Grows names.old names.new }
     ensures faults { faults_of reader.new ≡ recorded_faults_after (faults_of reader.old) result }
+    ensures asked { (calls : List Call)
+        × (port_calls reader.new ≡ port_calls reader.old ++ calls) × AreReadsOf calls result }
 {
     let mut steps = Vec::new(alloc);
     let mut rest = Vec::new(alloc);

@@ -1,11 +1,13 @@
 //! The figures of a run that is heard piece by piece.
 
-ghost use Rattle.std.specs.Prelude.{◌≡◌, ◌≤◌, ◌^◌, [], IfOk, All, map};
+ghost use Rattle.std.specs.Prelude.{◌≡◌, IfOk, All, map, vec_capacity};
 ghost use Rattle.run_figures.specs.Accounting.{IsNextPiece, heard_run, with_piece};
 ghost use Rattle.run_figures.specs.Figures as figures;
 ghost use Rattle.run_figures.specs.Laws as laws;
 ghost use Rattle.run_figures.specs.Runs.{AreTasks, IsBoundedRun, run_view_of};
 ghost use Rattle.run_figures.specs.private.Keeping as keeping;
+
+mod opening;
 
 use crate::figures::Summary;
 use crate::past::Past;
@@ -13,9 +15,10 @@ use crate::places::Places;
 use crate::ran::{Tables, put_switch};
 use crate::run::{Admitted, Run};
 use crate::summary::{all_figures, cpu_figures};
-use crate::telling::{tell_all, tell_switch, tell_until, untold_all};
+use crate::telling::{tell_all, tell_switch, tell_until};
 use crate::told::Told;
 use domain_run::{Happened, NoMemory, Switch};
+use opening::Rooms;
 use std::alloc::Global;
 use std::marker::Model;
 
@@ -38,11 +41,14 @@ pub struct Accounting {
     places: Places,
     told: Vec<Told>,
     ran: Tables,
+    // What these lists had when they were made, so that no call but that one takes memory.
+    rooms: Rooms,
 }
 
 impl Model for Accounting {
+    ghost use Rattle.std.specs.Prelude.{vec_capacity};
     ghost use Rattle.run_figures.specs.Accounting.{AccountingView};
-    ghost use Rattle.run_figures.specs.private.Keeping.{IsAccountingKept, IsOfRun, accounting_view_of};
+    ghost use Rattle.run_figures.specs.private.Keeping.{HaveRooms, IsAccountingKept, IsOfRun, accounting_view_of};
 
     ghost Value = { AccountingView };
 
@@ -50,7 +56,9 @@ impl Model for Accounting {
 
     ghost invariant = { λ a. IsAccountingKept (accounting_view_of a.heard a.places) a.told.items
         a.ran.tasks.items a.ran.cpus.items
-        × IsOfRun (accounting_view_of a.heard a.places) };
+        × IsOfRun (accounting_view_of a.heard a.places)
+        × HaveRooms (vec_capacity a.told) (vec_capacity a.ran.tasks) (vec_capacity a.ran.cpus)
+        a.rooms };
 }
 
 /// Hears one piece more: each switch behind what happened up to its time.
@@ -68,9 +76,12 @@ fn hear_piece(
     requires run { keeping.IsOfRun (keeping.accounting_view_of heard.now places.now) }
     requires next { IsNextPiece (keeping.accounting_view_of heard.now places.now) happened.now
         switches.now }
-    ensures { keeping.IsAccountingKept
+    ensures kept { keeping.IsAccountingKept
         (with_piece (keeping.accounting_view_of heard.now places.now) happened.now switches.now)
         told.new.items ran.new.tasks.items ran.new.cpus.items }
+    ensures same_told_room { vec_capacity told.new ≡ vec_capacity told.old }
+    ensures same_tasks_room { vec_capacity ran.new.tasks ≡ vec_capacity ran.old.tasks }
+    ensures same_cpus_room { vec_capacity ran.new.cpus ≡ vec_capacity ran.old.cpus }
 {
     let mut from = 0;
     for switch in switches {
@@ -82,41 +93,6 @@ fn hear_piece(
 }
 
 impl Accounting {
-    /// Of a run of which nothing was heard yet: its domain has this many CPUs, at most 64, it will
-    /// end at this time, at most 2^42 us, and these are its tasks.
-    ///
-    /// # Errors
-    /// 12 [`NoMemory`]: a growth was refused; nothing is left.
-    pub fn open(
-        alloc: Global,
-        cpus: u32,
-        end: u64,
-        tasks: &[Admitted],
-    ) -> Result<Accounting, NoMemory>
-        requires cpus { cpus ≤ 64 }
-        requires early { end ≤ 2 ^ 42 }
-        requires tasks { AreTasks tasks.now }
-        ensures { IfOk result (λ a. a ≡ record {
-          cpus = cpus;
-          time = end;
-          tasks = map (λ t. t.number) tasks.now;
-          happened = [];
-          switches = [];
-        }) }
-    {
-        Ok(Accounting {
-            places: Places::of(alloc, tasks)?,
-            told: untold_all(alloc, tasks)?,
-            ran: Tables::open(alloc, cpus, tasks)?,
-            heard: Heard {
-                cpus,
-                time: end,
-                happened: Past::new(),
-                switches: Past::new(),
-            },
-        })
-    }
-
     /// Hears the next piece: what happened and the switches, both in their order. Takes no memory.
     ///
     /// A run is cut into pieces between two ticks: what was heard is not later than the switches of

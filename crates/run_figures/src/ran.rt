@@ -1,7 +1,7 @@
 //! The time on CPUs, told from the first switch to the last. Who has a CPU is told as if it kept it
 //! to the end of the run; the rest is taken back at the switch by which it leaves.
 
-ghost use Rattle.std.specs.Prelude.{◌≡◌, ◌-◌, ◌*◌, ◌<◌, ◌≤◌, ◌^◌, IfOk, All, map, length, slice_index_or};
+ghost use Rattle.std.specs.Prelude.{◌≡◌, ◌-◌, ◌*◌, ◌<◌, ◌≤◌, ◌^◌, IfOk, All, map, length, slice_index_or, vec_capacity};
 ghost use Rattle.std.specs.List.{range_with_len};
 ghost use Rattle.run_figures.specs.private.Running as running;
 
@@ -91,8 +91,9 @@ fn put_stay(table: &mut Vec<Ran>, places: &Places, switch: &Switch, us: u64)
     requires keyed { map (λ r. r.number) table.old.items ≡ places.now }
     requires time { All (λ r. r.cpu_us ≤ (2 ^ 64 - 2) * 2 ^ 64) table.old.items }
     requires moves { All (λ r. r.migrated ≤ 2 ^ 64 - 2) table.old.items }
-    ensures { table.new.items
+    ensures stay { table.new.items
         ≡ map (running.with_stay_of switch.now.next switch.now.cpu us) table.old.items }
+    ensures same_room { vec_capacity table.new ≡ vec_capacity table.old }
 {
     let Some(number) = switch.next() else {
         return;
@@ -106,7 +107,8 @@ fn put_stay(table: &mut Vec<Ran>, places: &Places, switch: &Switch, us: u64)
 /// Without the rest of the last stay of the task that had a CPU.
 fn take_rest(table: &mut Vec<Ran>, places: &Places, task: Option<u32>, us: u64)
     requires keyed { map (λ r. r.number) table.old.items ≡ places.now }
-    ensures { table.new.items ≡ map (running.without_rest_of task us) table.old.items }
+    ensures rest { table.new.items ≡ map (running.without_rest_of task us) table.old.items }
+    ensures same_room { vec_capacity table.new ≡ vec_capacity table.old }
 {
     let Some(number) = task else {
         return;
@@ -192,6 +194,8 @@ pub(crate) fn put_switch(tables: &mut Tables, places: &Places, switch: &Switch, 
         tables.old.tasks.items) }
     ensures cpus { tables.new.cpus.items
         ≡ map (running.with_switch_on switch.now (end - switch.now.time)) tables.old.cpus.items }
+    ensures same_tasks_room { vec_capacity tables.new.tasks ≡ vec_capacity tables.old.tasks }
+    ensures same_cpus_room { vec_capacity tables.new.cpus ≡ vec_capacity tables.old.cpus }
 {
     let cpu = switch.cpu() as usize;
     let before = tables.cpus[cpu];

@@ -1,6 +1,6 @@
 //! What happened and who was preempted, told of all tasks at once.
 
-ghost use Rattle.std.specs.Prelude.{ℕ, ◌≡◌, ◌-◌, ◌+◌, ◌≤◌, ◌^◌, nat_le, IfOk, All, map, length, take};
+ghost use Rattle.std.specs.Prelude.{ℕ, ◌≡◌, ◌-◌, ◌+◌, ◌≤◌, ◌^◌, nat_le, IfOk, All, map, length, take, vec_capacity};
 ghost use Rattle.std.specs.List.{prefix_len};
 ghost use Rattle.run_figures.specs.private.Telling as telling;
 
@@ -18,6 +18,7 @@ fn tell(told: &mut Vec<Told>, places: &Places, happened: &Happened, time: u64)
         ≡ map (λ t. telling.told_to_task time t happened.now) told.old.items }
     ensures within { (n : ℕ) → All (telling.IsToldWithin n) told.old.items
         → All (telling.IsToldWithin (n + 1)) told.new.items }
+    ensures same_room { vec_capacity told.new ≡ vec_capacity told.old }
 {
     if let Some(place) = places.find(happened.number) {
         let after = told_after(&told[place], happened, time);
@@ -40,6 +41,7 @@ pub(crate) fn tell_until(
     ensures count { result ≡ prefix_len (λ h. nat_le h.time time) happened.now }
     ensures within { (n : ℕ) → All (telling.IsToldWithin n) told.old.items
         → All (telling.IsToldWithin (n + result)) told.new.items }
+    ensures same_room { vec_capacity told.new ≡ vec_capacity told.old }
 {
     let mut count = 0;
     for entry in happened {
@@ -59,6 +61,7 @@ pub(crate) fn tell_all(told: &mut Vec<Told>, places: &Places, happened: &[Happen
     ensures told { told.new.items ≡ map (telling.told_all end happened.now) told.old.items }
     ensures within { (n : ℕ) → All (telling.IsToldWithin n) told.old.items
         → All (telling.IsToldWithin (n + length happened.now)) told.new.items }
+    ensures same_room { vec_capacity told.new ≡ vec_capacity told.old }
 {
     for entry in happened {
         tell(told, places, entry, end);
@@ -72,6 +75,7 @@ pub(crate) fn tell_switch(told: &mut Vec<Told>, places: &Places, switch: &Switch
     ensures told { told.new.items ≡ map (telling.with_preemption switch.now) told.old.items }
     ensures within { (n : ℕ) → All (telling.IsToldWithin n) told.old.items
         → All (telling.IsToldWithin n) told.new.items }
+    ensures same_room { vec_capacity told.new ≡ vec_capacity told.old }
 {
     let Some(number) = preempted_by(switch) else {
         return;

@@ -105,14 +105,19 @@ pub record HasTurned (place number cpu : ℕ) (before after : Standing) (old new
   pub due : ((before.due ≡ after.due) × (new.timers ≡ old.timers))
       ⊎ (new.timers ≡ slice_set old.timers place after.due)
 
+-- room for the switches of one event at least, and no more than is noted
+pub record IsRoom (cpus capacity noted : ℕ) : Type 0 where
+  pub event : cpus ≤ capacity
+  pub exact : capacity ≡ noted
+
 -- what a state keeps: a domain, whose CPUs its roster has too, who stands on its CPUs, where that
 -- is listed, and for that list the room for so many that it was opened with, so it takes no more.
--- Its switches have the room of one event's at least, so where none waits there is room for an
--- event
+-- Its switches have the room that it notes, of one event's at least, so where none waits there is
+-- room for an event
 pub record IsState (d : Domain) (cpus : ℕ) (is_listed : Bool) (running : List ℕ)
-    (running_capacity switch_capacity : ℕ) : Type 0 where
+    (running_capacity switch_capacity room : ℕ) : Type 0 where
   pub domain : IsDomain d
   pub wide : cpus ≡ d.cpus
   pub running_is : is_listed ≡ true → running ≡ running_numbers d.curr
   pub running_room : running_capacity ≡ d.cpus
-  pub switch_room : d.cpus ≤ switch_capacity
+  pub switch_room : IsRoom d.cpus switch_capacity room

@@ -41,33 +41,6 @@ impl State {
         true
     }
 
-    /// As [`State::begin_told`], but who stands on the CPUs is not listed where that has changed.
-    #[inline(always)]
-    pub(super) fn begin_unlisted(&mut self, log: &mut Log) -> Result<(), NoMemory>
-        requires { self.old.time < 2 ^ 42 }
-        ensures ok { OnOk result (self.new ≡ jump.under_way self.old) }
-        ensures begun { OnOk result (jump.IsUnderWay self.new) }
-        ensures err { OnErr result (self.new ≡ self.old) }
-        ensures domain { IsDomain self.old }
-        ensures told { OnOk result (Tells log.old (told_by_beginning self.old) log.new) }
-        ensures room { OnOk result (HasRoomToEnd log.new) }
-        ensures untold { OnErr result (Tells log.old [] log.new) }
-    {
-        // For the prover alone: matched, and not handed on by `?`.
-        let Ok(()) = self.make_room(0) else {
-            return Err(NoMemory);
-        };
-        let Ok(()) = log.make_room(9 * self.roster.len() + 192) else {
-            return Err(NoMemory);
-        };
-        if self.begin_in_room(log) {
-            Ok(())
-        } else {
-            // Never: the room is there.
-            Err(NoMemory)
-        }
-    }
-
     /// Who stands on the CPUs is listed.
     fn list_running(&mut self)
         ensures { self.new ≡ self.old }
@@ -173,6 +146,7 @@ impl State {
             → Tells log.old (told_by_last_end ticks d) log.new }
         ensures quiet { (d : Domain) → self.old ≡ jump.under_way d
             → told_by_ticks ticks d ≡ told_by_beginning d ++ told_by_last_end ticks d }
+        ensures switches { self.new.switches ≡ self.old.switches }
     {
         relist(&mut self.running, self.is_listed, self.roster.occupants());
         self.is_listed = true;

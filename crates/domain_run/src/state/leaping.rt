@@ -1,6 +1,6 @@
 //! From event to event in one call.
 
-ghost use Rattle.std.specs.Prelude.{◌≡◌, [], true, false, ◌<◌, ◌≤◌, ◌^◌, ◌+◌, IfOk, OnOk, OnErr};
+ghost use Rattle.std.specs.Prelude.{◌≡◌, [], true, false, ◌<◌, ◌≤◌, ◌^◌, ◌+◌, IfOk, OnErr};
 ghost use Rattle.domain_run.specs.Domain.{Domain};
 ghost use Rattle.domain_run.specs.Jump as jump;
 ghost use Rattle.domain_run.specs.Keys.{AreKept};
@@ -56,27 +56,6 @@ impl State {
         self.is_listed = are_still_listed(self.is_listed, changed);
         self.time += 1;
         true
-    }
-
-    /// As `begin_seated`, where room for the switches is made first: on `Err` nothing has changed.
-    #[inline(always)]
-    fn begin_seated_anew(&mut self) -> Result<(), NoMemory>
-        requires { self.old.time < 2 ^ 42 }
-        ensures ok { OnOk result (self.new ≡ jump.under_way self.old) }
-        ensures begun { OnOk result (jump.IsUnderWay self.new) }
-        ensures err { OnErr result (self.new ≡ self.old) }
-        ensures domain { IsDomain self.old }
-    {
-        // For the prover alone: matched, and not handed on by `?`.
-        let Ok(()) = self.make_room(0) else {
-            return Err(NoMemory);
-        };
-        if self.begin_seated() {
-            Ok(())
-        } else {
-            // Never: the room is there.
-            Err(NoMemory)
-        }
     }
 
     /// As [`State::leap_in_room`], by one event.

@@ -5,28 +5,31 @@ use domain_run::{Event, Reply};
 use std::alloc::AllocError;
 use std::test::Fail;
 
-/// Each call once, with its answer; task 1 waits. The room for switches is what it was. The state's
-/// other room is kept by its types.
+/// Each call once, with its answer; task 1 waits, and task 2 runs. Its switch fills the room, so a
+/// call that asked for a place more would find none. The room for switches is what it was. The
+/// state's other room is kept by its types.
 ///
-/// All that takes memory is made before the calls, in 23 requests, and one request is made behind
-/// them. So with the 24th refused (`rt try --test --fail-alloc 24`) the last assertion fails, since
+/// All that takes memory is made before the calls, in 27 requests, and one request is made behind
+/// them. So with the 28th refused (`rt try --test --fail-alloc 28`) the last assertion fails, since
 /// that is the one behind: the calls asked for none.
 #[test]
 fn calls_take_no_memory(rt: HostRuntime) -> Result<(), Fail> {
     let waiting = forever((2, 8, 8), &[Event::Wait]);
+    let running = forever((2, 8, 8), &[Event::Run(2), Event::Timer(8)]);
     let given = params(waiting.times)?;
-    let mut states = admitted(rt.alloc(), 1, &[waiting])?;
+    let mut states = admitted(rt.alloc(), 1, &[waiting, running])?;
     let state = &mut states[0];
     single_ticks(state, 1)?;
     let script = script(rt.alloc(), waiting)?;
     let name = name(rt.alloc())?;
     let before = state.room();
-    assert!(rt; state.admit(2, name, given, 0, script).is_ok());
+    assert!(rt; state.switches().len() == before);
+    assert!(rt; state.admit(3, name, given, 0, script).is_ok());
     let replies = [
         state.regrade(1, given, None),
         state.wake(1),
         state.leave(1),
-        state.depart(2),
+        state.depart(3),
         state.set_limit(524288, None),
     ];
     let wanted = [
@@ -37,6 +40,7 @@ fn calls_take_no_memory(rt: HostRuntime) -> Result<(), Fail> {
         Reply::Set,
     ];
     assert!(rt; replies == wanted);
+    assert!(rt; state.room() == before);
     state.forget_switches();
     assert!(rt; state.room() == before);
     let block: Result<Vec<u8>, AllocError> = Vec::with_capacity(rt.alloc(), 1);

@@ -4,7 +4,7 @@ use super::three;
 use crate::seen::InOrder;
 use crate::workers::{admit, admitted, forever};
 use domain_run::{Event, State};
-use jump_run::{Done, Silent, Turn, advance_with};
+use jump_run::{Done, Silent, Turn, advance, advance_with};
 use std::alloc::Global;
 use std::sync::Wait;
 use std::test::Fail;
@@ -24,10 +24,17 @@ pub(super) fn advanced<R: Threads + Wait, G: Turn>(
     advance_with(rt, alloc, state, ticks.min(left), workers.max(1), turn)
 }
 
+/// So many ticks, by leaps.
+fn leapt(state: &mut State, ticks: u64) -> Done {
+    let left = (1_u64 << 42).saturating_sub(state.now());
+    advance(state, ticks.min(left))
+}
+
 const FOUR_OF_32_US: [Event; 2] = [Event::Run(4), Event::Timer(32)];
 
-/// An advance of 2100 ticks of two tasks, each admitted at this time: how many were made, whether
-/// the clock says so, and whether there were many events.
+/// An advance of 2100 ticks of two tasks, each admitted at this time, by so many workers, or by
+/// leaps where there is none: how many were made, whether the clock says so, and whether there were
+/// many events.
 fn made_from<R: Threads + Wait>(
     rt: &R,
     alloc: Global,
@@ -41,7 +48,10 @@ fn made_from<R: Threads + Wait>(
         let worker = forever((4, 32, 32), &FOUR_OF_32_US);
         admit(alloc, state, number, worker)?;
     }
-    let done = advanced(rt, alloc, state, 2100, workers, &Silent);
+    let done = match workers {
+        0 => leapt(state, 2100),
+        _ => advanced(rt, alloc, state, 2100, workers, &Silent),
+    };
     let told = state.now() == start.wrapping_add(done.ticks);
     Ok((done.ticks, told, state.switches().len() > 200))
 }
@@ -49,7 +59,7 @@ fn made_from<R: Threads + Wait>(
 /// Each advance makes all that it was asked for, also up to the end of time.
 #[test]
 fn all_ticks_of_a_call(rt: HostRuntime) -> Result<(), Fail> {
-    for workers in 1..9 {
+    for workers in 0..9 {
         for start in [0, (1 << 42) - 2100] {
             let made = made_from(&rt, rt.alloc(), start, workers)?;
             assert!(rt;

@@ -6,6 +6,7 @@ use Rattle.run_figures.specs.declared.told.Told.{Told}
 use Rattle.run_figures.specs.declared.ran.Ran.{Ran}
 use Rattle.run_figures.specs.declared.ran.Cpu.{Cpu}
 use Rattle.run_figures.specs.declared.accounting.Heard.{Heard}
+use Rattle.run_figures.specs.declared.accounting.opening.Rooms.{Rooms}
 use Rattle.run_figures.specs.Accounting.{AccountingView}
 use Rattle.run_figures.specs.private.Telling.{told_by, IsToldWithin}
 use Rattle.run_figures.specs.private.Running.{ran_by, cpu_by}
@@ -36,3 +37,9 @@ pub record IsOfRun (a : AccountingView) : Type 0 where
   pub rising : AllPairs (λ a b. IsTrue (is_switch_before a b)) a.switches
   pub few_happened : length a.happened < 2 ^ 64 - 1
   pub few_switches : length a.switches < 2 ^ 64 - 1
+
+-- its lists have the room with which they were made
+pub record HaveRooms (told tasks cpus : ℕ) (rooms : Rooms) : Type 0 where
+  pub told_room : told ≡ rooms.told
+  pub tasks_room : tasks ≡ rooms.tasks
+  pub cpus_room : cpus ≡ rooms.cpus

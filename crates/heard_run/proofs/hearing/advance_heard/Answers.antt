@@ -28,25 +28,31 @@ pieces-init c =
       keys = subst (λ (x : Domain). AreKept d.tasks x.tasks) (sym c.hear.ensures.state) (kept_itself d.tasks);
     }
 
-pub advance_piece-made-requires : goal.advance_piece-made-requires
-advance_piece-made-requires c =
+pub next_piece-requires-clause-early : goal.next_piece-requires-clause-early
+next_piece-requires-clause-early c =
     let inv = c.pieces.invariant in
     let time = ap (λ (x : Domain). x.time) inv.heard.state ∙ ticks_time c.pieces.ticks c.args.state.now in
     omega (arith, time, c.requires.early, inv.most, c.pieces-test.true)
+
+pub next_piece-requires-clause-forgotten : goal.next_piece-requires-clause-forgotten
+next_piece-requires-clause-forgotten c = ap (λ (x : Domain). x.switches) c.pieces.invariant.heard.state
+
+pub next_piece-requires-clause-empty : goal.next_piece-requires-clause-empty
+next_piece-requires-clause-empty c = c.pieces.invariant.heard.empty
 
 pub hear-requires-in-pieces : goal.hear-requires-in-pieces
 hear-requires-in-pieces c =
     let inv = c.pieces.invariant in
     let d = c.args.state.now in
     let k = c.pieces.ticks in
-    let made = c.advance_piece-made in
-    let m = made.result.ticks in
+    let made = c.next_piece in
+    let m = c.in-Ok.made in
     let e = c.pieces.state in
-    let most : k + m ≤ c.args.n = omega (arith, made.ensures.most, c.pieces-test.true) in
-    let told = told_alone (told_by_ticks m e) c.pieces.log made.new.log inv.heard.wanted inv.heard.empty made.ensures.told in
+    let most : k + m ≤ c.args.n = omega (arith, c.in-Ok.ensures.most, c.pieces-test.true) in
+    let told = told_alone (told_by_ticks m e) c.pieces.log made.new.log inv.heard.wanted inv.heard.empty c.in-Ok.ensures.told in
     record {
       next = next_as c.pieces.accounting _ made.new.log.happened (told_by_ticks m e) made.new.state.switches inv.heard.heard told.1
-          (next_piece c.args.n k m d e made.new.state c.now.ensures.domain c.now-in-pieces.ensures.domain c.requires.early most inv.heard.switches inv.heard.state made.ensures.state);
+          (next_piece c.args.n k m d e made.new.state c.now.ensures.domain c.now-in-pieces.ensures.domain c.requires.early most inv.heard.switches inv.heard.state c.in-Ok.ensures.ok);
     }
 
 pub pieces-preserved : goal.pieces-preserved
@@ -54,14 +60,14 @@ pieces-preserved c =
     let inv = c.pieces.invariant in
     let d = c.args.state.now in
     let k = c.pieces.ticks in
-    let made = c.advance_piece-made in
-    let m = made.result.ticks in
+    let made = c.next_piece in
+    let m = c.in-Ok.made in
     let e = c.pieces.state in
     let heard = c.hear-in-pieces in
-    let told = told_alone (told_by_ticks m e) c.pieces.log made.new.log inv.heard.wanted inv.heard.empty made.ensures.told in
+    let told = told_alone (told_by_ticks m e) c.pieces.log made.new.log inv.heard.wanted inv.heard.empty c.in-Ok.ensures.told in
     record {
-      heard = next_heard c.args.n k m d e made.new.state heard.new.state c.pieces.accounting heard.new.accounting made.new.log.happened c.pieces.log heard.new.log c.now-in-pieces.ensures.domain inv.heard made.ensures.state told.1 heard.ensures.heard heard.ensures.state
+      heard = next_heard c.args.n k m d e made.new.state heard.new.state c.pieces.accounting heard.new.accounting made.new.log.happened c.pieces.log heard.new.log c.now-in-pieces.ensures.domain inv.heard c.in-Ok.ensures.ok told.1 heard.ensures.heard heard.ensures.state
           (heard.ensures.wanted ∙ told.0) heard.ensures.empty;
-      most = omega (arith, made.ensures.most, c.pieces-test.true);
-      keys = subst (λ (x : Domain). AreKept d.tasks x.tasks) (sym heard.ensures.state) (kept_more d.tasks e.tasks made.new.state.tasks inv.keys made.ensures.keys);
+      most = omega (arith, c.in-Ok.ensures.most, c.pieces-test.true);
+      keys = subst (λ (x : Domain). AreKept d.tasks x.tasks) (sym heard.ensures.state) (kept_more d.tasks e.tasks made.new.state.tasks inv.keys c.in-Ok.ensures.keys);
     }

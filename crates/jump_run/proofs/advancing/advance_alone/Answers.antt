@@ -1,13 +1,14 @@
-use Rattle.std.proofs.Common.{refl, ap, ◌∙◌, arith}
+use Rattle.std.proofs.Common.{refl, sym, ap, ◌∙◌, arith}
 use Rattle.domain_run.specs.Domain.{Domain}
 use Rattle.domain_run.specs.Happened.{told_by_ticks}
 use Rattle.domain_run.specs.Tick.{ticks}
 use Rattle.domain_run.proofs.CallerLemmas.{kept_itself, kept_more, ticks_time, tells_none}
 use Rattle.jump_run.proofs.Ticks.{ticks_more, tells_ticks, tells_still}
+use Rattle.jump_run.proofs.Piecing.{adds}
 use Rattle.jump_run.proofs.advancing.advance_alone.Goals as goal
 
 pub events-init : goal.events-init
-events-init g c = record { state = refl; most = omega arith; keys = kept_itself c.args.state.now.tasks; told = tells_none c.args.log.now }
+events-init g c = record { state = refl; most = omega arith; keys = kept_itself c.args.state.now.tasks; told = tells_none c.args.log.now; bounded = λ some. absurd (omega (arith, some)) }
 
 pub jump-requires-clause-early : goal.jump-requires-clause-early
 jump-requires-clause-early g c =
@@ -23,6 +24,7 @@ events-preserved g c =
     record {
       state = c.in-Ok.ensures.ok ∙ ap (ticks made) inv.state ∙ ticks_more c.events.ticks made start;
       most = omega (arith, inv.most, c.in-Ok.ensures.most, c.events-test.true);
+      bounded = λ some. adds c.args.enough now c.jump.new.state c.events.log c.jump.new.log (sym c.has_enough.ensures ∙ c.if-not-has_enough.true) c.in-Ok.ensures.event;
       told = tells_ticks c.events.ticks made start now c.args.log.now c.events.log c.jump.new.log inv.state inv.told c.in-Ok.ensures.told;
       keys = kept_more start.tasks now.tasks c.jump.new.state.tasks inv.keys c.in-Ok.ensures.keys;
     }

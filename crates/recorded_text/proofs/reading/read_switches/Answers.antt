@@ -1,6 +1,6 @@
-use Rattle.std.proofs.Common.{◌≡◌, ◌+◌, ◌*◌, ◌≤◌, ◌<◌, ◌^◌, List, ℕ, Option, None, Some, true, false, map, take, length, sym, subst, ap, ◌∙◌, arith, rules, ◌++◌}
+use Rattle.std.proofs.Common.{◌≡◌, ◌+◌, ◌*◌, ◌≤◌, ◌<◌, ◌^◌, List, [], ◌∷◌, ℕ, Option, None, Some, true, false, map, take, length, All, refl, inl, inr, sym, subst, ap, ◌∙◌, arith, rules, ◌++◌}
 use Rattle.std.proofs.lemmas.Grind.{common_steps}
-use Rattle.std.specs.Prelude.{IfSome}
+use Rattle.std.specs.Prelude.{IfSome, Err}
 use Rattle.std.proofs.lemmas.List.{length-take, length-take-le}
 use Rattle.std.proofs.lemmas.List.Elements.{All-weaker}
 use Rattle.recorded_text.specs.Steps.{step_view, IsNamed}
@@ -8,12 +8,30 @@ use Rattle.recorded_text.specs.Text.{is_bad_line, switches_in_line}
 use Rattle.recorded_text.proofs.Ending.{end_good, end_bad, piece_done, piece_bad}
 use Rattle.recorded_text.proofs.Stepping.{grows_on, brings_more}
 use Rattle.counted_io.specs.Sides.{inner_of}
+use Rattle.counted_io.specs.declared.call.Call.{Call}
+use Rattle.counted_io.specs.Calls.{Moves}
+use Rattle.counted_io.proofs.CallerLemmas.{AreReads, read_on, read_to}
+use Rattle.recorded_text.specs.declared.fault.RecordedFault.{RecordedFault}
+use Rattle.recorded_text.specs.declared.fault.RecordedFault.TheVariants.{BadLine, Read, Endless, Memory}
+use Rattle.recorded_text.specs.Text.{is_read}
+use Rattle.recorded_text.specs.Reads.{MayBreakOff, AreReadsOf, is_endless}
 use Rattle.recorded_text.proofs.reading.read_switches.Goals as goal
 
 -- such a fault says nothing of the text
 no_text : (text : Option (List ℕ)) → IfSome text (λ t. Unit {0})
 no_text None = tt
 no_text (Some t) = tt
+
+-- the last read told the end, and broke the reads off
+broken_at_end : (old now next : List Call) (one : Call) (n : ℕ) → AreReads old now n → next ≡ now ++ one ∷ [] → one.answer ≡ Some 0 → (calls : List Call) × (next ≡ old ++ calls) × MayBreakOff calls
+broken_at_end old now next one n are more end = let p = read_to (Some 0) old now next one n are more end in (p.0, p.1, inl p.2)
+
+-- a fault of the lines broke them off behind the last piece
+broken_in_piece : (e : RecordedFault) (calls : List Call) → is_read e ≡ false → is_endless e ≡ false → All Moves calls → 0 < length calls → AreReadsOf {T = Unit} calls (Err e)
+broken_in_piece (BadLine n) calls not_read not_endless moves some = inr (moves, some)
+broken_in_piece Read calls not_read not_endless moves some = absurd cc
+broken_in_piece Endless calls not_read not_endless moves some = absurd cc
+broken_in_piece Memory calls not_read not_endless moves some = inr (moves, some)
 
 pub returns-in-Ok-clause-read : goal.returns-in-Ok-clause-read
 returns-in-Ok-clause-read g c =
@@ -57,6 +75,8 @@ loop-preserved g c =
       room = search rules;
       faults = c.in-Some.ensures.faults ∙ c.loop.invariant.faults;
       grows = grows_on _ _ _ c.loop.invariant.grows c.take_piece.ensures.grows;
+      asked = read_on _ _ _ _ _ c.loop.invariant.asked c.in-Some.ensures.asked (search rules);
+      turns = omega (arith, c.loop-test.true);
     }
 
 pub returns-in-Ok-clause-called : goal.returns-in-Ok-clause-called
@@ -86,17 +106,30 @@ returns-in-Err-Bad-clause-grows g c = grows_on _ _ _ c.loop.invariant.grows c.ta
 pub returns-in-Err-clause-faults : goal.returns-in-Err-clause-faults
 returns-in-Err-clause-faults g c = rw c.in-Err.ensures.not_read (c.in-Some.ensures.faults ∙ c.loop.invariant.faults)
 
+pub returns-in-Ok-clause-asked : goal.returns-in-Ok-clause-asked
+returns-in-Ok-clause-asked g c = read_to (Some 0) _ _ _ _ _ c.loop.invariant.asked c.in-Some-eq0.ensures.asked (ap Some c.in-Some-eq0.field-0-test)
+
+pub returns-in-Err-Bad-clause-asked : goal.returns-in-Err-Bad-clause-asked
+returns-in-Err-Bad-clause-asked g c = broken_at_end _ _ _ _ _ c.loop.invariant.asked c.in-Some-eq0.ensures.asked (ap Some c.in-Some-eq0.field-0-test)
+
+pub returns-in-Err-clause-asked : goal.returns-in-Err-clause-asked
+returns-in-Err-clause-asked g c =
+    let r = read_on _ _ _ _ _ c.loop.invariant.asked c.in-Some.ensures.asked (search rules) in
+    (r.calls, r.since, broken_in_piece c.in-Err.fault r.calls c.in-Err.ensures.not_read c.in-Err.ensures.not_endless r.moves (omega (arith, r.count)))
+
 pub returns-in-Err-clause-grows : goal.returns-in-Err-clause-grows
 returns-in-Err-clause-grows g c = grows_on _ _ _ c.loop.invariant.grows c.take_piece.ensures.grows
 
 pub returns-in-None : goal.returns-in-None
-returns-in-None g c = record { read = tt; named = tt; called = tt; small = tt; fault = no_text (g.R.Read.remaining (inner_of c.args.reader.now)); grows = c.loop.invariant.grows; faults = c.in-None.ensures.faults ∙ ap (λ n. n + 1) c.loop.invariant.faults }
+returns-in-None g c = record { read = tt; named = tt; called = tt; small = tt; fault = no_text (g.R.Read.remaining (inner_of c.args.reader.now)); grows = c.loop.invariant.grows; faults = c.in-None.ensures.faults ∙ ap (λ n. n + 1) c.loop.invariant.faults; asked = read_to None _ _ _ _ _ c.loop.invariant.asked c.in-None.ensures.asked refl }
 
 pub returns-in-Err-Memory : goal.returns-in-Err-Memory
-returns-in-Err-Memory g c = record { read = tt; named = tt; called = tt; small = tt; fault = no_text (g.R.Read.remaining (inner_of c.args.reader.now)); grows = grows_on _ _ _ c.loop.invariant.grows c.take_line.ensures.grows; faults = c.in-Some-eq0.ensures.faults ∙ c.loop.invariant.faults }
+returns-in-Err-Memory g c = record { read = tt; named = tt; called = tt; small = tt; fault = no_text (g.R.Read.remaining (inner_of c.args.reader.now)); grows = grows_on _ _ _ c.loop.invariant.grows c.take_line.ensures.grows; faults = c.in-Some-eq0.ensures.faults ∙ c.loop.invariant.faults; asked = broken_at_end _ _ _ _ _ c.loop.invariant.asked c.in-Some-eq0.ensures.asked (ap Some c.in-Some-eq0.field-0-test) }
 
 pub returns : goal.returns
-returns g c = record { read = tt; named = tt; called = tt; small = tt; fault = no_text (g.R.Read.remaining (inner_of c.args.reader.now)); grows = c.loop.invariant.grows; faults = c.loop.invariant.faults }
+returns g c =
+    let r = c.loop.invariant.asked in
+    record { read = tt; named = tt; called = tt; small = tt; fault = no_text (g.R.Read.remaining (inner_of c.args.reader.now)); grows = c.loop.invariant.grows; faults = c.loop.invariant.faults; asked = (r.calls, r.since, (r.moves, omega (arith, r.count))) }
 
 pub take_piece-requires-clause-few : goal.take_piece-requires-clause-few
 take_piece-requires-clause-few g c = few_ahead c.loop.lines c.loop.counter c.in-Some.n c.read.new.buf c.loop.invariant.few (omega arith) (search rules)

@@ -1,8 +1,9 @@
-use Rattle.std.proofs.Common.{◌≡◌, ◌*◌, ◌≤◌, map, length}
+use Rattle.std.proofs.Common.{◌≡◌, ◌*◌, ◌≤◌, ◌^◌, map, length}
 use Rattle.recorded_text.specs.Names.{Grows}
 use Rattle.recorded_text.specs.Steps.{step_view, AreNamed}
 use Rattle.recorded_text.specs.private.SoFar.{Lacks, AreDone, BringsOn}
-use Rattle.counted_io.specs.Sides.{inner_of}
+use Rattle.counted_io.specs.Sides.{inner_of, port_calls}
+use Rattle.counted_io.proofs.CallerLemmas.{AreReads}
 use Rattle.recorded_text.proofs.reading.read_switches.Given as goal
 
 abbrev pub invariant-loop : goal.invariant-loop
@@ -15,4 +16,6 @@ invariant-loop g l = record {
   room : length l.piece ≡ 65536;
   faults : l.reader.faults ≡ l.initial.reader.faults;
   grows : Grows l.initial.names l.names;
+  asked : AreReads (port_calls l.initial.reader) (port_calls l.reader) l.counter;
+  turns : l.counter ≤ 2 ^ 32;
 }

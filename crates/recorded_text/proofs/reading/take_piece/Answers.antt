@@ -52,6 +52,9 @@ returns-in-Err-Bad-clause-called c = tt
 pub returns-in-Err-Bad-clause-not_read : goal.returns-in-Err-Bad-clause-not_read
 returns-in-Err-Bad-clause-not_read c = refl
 
+pub returns-in-Err-Bad-clause-not_endless : goal.returns-in-Err-Bad-clause-not_endless
+returns-in-Err-Bad-clause-not_endless c = refl
+
 pub returns-in-Err-Bad-clause-rest : goal.returns-in-Err-Bad-clause-rest
 returns-in-Err-Bad-clause-rest c = tt
 
@@ -65,7 +68,7 @@ pub returns-in-Err-Bad-clause-grows : goal.returns-in-Err-Bad-clause-grows
 returns-in-Err-Bad-clause-grows c = grows_on _ _ _ c.loop-i.invariant.grows c.end_line.ensures.grows
 
 pub returns-in-Err-Memory : goal.returns-in-Err-Memory
-returns-in-Err-Memory c = record { so_far = tt; bad = λ whole after h. tt; called = tt; not_read = refl; rest = tt; named = tt; few = tt; grows = grows_on _ _ _ c.loop-i.invariant.grows c.end_line.ensures.grows }
+returns-in-Err-Memory c = record { so_far = tt; bad = λ whole after h. tt; called = tt; not_read = refl; not_endless = refl; rest = tt; named = tt; few = tt; grows = grows_on _ _ _ c.loop-i.invariant.grows c.end_line.ensures.grows }
 
 pub returns-in-Ok-extend_from_slice : goal.returns-in-Ok-extend_from_slice
 returns-in-Ok-extend_from_slice c =
@@ -77,6 +80,7 @@ returns-in-Ok-extend_from_slice c =
       bad = tt;
       called = was.called;
       not_read = tt;
+      not_endless = tt;
       rest = subst (Lacks 10) (sym items) (Lacks-append 10 c.loop-i.rest.items c.loop-i.left.now was.lacks (no_line_from c.loop-i.left.now c.memchr.result c.memchr.ensures c.in_default.not-Some));
       named = was.named;
       few = omega (arith, was.few);
@@ -84,4 +88,4 @@ returns-in-Ok-extend_from_slice c =
     }
 
 pub returns-in-Err : goal.returns-in-Err
-returns-in-Err c = record { so_far = tt; bad = λ whole after h. tt; called = tt; not_read = refl; rest = tt; named = tt; few = tt; grows = c.loop-i.invariant.grows }
+returns-in-Err c = record { so_far = tt; bad = λ whole after h. tt; called = tt; not_read = refl; not_endless = refl; rest = tt; named = tt; few = tt; grows = c.loop-i.invariant.grows }

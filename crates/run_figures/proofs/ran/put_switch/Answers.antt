@@ -11,7 +11,7 @@ pub take_rest-requires : goal.take_rest-requires
 take_rest-requires c =
     let s = c.args.switch.now in
     record {
-      keyed = stay_keyed s.next s.cpu c.saturating_sub-rest.result c.args.tables.now.tasks.items c.put_stay.new.table.items c.args.places.now c.put_stay.ensures c.requires.keyed;
+      keyed = stay_keyed s.next s.cpu c.saturating_sub-rest.result c.args.tables.now.tasks.items c.put_stay.new.table.items c.args.places.now c.put_stay.ensures.stay c.requires.keyed;
     }
 
 pub returns-clause-cpus : goal.returns-clause-cpus

@@ -6,20 +6,20 @@ use Rattle.run_figures.specs.private.Running.{without_rest, without_rest_of}
 use Rattle.run_figures.proofs.Turning.{turned_place, turned_none}
 use Rattle.run_figures.proofs.ran.take_rest.Goals as goal
 
-pub returns-in_default : goal.returns-in_default
-returns-in_default c =
+pub returns-in_default-clause-rest : goal.returns-in_default-clause-rest
+returns-in_default-clause-rest c =
     sym (map-id c.args.table.now.items)
     ∙ ap (λ (o : Option ℕ). map (without_rest_of o c.args.us) c.args.table.now.items) (sym c.in_default.is)
 
-pub returns-in-Some-find : goal.returns-in-Some-find
-returns-in-Some-find c =
+pub returns-in-Some-find-clause-rest : goal.returns-in-Some-find-clause-rest
+returns-in-Some-find-clause-rest c =
     let items = c.args.table.now.items in
     ap (λ (x : Ran). set items c.in-Some-find.place x) c.without_rest-after.ensures
     ∙ turned_place (λ (r : Ran). r.number) c.in-Some.number (without_rest c.args.us) items c.args.places.now c.in-Some-find.place c.index.result.now c.requires.keyed c.find.ensures.apart c.in-Some-find.ensures.found c.index.ensures
     ∙ ap (λ (o : Option ℕ). map (without_rest_of o c.args.us) items) (sym c.in-Some.is)
 
-pub returns-in_default-find : goal.returns-in_default-find
-returns-in_default-find c =
+pub returns-in_default-find-clause-rest : goal.returns-in_default-find-clause-rest
+returns-in_default-find-clause-rest c =
     let items = c.args.table.now.items in
     turned_none (λ (r : Ran). r.number) c.in-Some.number (without_rest c.args.us) items c.args.places.now c.requires.keyed c.in_default-find.ensures.absent
     ∙ ap (λ (o : Option ℕ). map (without_rest_of o c.args.us) items) (sym c.in-Some.is)

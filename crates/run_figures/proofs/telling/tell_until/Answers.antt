@@ -10,6 +10,7 @@ loop-entry-init c = record {
   count = refl;
   told = none_told c.args.end c.args.happened.now c.args.told.now.items;
   passed = λ k d l. absurd (omega (arith, l));
+  same_room = refl;
 }
 
 pub tell-requires-clause-keyed : goal.tell-requires-clause-keyed
@@ -24,6 +25,7 @@ pub loop-entry-preserved : goal.loop-entry-preserved
 loop-entry-preserved c = record {
   count = omega arith;
   told = one_told c.args.end c.args.happened.now c.loop-entry.entry-index _ c.args.told.now.items c.loop-entry.told.items c.tell.new.told.items c.loop-entry-test.true c.loop-entry.invariant.told c.tell.ensures.told c.tell.ensures.within;
+  same_room = c.tell.ensures.same_room ∙ c.loop-entry.invariant.same_room;
   passed = one_passed c.args.happened.now c.loop-entry.entry-index _ c.args.time c.loop-entry-test.true c.loop-entry.invariant.passed c.if-entry-time.false;
 }
 

@@ -10,5 +10,5 @@ invariant_of-result c = record {
   wide = ap (λ (r : RosterView). r.cpus) c.in-Ok-open-2.ensures;
   running_is = λ listed. rw (c.in-Ok.ensures.items, c.in-Ok-open-2.ensures) (sym (standing_opened c.args.cpus));
   running_room = c.in-Ok.ensures.exact;
-  switch_room = c.in_ok-switches.ensures.capacity;
+  switch_room = record { event = c.in_ok-switches.ensures.capacity; exact = sym c.capacity.ensures };
 }

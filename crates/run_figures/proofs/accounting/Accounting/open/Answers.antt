@@ -10,8 +10,9 @@ pub invariant_of-result : goal.invariant_of-result
 invariant_of-result c =
     let tasks = c.args.tasks.now in (
       nothing_kept _ _ _ _ c.new.ensures c.new-2.ensures
-          (c.in_ok-untold_all.ensures ∙ sym (map-map nothing_told (λ (t : Admitted). t.number) tasks) ∙ ap (map nothing_told) (sym c.in_ok-of.ensures))
-          (c.in_ok-open.ensures.tasks ∙ sym (map-map not_run (λ (t : Admitted). t.number) tasks) ∙ ap (map not_run) (sym c.in_ok-of.ensures))
-          c.in_ok-open.ensures.cpus,
+          (c.in_ok-told.ensures ∙ sym (map-map nothing_told (λ (t : Admitted). t.number) tasks) ∙ ap (map nothing_told) (sym c.in_ok-places.ensures))
+          (c.in_ok-ran.ensures.tasks ∙ sym (map-map not_run (λ (t : Admitted). t.number) tasks) ∙ ap (map not_run) (sym c.in_ok-places.ensures))
+          c.in_ok-ran.ensures.cpus,
       nothing_of_run _ c.new.ensures c.new-2.ensures c.requires.early c.requires.cpus,
+      record { told_room = sym c.capacity.ensures; tasks_room = sym c.capacity-2.ensures; cpus_room = sym c.capacity-3.ensures },
     )

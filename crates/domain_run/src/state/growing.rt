@@ -1,0 +1,143 @@
+//! A state takes memory for its switches: where it is opened, where it goes on, and where it gets a
+//! buffer. No other file can make or change a [`Room`], and each state's room is what it notes. So
+//! no other call takes memory for switches: the state would have more room than it notes.
+
+ghost use Rattle.std.specs.Prelude.{◌≡◌, [], ◌<◌, ◌≤◌, ◌^◌, OnOk, OnErr, IfOk};
+ghost use Rattle.domain_run.specs.Domain.{IsCpus, IsLimit, empty_domain};
+ghost use Rattle.domain_run.specs.Happened.{told_by_beginning};
+ghost use Rattle.domain_run.specs.Jump as jump;
+ghost use Rattle.domain_run.specs.Log.{Tells, HasRoomToEnd};
+ghost use Rattle.domain_run.specs.Sound.{IsDomain};
+
+use super::State;
+use crate::log::Log;
+use crate::numbers::Numbers;
+use crate::roster::Roster;
+use no_memory::NoMemory;
+use std::alloc::Global;
+
+/// For how many switches a state has room, as its last growth left it.
+#[derive(Drop)]
+pub(super) struct Room {
+    count: usize,
+}
+
+impl State {
+    /// An empty domain of 1 to 64 CPUs that may give away `limit` of each, 10485 to 1048576 in
+    /// 1/2^20. Room for 256 tasks, for the numbers ever admitted and for the switches of one event
+    /// is made here; after it only [`State::tick`], [`State::begin`], [`State::begin_told`] and
+    /// [`State::leap`] take memory. `Err` where a growth was refused.
+    pub fn open(alloc: Global, cpus: u32, limit: u64) -> Result<State, NoMemory>
+        requires cpus { IsCpus cpus }
+        requires limit { IsLimit limit }
+        ensures { IfOk result (λ s. s ≡ empty_domain cpus limit) }
+    {
+        let cpus = cpus as usize;
+        // The roster comes last, so that there is none to let go of where the room for another part
+        // is refused.
+        let switches = Vec::with_capacity(alloc, cpus)?;
+        // For the prover alone: matched, and not handed on by `?`.
+        let Ok(running) = Vec::with_capacity(alloc, cpus) else {
+            return Err(NoMemory);
+        };
+        let Ok(used) = Numbers::open(alloc) else {
+            return Err(NoMemory);
+        };
+        let Ok(roster) = Roster::open(alloc, cpus) else {
+            return Err(NoMemory);
+        };
+        Ok(State {
+            cpus,
+            limit,
+            time: 0,
+            roster,
+            used,
+            room: Room {
+                count: switches.capacity(),
+            },
+            switches,
+            running,
+            is_listed: true,
+            wakeful: 0,
+        })
+    }
+
+    /// Room for so many switches more, and for those of an event beside them. `Err` where a growth
+    /// was refused; nothing has changed, either way.
+    #[inline(always)]
+    fn make_room(&mut self, more: usize) -> Result<(), NoMemory>
+        requires { more ≤ 65536 }
+        ensures same { self.new ≡ self.old }
+        ensures domain { IsDomain self.old }
+    {
+        let made = self.switches.try_reserve(more + self.cpus);
+        self.room.count = self.switches.capacity();
+        match made {
+            Ok(()) => Ok(()),
+            Err(_) => Err(NoMemory),
+        }
+    }
+
+    /// The same state, with room for so many switches more. `Err` where a growth was refused; the
+    /// state is gone then.
+    pub(crate) fn with_room(mut self, more: usize) -> Result<State, NoMemory>
+        requires { more ≤ 65536 }
+        ensures { IfOk result (λ state. state ≡ self) }
+    {
+        match self.make_room(more) {
+            Ok(()) => Ok(self),
+            Err(error) => {
+                drop(self);
+                Err(error)
+            }
+        }
+    }
+
+    /// As [`State::begin_told`], but who stands on the CPUs is not listed where that has changed.
+    #[inline(always)]
+    pub(super) fn begin_unlisted(&mut self, log: &mut Log) -> Result<(), NoMemory>
+        requires { self.old.time < 2 ^ 42 }
+        ensures ok { OnOk result (self.new ≡ jump.under_way self.old) }
+        ensures begun { OnOk result (jump.IsUnderWay self.new) }
+        ensures err { OnErr result (self.new ≡ self.old) }
+        ensures domain { IsDomain self.old }
+        ensures told { OnOk result (Tells log.old (told_by_beginning self.old) log.new) }
+        ensures room { OnOk result (HasRoomToEnd log.new) }
+        ensures untold { OnErr result (Tells log.old [] log.new) }
+    {
+        // For the prover alone: matched, and not handed on by `?`.
+        let Ok(()) = self.make_room(0) else {
+            return Err(NoMemory);
+        };
+        let Ok(()) = log.make_room(9 * self.roster.len() + 192) else {
+            return Err(NoMemory);
+        };
+        if self.begin_in_room(log) {
+            Ok(())
+        } else {
+            // Never: the room is there.
+            Err(NoMemory)
+        }
+    }
+
+    /// As `begin_seated`, where room for the switches is made first: on `Err` nothing has changed.
+    #[inline(always)]
+    pub(super) fn begin_seated_anew(&mut self) -> Result<(), NoMemory>
+        requires { self.old.time < 2 ^ 42 }
+        ensures ok { OnOk result (self.new ≡ jump.under_way self.old) }
+        ensures begun { OnOk result (jump.IsUnderWay self.new) }
+        ensures err { OnErr result (self.new ≡ self.old) }
+        ensures domain { IsDomain self.old }
+    {
+        // For the prover alone: matched, and not handed on by `?`.
+        let Ok(()) = self.make_room(0) else {
+            return Err(NoMemory);
+        };
+        if self.begin_seated() {
+            Ok(())
+        } else {
+            // Never: the room is there.
+            Err(NoMemory)
+        }
+    }
+}

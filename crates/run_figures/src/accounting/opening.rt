@@ -1,0 +1,67 @@
+//! An accounting is opened with all the room that it ever has. No other file can make a [`Rooms`],
+//! or change one.
+
+ghost use Rattle.std.specs.Prelude.{◌≡◌, ◌≤◌, ◌^◌, [], IfOk, map};
+ghost use Rattle.run_figures.specs.Runs.{AreTasks};
+
+use super::{Accounting, Heard};
+use crate::past::Past;
+use crate::places::Places;
+use crate::ran::Tables;
+use crate::run::Admitted;
+use crate::telling::untold_all;
+use domain_run::NoMemory;
+use std::alloc::Global;
+
+/// For how many tasks and CPUs the lists of an accounting have room.
+#[derive(Drop)]
+pub(super) struct Rooms {
+    told: usize,
+    tasks: usize,
+    cpus: usize,
+}
+
+impl Accounting {
+    /// Of a run of which nothing was heard yet: its domain has this many CPUs, at most 64, it will
+    /// end at this time, at most 2^42 us, and these are its tasks.
+    ///
+    /// # Errors
+    /// 12 [`NoMemory`]: a growth was refused; nothing is left.
+    pub fn open(
+        alloc: Global,
+        cpus: u32,
+        end: u64,
+        tasks: &[Admitted],
+    ) -> Result<Accounting, NoMemory>
+        requires cpus { cpus ≤ 64 }
+        requires early { end ≤ 2 ^ 42 }
+        requires tasks { AreTasks tasks.now }
+        ensures { IfOk result (λ a. a ≡ record {
+          cpus = cpus;
+          time = end;
+          tasks = map (λ t. t.number) tasks.now;
+          happened = [];
+          switches = [];
+        }) }
+    {
+        let places = Places::of(alloc, tasks)?;
+        let told = untold_all(alloc, tasks)?;
+        let ran = Tables::open(alloc, cpus, tasks)?;
+        Ok(Accounting {
+            rooms: Rooms {
+                told: told.capacity(),
+                tasks: ran.tasks.capacity(),
+                cpus: ran.cpus.capacity(),
+            },
+            places,
+            told,
+            ran,
+            heard: Heard {
+                cpus,
+                time: end,
+                happened: Past::new(),
+                switches: Past::new(),
+            },
+        })
+    }
+}
