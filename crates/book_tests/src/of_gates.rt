@@ -158,3 +158,13 @@ fn limit_calls(rt: HostRuntime) -> Result<(), Fail> {
     assert!(rt; word == 4503599627894784 && words.word[0] == 524288 && words.cap[0] == 1048576);
     Ok(())
 }
+
+// Of an empty word with a cap of a quarter of a CPU, half a CPU is refused with the whole word.
+#[test]
+fn refused_with_the_whole_word(rt: HostRuntime) -> Result<(), Fail> {
+    let (gate, mut blanks) = opened(rt.alloc(), 262144, 1)?;
+    let blank = next(&rt, &gate, &mut blanks);
+    let (blank, used) = refused(&rt, &gate, blank, 524288);
+    assert!(rt; used == 0 && blank.last() == 1125899906842624);
+    Ok(())
+}

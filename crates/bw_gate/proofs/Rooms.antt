@@ -5,8 +5,8 @@ use Rattle.std.proofs.Math.Decide.{dec_lt}
 use Rattle.std.proofs.lemmas.Nat.{mul-le}
 use Rattle.std.proofs.lemmas.List.{get_or-map, length-map}
 use Rattle.bw_gate.specs.declared.terms.Room.{Room}
-use Rattle.bw_gate.specs.Word.{used_of, word_of, IsLimit, IsWord, first_word}
-use Rattle.bw_gate.specs.Terms.{AreRooms, IsMachine, terms_of, cpus_in}
+use Rattle.bw_gate.specs.Word.{used_of, cap_of, word_of, IsLimit, IsWord, first_word}
+use Rattle.bw_gate.specs.Terms.{AreRooms, IsMachine, terms_of, cpus_in, limit_in}
 use Rattle.bw_gate.specs.Table.{IsTableKept, blank_table}
 use Rattle.bw_gate.proofs.Parts.{new_cap, of_parts}
 use Rattle.bw_gate.proofs.Views.{past_end}
@@ -52,8 +52,18 @@ module _ (rooms : List Room) (n : ℕ) (h : AreRooms rooms n) where
       let word : IsWord r.cpus (first_word r) = subst (IsWord r.cpus) (first_is r) (new_cap r.cpus r.limit 0 (machine_at d lt).most (limit_at d lt) (omega arith)) in
       subst (λ w. IsWord (cpus_in (terms_of rooms n) d) w) (sym (word_at d lt)) (subst (λ k. IsWord k (first_word r)) (sym (cpus_at d lt)) word)
 
+  -- each word carries the cap of its room
+  first_cap : (d : ℕ) → d < length (terms_of rooms n).cpus → cap_of (slice_index (map first_word rooms) d) ≡ cpus_in (terms_of rooms n) d * limit_in (terms_of rooms n) d
+  first_cap d within =
+      let long = length-map rooms (λ (r : Room). r.cpus) in
+      let lt : d < length rooms = omega (arith, long, within) in
+      let r = get_or rooms d none in
+      let limit : limit_in (terms_of rooms n) d ≡ r.limit = get_or-map (λ (r : Room). r.limit) rooms d none 0 lt in
+      ap cap_of (word_at d lt ∙ sym (first_is r)) ∙ (of_parts (r.cpus * r.limit) 0 (omega arith)).1
+      ∙ ap (λ (k : ℕ). k * r.limit) (sym (cpus_at d lt)) ∙ ap (λ (k : ℕ). cpus_in (terms_of rooms n) d * k) (sym limit)
+
   pub rooms_begin : IsTableKept (terms_of rooms n) (map first_word rooms) (blank_table (terms_of rooms n) ∷ [])
   rooms_begin =
       let a = length-map rooms (λ (r : Room). r.cpus) in
       let b = length-map rooms first_word in
-      begins (terms_of rooms n) (map first_word rooms) (omega (arith, a, b)) (λ d. nothing_used d (dec_lt d (length rooms))) first_sound
+      begins (terms_of rooms n) (map first_word rooms) (omega (arith, a, b)) (λ d. nothing_used d (dec_lt d (length rooms))) first_sound first_cap

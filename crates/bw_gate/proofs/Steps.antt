@@ -1,6 +1,6 @@
 -- Each kind of step keeps the rule.
-use Rattle.std.proofs.Common.{◌≡◌, ◌≢◌, ◌≤◌, ◌<◌, ℕ, ◌+◌, ◌-◌, ◌*◌, ◌%◌, ◌^◌, ◌==◌, Bool, true, false, List, [], ◌∷◌, ◌++◌, length, set, get_or, take, drop, sym, refl, ap, ◌∙◌, subst, arith, eq-eqb, ne_eqb}
-use Rattle.std.specs.Prelude.{MatchBool, slice_index}
+use Rattle.std.proofs.Common.{◌≡◌, ◌≢◌, ◌≤◌, ◌<◌, ℕ, ◌+◌, ◌-◌, ◌*◌, ◌%◌, ◌^◌, ◌==◌, Bool, true, false, List, [], ◌∷◌, ◌++◌, length, set, get_or, take, drop, inl, inr, sym, refl, ap, ◌∙◌, subst, arith, eq-eqb, ne_eqb}
+use Rattle.std.specs.Prelude.{◌⊎◌, MatchBool, if◌then◌else◌, slice_index}
 use Rattle.std.specs.List.{sum_by}
 use Rattle.std.proofs.Math.Nat.{add-mul-mod_self_left}
 use Rattle.std.proofs.Math.Decide.{dec_lt}
@@ -17,15 +17,18 @@ use Rattle.atomic_table.specs.Table.{State, Me, step, Act, keeps, Valid, stepped
 use Rattle.bw_gate.specs.declared.view.Piece.{Piece}
 use Rattle.bw_gate.specs.declared.view.Piece.TheVariants.{Blank, Ticket}
 use Rattle.bw_gate.specs.declared.view.View.{View}
-use Rattle.bw_gate.specs.Terms.{TermsView, cpus_in}
+use Rattle.bw_gate.specs.Terms.{TermsView, cpus_in, limit_in}
 use Rattle.bw_gate.specs.Word.{used_of, cap_of, IsWord}
-use Rattle.bw_gate.specs.Table.{held, held_by, held_by_all, Carries, IsTableKept, blank_table}
-use Rattle.bw_gate.specs.Kinds.{with_found, made, IsFound, Loads, Takes, Regrades, Gives, Limits, first_piece, other_pieces, without_found, Renews, without_piece, Comes, with_pieces_of, spent}
+use Rattle.bw_gate.specs.Table.{held, held_by, held_by_all, limits_by, limits_by_all, Carries, IsTableKept, blank_table}
+use Rattle.bw_gate.specs.Kinds.{with_found, with_limit_set, made, IsFound, Loads, Takes, Regrades, Gives, Limits, first_piece, other_pieces, without_found, Renews, without_piece, Comes, with_pieces_of, spent}
 use Rattle.bw_gate.proofs.Parts.{less_used, same_cap}
 use Rattle.bw_gate.proofs.Views.{past_end, sum_set, sum_at, all_at, alone, held_one, held_here, held_else}
 
+abbrev one_of : ℕ → ℕ → ℕ
+one_of d e = if e == d then 1 else 0
+
 -- a view goes over into one of as many pieces, and the word of a domain goes with what they hold of it
-module _ (terms : TermsView) (words : List ℕ) (views : List View) (id i n : ℕ) (v w : View) (kept : IsTableKept terms words views) (at : get_elem? views id ≡ some v) (inside : i < length terms.cpus) (pieces : length w.pieces ≡ length v.pieces) (same : w.terms ≡ v.terms) (others : (d : ℕ) → d ≢ i → held_by d w ≡ held_by d v) (word : used_of n + held_by i v ≡ used_of (slice_index words i) + held_by i w) (sound : IsWord (cpus_in terms i) n) where
+module _ (terms : TermsView) (words : List ℕ) (views : List View) (id i n : ℕ) (v w : View) (kept : IsTableKept terms words views) (at : get_elem? views id ≡ some v) (inside : i < length terms.cpus) (pieces : length w.pieces ≡ length v.pieces) (same : w.terms ≡ v.terms) (others : (d : ℕ) → d ≢ i → held_by d w ≡ held_by d v) (word : used_of n + held_by i v ≡ used_of (slice_index words i) + held_by i w) (sound : IsWord (cpus_in terms i) n) (elsewhere : (d : ℕ) → d ≢ i → limits_by d w ≡ limits_by d v) (here : ((limits_by i w ≡ limits_by i v) × (cap_of n ≡ cap_of (slice_index words i))) ⊎ (limits_by i w ≡ limits_by i v + 1)) where
   word_after : (d : ℕ) → Dec (d ≡ i) → used_of (slice_index (set words i n) d) ≡ held_by_all d (set views id w)
   word_after d (yes e) =
       let short : i < length words = omega (arith, kept.count) in
@@ -48,17 +51,54 @@ module _ (terms : TermsView) (words : List ℕ) (views : List View) (id i n : �
       subst (λ k. IsWord (cpus_in terms k) (get_or (set words i n) k 0)) (sym e) (subst (IsWord (cpus_in terms i)) (sym (get_or-set_same words i n 0 short)) sound)
   sound_after d lt (no ne) = subst (IsWord (cpus_in terms d)) (sym (get_or-set_other words i d n 0 ne)) (kept.sound d lt)
 
+  abbrev cap_at_opening : ℕ → ℕ
+  cap_at_opening d = cpus_in terms d * limit_in terms d
+
+  opened_here : limits_by_all i (set views id w) ≡ 0 → ((limits_by i w ≡ limits_by i v) × (cap_of n ≡ cap_of (slice_index words i))) ⊎ (limits_by i w ≡ limits_by i v + 1) → cap_of n ≡ cap_at_opening i
+  opened_here nobody (inl same) =
+      let s = sum_set (limits_by i) views id v w at in
+      let times = same.0 in
+      same.1 ∙ kept.opened i inside (omega (arith, s, times, nobody))
+  opened_here nobody (inr once) =
+      let s = sum_set (limits_by i) views id v w at in
+      absurd (omega (arith, s, once, nobody))
+
+  opened_after : (d : ℕ) → d < length terms.cpus → Dec (d ≡ i) → limits_by_all d (set views id w) ≡ 0 → cap_of (slice_index (set words i n) d) ≡ cap_at_opening d
+  opened_after d lt (yes e) nobody =
+      let short : i < length words = omega (arith, kept.count) in
+      let a : get_or (set words i n) d 0 ≡ n = subst (λ k. get_or (set words i n) k 0 ≡ n) (sym e) (get_or-set_same words i n 0 short) in
+      ap cap_of a ∙ opened_here (subst (λ k. limits_by_all k (set views id w) ≡ 0) e nobody) here ∙ ap cap_at_opening (sym e)
+  opened_after d lt (no ne) nobody =
+      let a = get_or-set_other words i d n 0 ne in
+      let s = sum_set (limits_by d) views id v w at in
+      let o = elsewhere d ne in
+      ap cap_of a ∙ kept.opened d lt (omega (arith, s, o, nobody))
+
   pub kept_after : IsTableKept terms (set words i n) (set views id w)
   kept_after = record {
     count = length-set words i n ∙ kept.count;
     exact = λ d. word_after d (ℕ_discrete d i);
     sound = λ d lt. sound_after d lt (ℕ_discrete d i);
+    opened = λ d lt nobody. opened_after d lt (ℕ_discrete d i) nobody;
     pieces =
         let s = sum_set (λ (u : View). length u.pieces) views id v w at in
         let p = kept.pieces in
         omega (arith, s, pieces, p);
     carried = All-set (Carries terms) views id w (λ some. same ∙ all_at (Carries terms) views id v at kept.carried (omega (arith, pieces, some))) kept.carried;
   }
+
+-- a limit that was set is one more of its domain, and none of another
+limit_here : (d n : ℕ) (v : View) → limits_by d (with_limit_set d n v) ≡ limits_by d v + 1
+limit_here d n v = sum_by_push (one_of d) v.limited_in d ∙ ap (λ k. limits_by d v + k) (one_here d)
+  where
+    one_here : (d : ℕ) → one_of d d ≡ 1
+    one_here d = rw (eq-eqb d d refl) refl
+
+limit_elsewhere : (e d n : ℕ) (v : View) → e ≢ d → limits_by e (with_limit_set d n v) ≡ limits_by e v
+limit_elsewhere e d n v ne =
+    let a = sum_by_push (one_of e) v.limited_in d in
+    let b : one_of e d ≡ 0 = rw (ne_eqb d e (λ s. ne (sym s))) refl in
+    omega (arith, a, b)
 
 -- a fact about a test, by what it says
 by_test : (n old : ℕ) (F : Bool → Type 0) → (n ≡ old → F true) → (n ≢ old → F false) → F (n == old)
@@ -88,14 +128,14 @@ module _ {S : Type 0} where
       let n = slice_index s.words d in
       let v = me.0 in
       let found = found_at terms s id d v kept at inside same in
-      (with_found n v, keeps, tt, kept_after terms s.words s.views id d n v (with_found n v) kept at inside refl refl (λ e ne. refl) refl (kept.sound d inside), ((found, (refl, refl)), refl))
+      (with_found d n v, keeps, tt, kept_after terms s.words s.views id d n v (with_found d n v) kept at inside refl refl (λ e ne. refl) refl (kept.sound d inside) (λ e ne. refl) (inl (refl, refl)), ((found, (refl, refl)), refl))
 
   -- a load of the first word, after which the piece has found nothing
   pub renews : (terms : TermsView) (slots id : ℕ) (me : Me S View) → 0 < length terms.cpus → Allows (Rule terms) slots id me 0 (λ n. n) (Renews (step slots 0 0 0 none) me)
   renews terms slots id me inside s kept homes at bound =
       let n = slice_index s.words 0 in
       let v = me.0 in
-      (without_found v, keeps, tt, kept_after terms s.words s.views id 0 n v (without_found v) kept at inside refl refl (λ e ne. refl) refl (kept.sound 0 inside), (refl, (refl, refl)))
+      (without_found v, keeps, tt, kept_after terms s.words s.views id 0 n v (without_found v) kept at inside refl refl (λ e ne. refl) refl (kept.sound 0 inside) (λ e ne. refl) (inl (refl, refl)), (refl, (refl, refl)))
 
   -- an exchange of one word for another, by a view of one piece that becomes another piece of this domain
   module _ (terms : TermsView) (slots id d old new : ℕ) (me : Me S View) (p q : Piece) (inside : d < length terms.cpus) (same : me.0.terms ≡ terms) (one : me.0.pieces ≡ p ∷ []) (others : (e : ℕ) → e ≢ d → held e q ≡ held e p) (word : used_of new + held d p ≡ used_of old + held d q) (sound : IsWord (cpus_in terms d) new) (still : cap_of new ≡ cap_of old) where
@@ -109,13 +149,13 @@ module _ {S : Type 0} where
     Exchanged s b =
         let n = slice_index s.words d in
         (w : View) × (a : Act S) × Valid s.homes me.1 a × Rule terms (stepped s d (either b new n) id me.1 w a)
-        × ((cap_of new ≡ cap_of old)
-        × MatchBool b (IsMe (w, carried_after me.1 a) (made q n v, me.1)) (IsMe (w, carried_after me.1 a) (with_found n v, me.1)))
+        × (((cap_of new ≡ cap_of old) × IsWord (cpus_in v.terms d) n)
+        × MatchBool b (IsMe (w, carried_after me.1 a) (made q d n v, me.1)) (IsMe (w, carried_after me.1 a) (with_found d n v, me.1)))
 
     hit : (s : State S View) → Rule terms s → get_elem? s.views id ≡ some v → slice_index s.words d ≡ old → Exchanged s true
     hit s kept at e =
         let n = slice_index s.words d in
-        let w = made q n v in
+        let w = made q d n v in
         let piece : (k : ℕ) → held_by k w ≡ held k q = λ k. held_one k w q refl in
         let before : (k : ℕ) → held_by k v ≡ held k p = λ k. held_one k v p one in
         let rest : (k : ℕ) → k ≢ d → held_by k w ≡ held_by k v = λ k ne. piece k ∙ others k ne ∙ sym (before k) in
@@ -123,14 +163,14 @@ module _ {S : Type 0} where
         let b = before d in
         let sums : used_of new + held_by d v ≡ used_of (slice_index s.words d) + held_by d w = omega (arith, a, b, word, ap used_of e) in
         let count : 1 ≡ length v.pieces = sym (ap length one) in
-        (w, keeps, tt, kept_after terms s.words s.views id d new v w kept at inside count refl rest sums sound, (still, refl))
+        (w, keeps, tt, kept_after terms s.words s.views id d new v w kept at inside count refl rest sums sound (λ e ne. refl) (inl (refl, still ∙ ap cap_of (sym e))), ((still, (found_at terms s id d v kept at inside same).word), refl))
 
     miss : (s : State S View) → Rule terms s → get_elem? s.views id ≡ some v → Exchanged s false
     miss s kept at =
         let n = slice_index s.words d in
-        (with_found n v, keeps, tt, kept_after terms s.words s.views id d n v (with_found n v) kept at inside refl refl (λ e ne. refl) refl (kept.sound d inside), (still, refl))
+        (with_found d n v, keeps, tt, kept_after terms s.words s.views id d n v (with_found d n v) kept at inside refl refl (λ e ne. refl) refl (kept.sound d inside) (λ e ne. refl) (inl (refl, refl)), ((still, (found_at terms s id d v kept at inside same).word), refl))
 
-    pub exchanges : Allows (Rule terms) slots id me d (λ n. either (n == old) new n) (λ n after. (cap_of new ≡ cap_of old) × MatchBool (n == old) (after ≡ (made q n v, me.1)) (after ≡ (with_found n v, me.1)))
+    pub exchanges : Allows (Rule terms) slots id me d (λ n. either (n == old) new n) (λ n after. ((cap_of new ≡ cap_of old) × IsWord (cpus_in me.0.terms d) n) × MatchBool (n == old) (after ≡ (made q d n v, me.1)) (after ≡ (with_found d n v, me.1)))
     exchanges s kept homes at bound = by_test (slice_index s.words d) old (Exchanged s) (λ e. hit s kept at e) (λ ne. miss s kept at)
 
   pub takes : (terms : TermsView) (slots id d old new : ℕ) (me : Me S View) → d < length terms.cpus → me.0.terms ≡ terms → me.0.pieces ≡ Blank ∷ [] → used_of new ≡ used_of old + (new - old) → IsWord (cpus_in terms d) new → cap_of new ≡ cap_of old → Allows (Rule terms) slots id me d (λ n. either (n == old) new n) (Takes (step slots d old new none) me)
@@ -153,7 +193,7 @@ module _ {S : Type 0} where
   gives terms slots id d bw me inside same one s kept homes at bound =
       let n = slice_index s.words d in
       let v = me.0 in
-      let w = made Blank n v in
+      let w = made Blank d n v in
       let found = found_at terms s id d v kept at inside same in
       let before : (k : ℕ) → held_by k v ≡ held k (Ticket d bw) = λ k. held_one k v (Ticket d bw) one in
       let mine = before d in
@@ -167,7 +207,7 @@ module _ {S : Type 0} where
       let sums : used_of ((n + (2 ^ 64 - bw)) % 2 ^ 64) + held_by d v ≡ used_of n + held_by d w = omega (arith, used, mine, here, room) in
       let sound : IsWord (cpus_in terms d) ((n + (2 ^ 64 - bw)) % 2 ^ 64) = same_cap (cpus_in terms d) n _ (kept.sound d inside) cap (omega (arith, used, (kept.sound d inside).within)) in
       let count : 1 ≡ length v.pieces = sym (ap length one) in
-      (w, keeps, tt, kept_after terms s.words s.views id d ((n + (2 ^ 64 - bw)) % 2 ^ 64) v w kept at inside count refl rest sums sound, ((found, sym (mine ∙ here), refl), refl))
+      (w, keeps, tt, kept_after terms s.words s.views id d ((n + (2 ^ 64 - bw)) % 2 ^ 64) v w kept at inside count refl rest sums sound (λ e ne. refl) (inl (refl, cap)), ((found, sym (mine ∙ here), refl), refl))
 
   -- an exchange of a word for one of which as much is used, by a seat that stays as it is
   pub limits : (terms : TermsView) (slots id d old new : ℕ) (me : Me S View) → d < length terms.cpus → me.0.terms ≡ terms → me.0.pieces ≡ Blank ∷ [] → used_of new ≡ used_of old → IsWord (cpus_in terms d) new → Allows (Rule terms) slots id me d (λ n. either (n == old) new n) (Limits (step slots d old new none) me)
@@ -177,10 +217,11 @@ module _ {S : Type 0} where
       let Same : Me S View → Me S View → Type 0 = λ a b. a ≡ b in
       let Exchanged : Bool → Type 0 = λ b.
       (w : View) × (a : Act S) × Valid s.homes me.1 a × Rule terms (stepped s d (either b new n) id me.1 w a)
-      × ((v.pieces ≡ Blank ∷ []) × MatchBool b (Same (w, carried_after me.1 a) (with_found new v, me.1)) (Same (w, carried_after me.1 a) (with_found n v, me.1))) in
+      × (((v.pieces ≡ Blank ∷ []) × IsWord (cpus_in v.terms d) n) × MatchBool b (Same (w, carried_after me.1 a) (with_limit_set d new v, me.1)) (Same (w, carried_after me.1 a) (with_found d n v, me.1))) in
+      let sound_here = (found_at terms s id d v kept at inside same).word in
       by_test n old Exchanged
-      (λ e. (with_found new v, keeps, tt, kept_after terms s.words s.views id d new v (with_found new v) kept at inside refl refl (λ k ne. refl) (let a = ap used_of e in omega (arith, a, used)) sound, (one, refl)))
-      (λ ne. (with_found n v, keeps, tt, kept_after terms s.words s.views id d n v (with_found n v) kept at inside refl refl (λ k no. refl) refl (kept.sound d inside), (one, refl)))
+      (λ e. (with_limit_set d new v, keeps, tt, kept_after terms s.words s.views id d new v (with_limit_set d new v) kept at inside refl refl (λ k ne. refl) (let a = ap used_of e in omega (arith, a, used)) sound (λ k ne. limit_elsewhere k d new v ne) (inr (limit_here d new v)), ((one, sound_here), refl)))
+      (λ ne. (with_found d n v, keeps, tt, kept_after terms s.words s.views id d n v (with_found d n v) kept at inside refl refl (λ k no. refl) refl (kept.sound d inside) (λ k no. refl) (inl (refl, refl)), ((one, sound_here), refl)))
 
   -- a view of as many pieces is cut in two
   pub splits : (terms : TermsView) (id : ℕ) (v : View) → Splits (Rule terms) id v (other_pieces v) (first_piece v)
@@ -208,6 +249,10 @@ module _ {S : Type 0} where
         count = kept.count;
         exact = exact;
         sound = kept.sound;
+        opened = λ d lt nobody.
+            let a = sum_by_push (limits_by d) views r in
+            let b = sum_set (limits_by d) s.views id v l at in
+            kept.opened d lt (omega (arith, a, b, nobody));
         pieces = count (λ (u : View). length u.pieces) lengths ∙ kept.pieces;
         carried = All-push (Carries terms) views r (All-set (Carries terms) s.views id l left kept.carried) right;
       }
@@ -226,6 +271,7 @@ module _ {S : Type 0} where
         count = kept.count;
         exact = λ d. kept.exact d ∙ sym (count (held_by d) (sum_by-append (held d) v.pieces w.pieces) refl);
         sound = kept.sound;
+        opened = λ d lt nobody. kept.opened d lt (sym (count (limits_by d) (sum_by-append (one_of d) v.limited_in w.limited_in) refl) ∙ nobody);
         pieces = count (λ (u : View). length u.pieces) (length-append v.pieces w.pieces) refl ∙ kept.pieces;
         carried = All-set (Carries terms) views other spent (λ some. absurd (omega arith)) (All-set (Carries terms) s.views id both (λ _. same) kept.carried);
       }
@@ -242,6 +288,7 @@ module _ {S : Type 0} where
           count = kept.count;
           exact = λ e. kept.exact e ∙ sym (count (held_by e) refl);
           sound = kept.sound;
+          opened = λ e lt nobody. kept.opened e lt (sym (count (limits_by e) refl) ∙ nobody);
           pieces = count (λ (u : View). length u.pieces) refl ∙ kept.pieces;
           carried = All-push (Carries terms) s.views w kept.carried (λ _. refl);
         },
@@ -249,8 +296,8 @@ module _ {S : Type 0} where
       )
 
 -- the rule at the start, where nothing is used of any word and one seat has all pieces, which are blank
-pub begins : (terms : TermsView) (words : List ℕ) → length words ≡ length terms.cpus → ((d : ℕ) → used_of (slice_index words d) ≡ 0) → ((d : ℕ) → d < length terms.cpus → IsWord (cpus_in terms d) (slice_index words d)) → IsTableKept terms words (blank_table terms ∷ [])
-begins terms words long zeros sound =
+pub begins : (terms : TermsView) (words : List ℕ) → length words ≡ length terms.cpus → ((d : ℕ) → used_of (slice_index words d) ≡ 0) → ((d : ℕ) → d < length terms.cpus → IsWord (cpus_in terms d) (slice_index words d)) → ((d : ℕ) → d < length terms.cpus → cap_of (slice_index words d) ≡ cpus_in terms d * limit_in terms d) → IsTableKept terms words (blank_table terms ∷ [])
+begins terms words long zeros sound caps =
     let held_none : (d : ℕ) → held_by_all d (blank_table terms ∷ []) ≡ 0 = λ d.
     let a = sum_by-cons (held_by d) (blank_table terms) [] in
     let b = sum_by-replicate (held d) terms.pieces Blank in
@@ -259,6 +306,7 @@ begins terms words long zeros sound =
       count = long;
       exact = λ d. zeros d ∙ sym (held_none d);
       sound = sound;
+      opened = λ d lt nobody. caps d lt;
       pieces = (let a = sum_by-cons (λ (u : View). length u.pieces) (blank_table terms) [] in let b = length-replicate terms.pieces Blank in omega (arith, a, b));
       carried = All-cons (Carries terms) (blank_table terms) [] (λ _. refl) (λ k w h. absurd (omega arith));
     }

@@ -14,7 +14,8 @@ use Rattle.bw_gate.specs.declared.view.View.{View}
 use Rattle.atomic_table.specs.Seated.{TableId}
 use Rattle.bw_gate.specs.Terms.{TermsView}
 use Rattle.bw_gate.specs.Answers.{blank_found, ticket_found}
-use Rattle.bw_gate.specs.Pieces.{BlankView, TicketView, last_word_found}
+use Rattle.bw_gate.specs.declared.view.Found.{Found}
+use Rattle.bw_gate.specs.Pieces.{BlankView, TicketView, found_in, last_word_found}
 use Rattle.bw_gate.specs.Table.{held, held_by, held_by_all, pieces_of_all}
 use Rattle.bw_gate.specs.Kinds.{with_pieces_of}
 
@@ -96,40 +97,40 @@ pub held_else : (d e bw : ℕ) → e ≢ d → held e (Ticket d bw) ≡ 0
 held_else d e bw ne = rw (ne_eqb d e (λ s. ne (sym s))) refl
 
 -- the last word of those that were found
-pub last_of_more : (found : List ℕ) (n : ℕ) → last_word_found (found ++ n ∷ []) ≡ n
-last_of_more [] n = refl
-last_of_more (x ∷ []) n = refl
-last_of_more (x ∷ y ∷ found) n = last_of_more (y ∷ found) n
+pub last_of_more : (found : List Found) (d n : ℕ) → last_word_found (found ++ found_in d (n ∷ [])) ≡ n
+last_of_more [] d n = refl
+last_of_more (x ∷ []) d n = refl
+last_of_more (x ∷ y ∷ found) d n = last_of_more (y ∷ found) d n
 
 -- the seat after a step that left this view with it
-pub seat_after : (S : Type 0) (me after : Me S View) (w : View) (p : Piece) (found : List ℕ) (n : ℕ) → me.1 ≡ [] → after ≡ (w, me.1) → w.pieces ≡ p ∷ [] → w.found ≡ found ++ n ∷ [] → (after.1 ≡ []) × (after.0.pieces ≡ p ∷ []) × (n ≡ last_word_found after.0.found)
-seat_after S me after w p found n none e one more = (
+pub seat_after : (S : Type 0) (me after : Me S View) (w : View) (p : Piece) (found : List Found) (d n : ℕ) → me.1 ≡ [] → after ≡ (w, me.1) → w.pieces ≡ p ∷ [] → w.found ≡ found ++ found_in d (n ∷ []) → (after.1 ≡ []) × (after.0.pieces ≡ p ∷ []) × (n ≡ last_word_found after.0.found)
+seat_after S me after w p found d n none e one more = (
   ap (λ (m : Me S View). m.1) e ∙ none,
   ap (λ (m : Me S View). m.0.pieces) e ∙ one,
-  sym (ap (λ (m : Me S View). last_word_found m.0.found) e ∙ ap last_word_found more ∙ last_of_more found n),
+  sym (ap (λ (m : Me S View). last_word_found m.0.found) e ∙ ap last_word_found more ∙ last_of_more found d n),
 )
 
--- what a contract sees of a blank, after a step that found more words, and after two that found one each
-abbrev seen_as : TableId → TermsView → List ℕ → BlankView
+-- what a contract sees of a blank, after a step that found more words of a domain, and after two that found one each
+abbrev seen_as : TableId → TermsView → List Found → BlankView
 seen_as table terms found = record { gate = record { table = table; terms = terms }; found = found }
 
-pub shown_after : (S : Type 0) (b : BlankView) (table now : TableId) (me after : Me S View) (w : View) (words : List ℕ)
-    → seen_as table me.0.terms me.0.found ≡ b → now ≡ table → after ≡ (w, me.1) → w.terms ≡ me.0.terms → w.found ≡ me.0.found ++ words
-    → seen_as now after.0.terms after.0.found ≡ blank_found b words
-shown_after S b table now me after w words view same step terms found =
+pub shown_after : (S : Type 0) (b : BlankView) (table now : TableId) (me after : Me S View) (w : View) (d : ℕ) (words : List ℕ)
+    → seen_as table me.0.terms me.0.found ≡ b → now ≡ table → after ≡ (w, me.1) → w.terms ≡ me.0.terms → w.found ≡ me.0.found ++ found_in d words
+    → seen_as now after.0.terms after.0.found ≡ blank_found b d words
+shown_after S b table now me after w d words view same step terms found =
     ap (λ (t : TableId). seen_as t after.0.terms after.0.found) same
     ∙ ap (λ (m : Me S View). seen_as table m.0.terms m.0.found) step
     ∙ ap (λ (ts : TermsView). seen_as table ts w.found) terms
-    ∙ ap (λ (ns : List ℕ). seen_as table me.0.terms ns) found
-    ∙ ap (λ (x : BlankView). blank_found x words) view
+    ∙ ap (λ (ns : List Found). seen_as table me.0.terms ns) found
+    ∙ ap (λ (x : BlankView). blank_found x d words) view
 
-pub shown_twice : (S : Type 0) (b : BlankView) (table now later : TableId) (me mid after : Me S View) (v w : View) (n m k : ℕ)
-    → seen_as table me.0.terms me.0.found ≡ b → now ≡ table → mid ≡ (v, me.1) → v.terms ≡ me.0.terms → v.found ≡ me.0.found ++ n ∷ []
-    → later ≡ now → after ≡ (w, mid.1) → w.terms ≡ mid.0.terms → w.found ≡ mid.0.found ++ m ∷ [] → m ≡ k
-    → seen_as later after.0.terms after.0.found ≡ blank_found b (n ∷ k ∷ [])
-shown_twice S b table now later me mid after v w n m k view same step terms found same_again next kept more is =
-    shown_after S (blank_found b (n ∷ [])) now later mid after w (m ∷ []) (shown_after S b table now me mid v (n ∷ []) view same step terms found) same_again next kept more
-    ∙ ap (λ (ns : List ℕ). seen_as b.gate.table b.gate.terms ns) (append_assoc b.found (n ∷ []) (m ∷ []) ∙ ap (λ (j : ℕ). b.found ++ n ∷ j ∷ []) is)
+pub shown_twice : (S : Type 0) (b : BlankView) (table now later : TableId) (me mid after : Me S View) (v w : View) (d n m k : ℕ)
+    → seen_as table me.0.terms me.0.found ≡ b → now ≡ table → mid ≡ (v, me.1) → v.terms ≡ me.0.terms → v.found ≡ me.0.found ++ found_in d (n ∷ [])
+    → later ≡ now → after ≡ (w, mid.1) → w.terms ≡ mid.0.terms → w.found ≡ mid.0.found ++ found_in d (m ∷ []) → m ≡ k
+    → seen_as later after.0.terms after.0.found ≡ blank_found b d (n ∷ k ∷ [])
+shown_twice S b table now later me mid after v w d n m k view same step terms found same_again next kept more is =
+    shown_after S (blank_found b d (n ∷ [])) now later mid after w d (m ∷ []) (shown_after S b table now me mid v d (n ∷ []) view same step terms found) same_again next kept more
+    ∙ ap (λ (ns : List Found). seen_as b.gate.table b.gate.terms ns) (append_assoc b.found (found_in d (n ∷ [])) (found_in d (m ∷ [])) ∙ ap (λ (j : ℕ). b.found ++ found_in d (n ∷ j ∷ [])) is)
 
 -- what a contract sees of a ticket, after a load and an exchange
 abbrev pub blank_of : TicketView → BlankView
@@ -140,16 +141,18 @@ as_ticket b d bw = record { gate = b.gate; domain = d; bw = bw; found = b.found 
 
 pub ticket_shown : (S : Type 0) (t u : TicketView) (d bw own : ℕ) (table now : TableId) (me after : Me S View) (w : View) (n m k : ℕ)
     → seen_as table me.0.terms me.0.found ≡ blank_of u → u ≡ ticket_found t (n ∷ []) → d ≡ u.domain → bw ≡ own
-    → now ≡ table → after ≡ (w, me.1) → w.terms ≡ me.0.terms → w.found ≡ me.0.found ++ m ∷ [] → m ≡ k
-    → as_ticket (seen_as now after.0.terms after.0.found) d bw ≡ as_ticket (blank_found (blank_of t) (n ∷ k ∷ [])) t.domain own
+    → now ≡ table → after ≡ (w, me.1) → w.terms ≡ me.0.terms → w.found ≡ me.0.found ++ found_in d (m ∷ []) → m ≡ k
+    → as_ticket (seen_as now after.0.terms after.0.found) d bw ≡ as_ticket (blank_found (blank_of t) t.domain (n ∷ k ∷ [])) t.domain own
 ticket_shown S t u d bw own table now me after w n m k view is domain held same step terms found known =
-    let first : seen_as table me.0.terms me.0.found ≡ blank_found (blank_of t) (n ∷ []) = view ∙ ap blank_of is in
-    let both : seen_as now after.0.terms after.0.found ≡ blank_found (blank_of t) (n ∷ k ∷ []) =
-    shown_after S (blank_found (blank_of t) (n ∷ [])) table now me after w (m ∷ []) first same step terms found
-    ∙ ap (λ (ns : List ℕ). seen_as t.gate.table t.gate.terms ns) (append_assoc t.found (n ∷ []) (m ∷ []) ∙ ap (λ (j : ℕ). t.found ++ n ∷ j ∷ []) known) in
+    let same_domain : d ≡ t.domain = domain ∙ ap (λ (x : TicketView). x.domain) is in
+    let first : seen_as table me.0.terms me.0.found ≡ blank_found (blank_of t) t.domain (n ∷ []) = view ∙ ap blank_of is in
+    let both : seen_as now after.0.terms after.0.found ≡ blank_found (blank_of t) t.domain (n ∷ k ∷ []) =
+    shown_after S (blank_found (blank_of t) t.domain (n ∷ [])) table now me after w d (m ∷ []) first same step terms found
+    ∙ ap (λ (e : ℕ). blank_found (blank_found (blank_of t) t.domain (n ∷ [])) e (m ∷ [])) same_domain
+    ∙ ap (λ (ns : List Found). seen_as t.gate.table t.gate.terms ns) (append_assoc t.found (found_in t.domain (n ∷ [])) (found_in t.domain (m ∷ [])) ∙ ap (λ (j : ℕ). t.found ++ found_in t.domain (n ∷ j ∷ [])) known) in
     ap (λ (b : BlankView). as_ticket b d bw) both
-    ∙ ap (λ (e : ℕ). as_ticket (blank_found (blank_of t) (n ∷ k ∷ [])) e bw) (domain ∙ ap (λ (x : TicketView). x.domain) is)
-    ∙ ap (λ (e : ℕ). as_ticket (blank_found (blank_of t) (n ∷ k ∷ [])) t.domain e) held
+    ∙ ap (λ (e : ℕ). as_ticket (blank_found (blank_of t) t.domain (n ∷ k ∷ [])) e bw) same_domain
+    ∙ ap (λ (e : ℕ). as_ticket (blank_found (blank_of t) t.domain (n ∷ k ∷ [])) t.domain e) held
 
 -- what an exchange tells, where it found the word that it expected, and where it did not
 pub took : (n old : ℕ) (P Q : Type 0) → n ≡ old → MatchBool (n == old) P Q → P

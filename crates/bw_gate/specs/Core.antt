@@ -19,7 +19,7 @@ use Rattle.bw_gate.specs.declared.answer.Limit.{Limit}
 use Rattle.bw_gate.specs.declared.answer.Limit.TheVariants as limits
 use Rattle.bw_gate.specs.Terms.{TermsView}
 use Rattle.bw_gate.specs.Word.{used_of, cap_of, word_of}
-use Rattle.bw_gate.specs.Pieces.{BlankView, TicketView}
+use Rattle.bw_gate.specs.Pieces.{BlankView, TicketView, found_in}
 use Rattle.bw_gate.specs.Table.{IsTableKept}
 use Rattle.bw_gate.specs.Answers.{cap_by, IsTryOfTake, IsTryOfRegrade, IsTryOfLimit, IsGive, IsLoad}
 
@@ -76,7 +76,7 @@ Everywhere n Fact = (id : ℕ) (c : DomainView) → word_in c ≡ core_word n �
 -- found
 pub record IsCoreTaken (b : BlankView) (d bw : ℕ) (t : TicketView) : Type 0 where
   pub seen : ℕ
-  pub found : t.found ≡ b.found ++ seen ∷ seen ∷ []
+  pub found : t.found ≡ b.found ++ found_in d (seen ∷ seen ∷ [])
   pub core : Everywhere seen
       (λ id c. taken id bw (core_word seen) c ≡ done (with_taken id t.bw c))
 
@@ -91,7 +91,7 @@ IsCoreTake b d bw (takes.Raced e expected seen) =
 -- what the core's Regrade answers and does to a ticket in hand, likewise
 pub record IsCoreChanged (t : TicketView) (bw : ℕ) (u : TicketView) : Type 0 where
   pub seen : ℕ
-  pub found : u.found ≡ t.found ++ seen ∷ seen ∷ []
+  pub found : u.found ≡ t.found ++ found_in t.domain (seen ∷ seen ∷ [])
   pub core : Everywhere seen
       (λ id c. regraded_in_hand id t.bw bw (core_word seen) c ≡ done (with_regraded id t.bw u.bw c))
 
@@ -109,7 +109,7 @@ IsCoreRegrade t bw (regrades.Raced u expected seen) =
 -- hand
 pub record IsCoreGive (t : TicketView) (b : BlankView) : Type 0 where
   pub seen : ℕ
-  pub found : b.found ≡ t.found ++ seen ∷ []
+  pub found : b.found ≡ t.found ++ found_in t.domain (seen ∷ [])
   pub core : (id : ℕ) (c : DomainView) → word_in c ≡ core_word seen
       → in_hand_of id c ≡ Some (record { id = id; bw = t.bw })
       → given id c ≡ done (with_given id t.bw c)
@@ -117,7 +117,7 @@ pub record IsCoreGive (t : TicketView) (b : BlankView) : Type 0 where
 -- what the core's Load answers, at whatever domain has the word that the step found: it changes
 -- nothing
 pub record IsCoreLoad (t : TicketView) (n : ℕ) (u : TicketView) : Type 0 where
-  pub found : u.found ≡ t.found ++ n ∷ []
+  pub found : u.found ≡ t.found ++ found_in t.domain (n ∷ [])
   pub core : (c : DomainView) → word_in c ≡ core_word n
       → loaded c ≡ unchanged_step c (Saw (core_word n))
 
@@ -143,7 +143,8 @@ LoadsAsTheCore = (t : TicketView) (n : ℕ) (u : TicketView) → IsLoad t n u �
 -- found; where it is done, the word left has the domain's new cap and what was used
 pub record IsCoreSet (b : BlankView) (d limit : ℕ) (e : BlankView) : Type 0 where
   pub seen : ℕ
-  pub found : e.found ≡ b.found ++ seen ∷ word_of (cap_by b.gate d limit) (used_of seen) ∷ []
+  pub found : e.found
+      ≡ b.found ++ found_in d (seen ∷ word_of (cap_by b.gate d limit) (used_of seen) ∷ [])
   pub core : Everywhere seen (λ id c.
       limited (cap_by b.gate d limit) (core_word seen) c
       ≡ done (record c { cap = cap_by b.gate d limit }))

@@ -7,15 +7,23 @@ use Rattle.bw_gate.specs.declared.view.Piece.TheVariants.{Blank, Ticket}
 use Rattle.bw_gate.specs.declared.view.View.{View}
 use Rattle.bw_gate.specs.Terms.{cpus_in}
 use Rattle.bw_gate.specs.Word.{used_of, cap_of, IsWord}
+use Rattle.bw_gate.specs.Pieces.{found_in}
 use Rattle.bw_gate.specs.Table.{held_by}
 
--- the view after a step that found this word
-abbrev pub with_found : ℕ → View → View
-with_found n v = record v { found = v.found ++ n ∷ [] }
+-- the view after a step that found this word of a domain
+abbrev pub with_found : ℕ → ℕ → View → View
+with_found d n v = record v { found = v.found ++ found_in d (n ∷ []) }
 
 -- the same, where the step has made this piece of the one in hand
-abbrev pub made : Piece → ℕ → View → View
-made piece n v = record v { pieces = piece ∷ []; found = v.found ++ n ∷ [] }
+abbrev pub made : Piece → ℕ → ℕ → View → View
+made piece d n v = record v { pieces = piece ∷ []; found = v.found ++ found_in d (n ∷ []) }
+
+-- the view after a step that set the limit of a domain, and left this word
+abbrev pub with_limit_set : ℕ → ℕ → View → View
+with_limit_set d n v = record v {
+  found = v.found ++ found_in d (n ∷ []);
+  limited_in = v.limited_in ++ d ∷ [];
+}
 
 -- a word that a view can find: what it carries as used has room for what the view's pieces hold of
 -- it, and is at most the cap that it carries, which is one that the domain's CPUs can have
@@ -32,40 +40,42 @@ module _ {S : Type 0} where
 
   -- load: the word stays
   abbrev pub Loads : Step S → Me S View → ℕ → Me S View → Type 0
-  Loads s me n after = (IsFound s.word me.0 n × Reads s) × (after ≡ (with_found n me.0, me.1))
+  Loads s me n after =
+      (IsFound s.word me.0 n × Reads s) × (after ≡ (with_found s.word n me.0, me.1))
 
-  -- take: compare_exchange of `first` for `second`; where `first` was found, the blank has become a
-  -- ticket of this domain and of the bandwidth that the word gained
+  -- take: compare_exchange of `first` for `second`, which finds a sound word; where `first` was
+  -- found, the blank has become a ticket of this domain and of the bandwidth that the word gained
   abbrev pub Takes : Step S → Me S View → ℕ → Me S View → Type 0
   Takes s me n after =
-      (cap_of s.second ≡ cap_of s.first)
+      ((cap_of s.second ≡ cap_of s.first) × IsWord (cpus_in me.0.terms s.word) n)
       × MatchBool (n == s.first)
-      (after ≡ (made (Ticket s.word (s.second - s.first)) n me.0, me.1))
-      (after ≡ (with_found n me.0, me.1))
+      (after ≡ (made (Ticket s.word (s.second - s.first)) s.word n me.0, me.1))
+      (after ≡ (with_found s.word n me.0, me.1))
 
   -- regrade: likewise; the ticket keeps its domain, and has the bandwidth that it had and what the
   -- word gained or lost
   abbrev pub Regrades : Step S → Me S View → ℕ → Me S View → Type 0
   Regrades s me n after =
-      (cap_of s.second ≡ cap_of s.first)
+      ((cap_of s.second ≡ cap_of s.first) × IsWord (cpus_in me.0.terms s.word) n)
       × MatchBool (n == s.first)
-      (after ≡ (made (Ticket s.word (s.second + held_by s.word me.0 - s.first)) n me.0, me.1))
-      (after ≡ (with_found n me.0, me.1))
+      (after
+      ≡ (made (Ticket s.word (s.second + held_by s.word me.0 - s.first)) s.word n me.0, me.1))
+      (after ≡ (with_found s.word n me.0, me.1))
 
   -- give: fetch_sub of the ticket's bandwidth; it has become a blank
   abbrev pub Gives : Step S → Me S View → ℕ → Me S View → Type 0
   Gives s me n after =
       (IsFound s.word me.0 n × (s.first ≡ held_by s.word me.0) × (s.second ≡ 0))
-      × (after ≡ (made Blank n me.0, me.1))
+      × (after ≡ (made Blank s.word n me.0, me.1))
 
   -- limit: compare_exchange of `first` for `second`, by a blank that stays one; where `first` was
   -- found, the word that the step left is appended in its place
   abbrev pub Limits : Step S → Me S View → ℕ → Me S View → Type 0
   Limits s me n after =
-      (me.0.pieces ≡ Blank ∷ [])
+      ((me.0.pieces ≡ Blank ∷ []) × IsWord (cpus_in me.0.terms s.word) n)
       × MatchBool (n == s.first)
-      (after ≡ (with_found s.second me.0, me.1))
-      (after ≡ (with_found n me.0, me.1))
+      (after ≡ (with_limit_set s.word s.second me.0, me.1))
+      (after ≡ (with_found s.word n me.0, me.1))
 
 -- Beside these five, open splits pieces off, renew makes a piece as open deals it, and close joins
 -- pieces, by loads that append nothing.
@@ -86,14 +96,22 @@ Renews s me n after = (after ≡ (without_found me.0, me.1)) × Reads s
 
 -- close: a new seat comes, which has no piece and knows the terms
 abbrev pub without_piece : View → View
-without_piece v = record v { pieces = []; found = [] }
+without_piece v = record v { pieces = []; found = []; limited_in = [] }
 
 abbrev pub Comes : {S : Type 0} → Step S → Me S View → ℕ → Me S View → Type 0
 Comes s me n after = (after ≡ (without_piece me.0, me.1)) × Reads s
 
 -- close: it takes the pieces of all other seats in, and each of these is left with none
 abbrev pub with_pieces_of : View → View → View
-with_pieces_of v w = record v { pieces = v.pieces ++ w.pieces }
+with_pieces_of v w = record v {
+  pieces = v.pieces ++ w.pieces;
+  limited_in = v.limited_in ++ w.limited_in;
+}
 
 abbrev pub spent : View
-spent = record { pieces = []; found = []; terms = record { cpus = []; pieces = 0 } }
+spent = record {
+  pieces = [];
+  found = [];
+  limited_in = [];
+  terms = record { cpus = []; limits = []; pieces = 0 };
+}

@@ -21,9 +21,10 @@ use std::sync::Wait;
 ///
 /// A word carries a cap, which is the domain's CPUs times a limit, and what is used of it. To a
 /// contract a gate is its identity: which table of words it is, and its terms, the CPUs and the
-/// number of pieces. Between any two steps of any clients the used part of each word is exactly the
-/// sum of the bandwidths of the tickets of its domain, and at most the cap that the word then
-/// carries. A piece is used with its own gate.
+/// limits that it was opened with and the number of pieces. Between any two steps of any clients
+/// the used part of each word is exactly the sum of the bandwidths of the tickets of its domain,
+/// and at most the cap that the word then carries; and while no step has set the limit of a domain,
+/// its word carries the cap that it was opened with. A piece is used with its own gate.
 #[derive(Drop)]
 pub struct Gate {
     table: Table<(), View, Terms, Exact, Global>,

@@ -17,10 +17,11 @@ pub struct Room {
     pub limit: u64,
 }
 
-/// What a gate is opened with: the CPUs of each domain, and how many pieces there are.
+/// What a gate is opened with: the CPUs and the limit of each domain, and the number of pieces.
 #[derive(Drop)]
 pub struct Terms {
     cpus: [u64; DOMAINS],
+    limits: [u64; DOMAINS],
     count: usize,
     pieces: usize,
 }
@@ -31,10 +32,19 @@ impl Model for Terms {
 
     ghost Value = { TermsView };
 
-    ghost view = { λ t. record { cpus = take t.count t.cpus; pieces = t.pieces } };
+    ghost view = { λ t. record {
+      cpus = take t.count t.cpus;
+      limits = take t.count t.limits;
+      pieces = t.pieces;
+    } };
 
     ghost invariant = { λ t. (t.count ≤ 8)
-        × AreTerms (record { cpus = take t.count t.cpus; pieces = t.pieces }) };
+        × AreTerms
+        (record {
+          cpus = take t.count t.cpus;
+          limits = take t.count t.limits;
+          pieces = t.pieces;
+        }) };
 }
 
 impl Terms {
@@ -46,11 +56,14 @@ impl Terms {
         ensures { result ≡ terms_of rooms.now pieces }
     {
         let mut row = [0; DOMAINS];
+        let mut limits = [0; DOMAINS];
         for i in 0..rooms.len() {
             row[i] = rooms[i].cpus;
+            limits[i] = rooms[i].limit;
         }
         Terms {
             cpus: row,
+            limits,
             count: rooms.len(),
             pieces,
         }

@@ -8,11 +8,19 @@ pub enum Piece {
     Ticket { domain: usize, bw: u64 },
 }
 
-/// What a seat at the table knows: its pieces, the words that its steps have found, and the gate's
-/// terms. No value of it is made.
+/// A word that a step found, or left where it set a limit, and the domain of that word.
+pub struct Found {
+    pub domain: usize,
+    pub word: u64,
+}
+
+/// What a seat at the table knows: its pieces, the words that its steps have found, the limits that
+/// they have set, and the gate's terms. No value of it is made.
 pub struct View {
     pub pieces: LinkedList<Piece>,
-    pub found: LinkedList<u64>,
+    pub found: LinkedList<Found>,
+    // The domains whose limit its steps have set.
+    pub limited_in: LinkedList<usize>,
     pub terms: Terms,
 }
 

@@ -10,5 +10,6 @@ pub mod Moves
 pub mod Limiting
 pub mod TicketSums
 pub mod Ended
+pub mod CoreBook
 pub mod Spared
 pub mod CallerLemmas

@@ -6,7 +6,8 @@ use Rattle.std.proofs.lemmas.List.{get_or_past}
 use Rattle.attr_check.specs.Ratio.{cap}
 use Rattle.pass_seats.specs.Lists.{PassView}
 use Rattle.bw_gate.specs.Word.{used_of, cap_of, word_of}
-use Rattle.bw_gate.specs.Pieces.{GateId, BlankView, cpus_of, last_word_found}
+use Rattle.bw_gate.specs.Pieces.{GateId, BlankView, cpus_of, found_in, last_word_found}
+use Rattle.bw_gate.specs.declared.view.Found.{Found}
 use Rattle.bw_gate.specs.Answers.{words_of, IsLimited, cap_by}
 use Rattle.bw_gate.specs.declared.answer.Limit.TheVariants as gate
 use Rattle.domain_run.specs.declared.call.Call.TheVariants as Call
@@ -36,8 +37,8 @@ use Rattle.call_book.proofs.Regrading.{used_within}
 left_parts : (most used : ℕ) → used < 2 ^ 32 → (cap_of (word_of most used) ≡ most) × (used_of (word_of most used) ≡ used)
 left_parts most used short = (omega (arith, short), omega (arith, short))
 
-last_of_two : (xs : List ℕ) (a b : ℕ) → last_word_found (xs ++ a ∷ b ∷ []) ≡ b
-last_of_two xs a b = ap last_word_found (sym (append_assoc xs (a ∷ []) (b ∷ []))) ∙ last_of_push (xs ++ a ∷ []) b
+last_of_two : (found : List Found) (d a b : ℕ) → last_word_found (found ++ found_in d (a ∷ b ∷ [])) ≡ b
+last_of_two found d a b = ap last_word_found (sym (append_assoc found (found_in d (a ∷ [])) (found_in d (b ∷ [])))) ∙ last_of_push (found ++ found_in d (a ∷ [])) d b
 
 -- a blank whose limit was set has its answer
 pub set_answer : (cpus domain limit : ℕ) (blank back : BlankView) → cpus_of blank.gate domain ≡ cpus → IsLimited blank domain limit (gate.Set back) → AsksForLimit cpus domain limit blank back None
@@ -47,8 +48,9 @@ set_answer cpus domain limit blank back machine asked =
     let seen = h.seen in
     let most = cap_by blank.gate domain limit in
     let left = word_of most (used_of seen) in
-    let found : back.found ≡ (blank.found ++ words) ++ seen ∷ left ∷ [] = ap (λ (x : BlankView). x.found) h.blank in
-    let last : word_of_blank back ≡ left = ap last_word_found found ∙ last_of_two (blank.found ++ words) seen left in
+    let before = blank.found ++ found_in domain words in
+    let found : back.found ≡ before ++ found_in domain (seen ∷ left ∷ []) = ap (λ (x : BlankView). x.found) h.blank in
+    let last : word_of_blank back ≡ left = ap last_word_found found ∙ last_of_two before domain seen left in
     let parts = left_parts most (used_of seen) (omega arith) in
     let caps : most ≡ cap cpus limit = ap (λ (n : ℕ). n * limit) machine in
     let room : used_of seen ≤ most = h.room in
@@ -64,8 +66,9 @@ pub busy_answer : (cpus domain limit : ℕ) (blank back : BlankView) (seen used 
 busy_answer cpus domain limit blank back seen used machine asked told =
     let words = words_of asked.races in
     let h = asked.last in
-    let found : back.found ≡ (blank.found ++ words) ++ seen ∷ [] = ap (λ (x : BlankView). x.found) h.blank in
-    let last : word_of_blank back ≡ seen = ap last_word_found found ∙ last_of_push (blank.found ++ words) seen in
+    let before = blank.found ++ found_in domain words in
+    let found : back.found ≡ before ++ found_in domain (seen ∷ []) = ap (λ (x : BlankView). x.found) h.blank in
+    let last : word_of_blank back ≡ seen = ap last_word_found found ∙ last_of_push before domain seen in
     let caps : cap_by blank.gate domain limit ≡ cap cpus limit = ap (λ (n : ℕ). n * limit) machine in
     let over : cap_by blank.gate domain limit < used_of seen = h.over in (
       record {

@@ -5,4 +5,5 @@ pub mod BookAnswers
 pub mod LimitAnswers
 pub mod MoveAnswers
 pub mod Ending
+pub mod CoreSteps
 pub mod private

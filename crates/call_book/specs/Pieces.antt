@@ -2,7 +2,7 @@
 use Rattle.std.specs.Prelude.{◌≡◌, ℕ, ◌+◌, ◌-◌, ◌<◌, ◌≤◌, ◌==◌, Bool, not, List, ◌∷◌, ◌++◌, length, map, Option, Some, None, is_some, All}
 use Rattle.std.specs.List.{AllZip}
 use Rattle.bw_gate.specs.Word.{used_of, cap_of, IsWord as IsWholeWord}
-use Rattle.bw_gate.specs.Pieces.{GateId, BlankView, TicketView, cpus_of, last_word_found}
+use Rattle.bw_gate.specs.Pieces.{GateId, BlankView, TicketView, cpus_of, found_in, last_word_found}
 use Rattle.bw_gate.specs.Answers.{IsGive, IsRegrade}
 use Rattle.bw_gate.specs.declared.answer.Regrade.{Regrade}
 use Rattle.bw_gate.specs.declared.answer.Regrade.TheVariants as regrades
@@ -65,12 +65,12 @@ told_as u None = regrades.Changed u
 told_as u (Some used) = regrades.Refused u (word_at u)
 
 -- a ticket that asked for another bandwidth, by one call of the gate that ended as its last try
--- did: it has found words, and is of its gate and domain still
+-- did: it has found words of its domain, and is of its gate and domain still
 pub record IsTicketAnswered (t : TicketView) (bw : ℕ) (u : TicketView)
     (word : Option ℕ) : Type 0 where
   pub words : List ℕ
   pub some : 0 < length words
-  pub found : u.found ≡ t.found ++ words
+  pub found : u.found ≡ t.found ++ found_in t.domain words
   pub own : IsTicketOf t.gate t.domain u
   pub answer : IsWordAnswer t bw u word
   pub asked : IsRegrade t bw (told_as u word)

@@ -13,6 +13,7 @@
 #![tactic(auto)]
 
 mod book;
+mod core_steps;
 
 pub use book::{
     Admit, AdvanceError, Closed, Domain, EndingBook, Full, HeardAdvance, Limit, Move, MoveFault,
@@ -22,3 +23,4 @@ pub use calls_text::{
     Call, CallsFault, CallsReader, Entry, Kept, NoMemory, Reply, Section, Spelled, put_call,
     put_domain, read_calls, write_calls,
 };
+pub use core_steps::books_are_the_cores;

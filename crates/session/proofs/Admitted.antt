@@ -11,7 +11,7 @@ use Rattle.bw_gate.specs.Pieces.{BlankView}
 use Rattle.calls_text.specs.declared.section.Entry.{Entry}
 use Rattle.session.specs.declared.refusal.Refusal.{Refusal}
 use Rattle.session.specs.SessionId.{SessionId}
-use Rattle.session.specs.Asks.{Answer, IsLawful, Asked, Made, made_in, made_at, admit_call, domain_with_cpus, entries_from, ClientView, client_pass_in, followed_by, Asks, IsHandAfterAll}
+use Rattle.session.specs.Asks.{Answer, IsLawful, Asked, Made, made_in, made_at, admit_call, domain_with_cpus, entries_from, ClientView, client_pass_in, followed_by, Asks, AsksInTurn, IsHandAfterAll}
 use Rattle.session.specs.Admissions.{is_own, own_asked, refused_with, refused_in}
 use Rattle.session.specs.Admissions.{AllAsked}
 use Rattle.session.proofs.Closed.{by_place_more}
@@ -46,11 +46,16 @@ hand_more : (id : SessionId) (a b c : Option BlankView) (xs ys : List Asked) →
 hand_more id a b c [] ys first next = subst (λ (h : Option BlankView). IsHandAfterAll id h ys c) first next
 hand_more id a b c (x ∷ xs) ys first next = (first.0, first.1, hand_more id first.0 b c xs ys first.2 next)
 
+turns_more : (id : SessionId) (a b c : ClientView) (xs ys : List Asked) → AsksInTurn id a xs b → AsksInTurn id b ys c → AsksInTurn id a (xs ++ ys) c
+turns_more id a b c [] ys first next = subst (λ (v : ClientView). AsksInTurn id v ys c) first next
+turns_more id a b c (x ∷ xs) ys first next = (first.0, first.1, turns_more id first.0 b c xs ys first.2 next)
+
 pub asks_none : (id : SessionId) (c : ClientView) → Asks id c c []
 asks_none id c = record {
   lawful = All-nil (λ q. IsLawful id q.task q.answer);
   made = record { number = refl; domains = refl; passes = λ d inside. sym (append-nil (client_pass_in c d)) };
   hand = refl;
+  turns = refl;
 }
 
 pub asks_more : (id : SessionId) (a b c : ClientView) (xs ys : List Asked) → Asks id a b xs → Asks id b c ys → Asks id a c (xs ++ ys)
@@ -65,6 +70,7 @@ asks_more id a b c xs ys first next = record {
         ∙ ap (λ (l : List Made). followed_by a d l) (sym (filter_map-append (λ q. made_at d (domain_with_cpus id.cpu_sets q.task.cpus) (admit_call q.task) q.answer) xs ys));
   };
   hand = hand_more id a.hand b.hand c.hand xs ys first.hand next.hand;
+  turns = turns_more id a b c xs ys first.turns next.turns;
 }
 
 -- ---- the tasks of one client

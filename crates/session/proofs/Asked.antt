@@ -15,19 +15,21 @@ use Rattle.domain_run.specs.declared.call.Reply.TheVariants as replies
 use Rattle.rtapp_scenario.specs.ScenarioView.{TaskSpecView}
 use Rattle.pass_seats.specs.Lists.{PassView}
 use Rattle.bw_gate.specs.Word.{used_of, cap_of, IsCap}
-use Rattle.bw_gate.specs.Pieces.{GateId, BlankView, TicketView, last_word_found, cpus_of as gate_cpus}
+use Rattle.bw_gate.specs.Pieces.{GateId, BlankView, TicketView, found_in, last_word_found, cpus_of as gate_cpus}
+use Rattle.bw_gate.specs.declared.view.Found.{Found}
 use Rattle.bw_gate.specs.Answers.{IsTake, IsGive, words_of}
 use Rattle.bw_gate.specs.declared.answer.Take.TheVariants as takes
 use Rattle.calls_text.specs.declared.section.Entry.{Entry}
 use Rattle.session.specs.declared.refusal.Refusal.{Refusal}
 use Rattle.session.specs.declared.refusal.Refusal.TheVariants as refusals
 use Rattle.session.specs.SessionId.{SessionId, IsSession, IsDomainIndex, cpu_set_of}
-use Rattle.session.specs.Asks.{Answer, IsOverCap, IsLawful, Goes, domain_with_cpus, same_cpus, admit_call, ClientView, Asks, Makes, made_by, made_in, made_of, made_at, Made, entries_from, client_pass_in, blank_or_new, IsGateRefusal, IsGivenBackAfter, AsksGate, IsHandAfter, IsLimitReply, IsHandUnasked, MakesLimit}
+use Rattle.session.specs.Seen.{ClientPart, SawFull, AdmissionWasSeen, AnswerWasSeen, EntryWasSeen, RefusalWasSeen}
+use Rattle.session.specs.Asks.{Answer, IsOverCap, IsLawful, Goes, domain_with_cpus, same_cpus, admit_call, ClientView, Asks, Makes, made_by, made_in, made_of, made_at, Made, entries_from, client_pass_in, part_in, blank_or_new, IsGateRefusal, IsGivenBackAfter, AsksGate, IsHandAfter, IsRegradeReply, IsLimitReply, IsHandUnasked, MakesLimit, RefusesOnlyFull}
 use Rattle.call_book.specs.Book.{admission}
 use Rattle.domain_run.specs.declared.call.Call.TheVariants as calls
 use Rattle.session.specs.declared.locked_book.Ask.{Ask}
 use Rattle.session.specs.declared.locked_book.Ask.TheVariants as asks
-use Rattle.session.specs.private.Entering.{IsEntryVerdict, IsBookVerdict, IsGivenBack, NoneIsKept, pass_after, IsDone, IsDoneFor, MakesLimitWith, IsAdvancedBy, IsAdvancedFor}
+use Rattle.session.specs.private.Entering.{IsEntryVerdict, IsBookVerdict, IsGivenBack, NoneIsKept, LeavesNoBlank, KeepsHand, part_with, IsOfTask, WasSeenFor, pass_after, IsDone, IsDoneFor, MakesLimitWith, IsAdvancedBy, IsAdvancedFor}
 
 -- ---- attributes
 
@@ -254,59 +256,106 @@ made_nothing c c' d call r m = record {
   passes = λ e inside. subst (λ (o : Option Made). client_pass_in c' e ≡ client_pass_in c e ++ entries_from c.number (length (client_pass_in c e)) (cons_option o [])) (neither (eqb d e)) (m.passes e inside);
 }
 
+-- a call that left a blank is none that leaves none
+pub hand_taken : (ask : Ask) (blank : Option BlankView) (b : BlankView) (hand next : Option BlankView) → LeavesNoBlank ask blank → blank ≡ Some b → KeepsHand ask hand next
+hand_taken (asks.Admit prepared ticket) blank b hand next none is = tt
+hand_taken (asks.Limit piece limit) blank b hand next none is = tt
+hand_taken (asks.Regrade number params) blank b hand next none is = absurd cc
+hand_taken (asks.Wake number) blank b hand next none is = absurd cc
+hand_taken (asks.Leave number) blank b hand next none is = absurd cc
+
+pub hand_same : (ask : Ask) (hand next : Option BlankView) → next ≡ hand → KeepsHand ask hand next
+hand_same (asks.Admit prepared ticket) hand next same = tt
+hand_same (asks.Limit piece limit) hand next same = tt
+hand_same (asks.Regrade number params) hand next same = same
+hand_same (asks.Wake number) hand next same = same
+hand_same (asks.Leave number) hand next same = same
+
 -- whatever a client asked for under the lock of a domain
-pub done_for : (id : SessionId) (d : ℕ) (c e : ClientView) (p q : PassView Entry) (ask : Ask) (answer : Answer)
+pub done_for : (id : SessionId) (d : ℕ) (c e : ClientView) (p q : PassView Entry) (ask : Ask) (answer : Answer) → part_with p ≡ part_in c d
     → ((call : Call) (a : Answer) → q ≡ pass_after p call a → Makes c e (made_by d call a))
-    → IsDone id d p q ask answer e.hand → NoneIsKept ask answer e.hand → IsDoneFor id d c e ask answer
-done_for id d c e p q (asks.Admit prepared ticket) answer m done given = (m (admission prepared) answer done.pass, done.verdict, given)
-done_for id d c e p q (asks.Regrade number params) answer m done given =
-    (record { word = done.word; made = m (calls.Regrade number params done.word) answer done.replied.pass; reply = done.reply }, done.replied.full)
-done_for id d c e p q (asks.Wake number) answer m done given = (m (calls.Wake number) answer done.pass, done.full)
-done_for id d c e p q (asks.Leave number) answer m done given = (m (calls.Leave number) answer done.pass, done.full)
-done_for id d c e p q (asks.Limit piece limit) answer m done given =
-    (record { word = done.word; made = m (calls.Limit limit done.word) answer done.replied.pass; reply = done.reply; unasked = done.unasked }, done.replied.full)
+    → IsDone id d p q ask answer e.hand → NoneIsKept ask answer e.hand → WasSeenFor id d (part_with p) ask answer → KeepsHand ask c.hand e.hand → IsDoneFor id d c e ask answer
+done_for id d c e p q (asks.Admit prepared ticket) answer same m done given seen keeps =
+    (m (admission prepared) answer done.pass, done.verdict, given, subst (λ (x : ClientPart). AdmissionWasSeen id d x (admission prepared) answer) same seen)
+done_for id d c e p q (asks.Regrade number params) answer same m done given seen keeps = (
+  record {
+    word = done.word;
+    made = m (calls.Regrade number params done.word) answer done.replied.pass;
+    reply = subst (λ (x : ClientPart). IfOk answer (IsRegradeReply id d x number params done.word)) same done.reply;
+  },
+  done.replied.full,
+  keeps,
+  subst (λ (x : ClientPart). RefusalWasSeen id d x answer) same seen,
+)
+done_for id d c e p q (asks.Wake number) answer same m done given seen keeps =
+    (m (calls.Wake number) answer done.pass, done.full, keeps, subst (λ (x : ClientPart). AnswerWasSeen id d x (calls.Wake number) answer) same seen)
+done_for id d c e p q (asks.Leave number) answer same m done given seen keeps =
+    (m (calls.Leave number) answer done.pass, done.full, keeps, subst (λ (x : ClientPart). AnswerWasSeen id d x (calls.Leave number) answer) same seen)
+done_for id d c e p q (asks.Limit piece limit) answer same m done given seen keeps = (
+  record {
+    word = done.word;
+    made = m (calls.Limit limit done.word) answer done.replied.pass;
+    reply = subst (λ (x : ClientPart). IfOk answer (IsLimitReply id d x limit piece done.word e.hand)) same done.reply;
+    unasked = done.unasked;
+  },
+  done.replied.full,
+  subst (λ (x : ClientPart). RefusalWasSeen id d x answer) same seen,
+)
 
 -- an advance of a domain under its lock
-pub advanced_for : (d : ℕ) (c e : ClientView) (p q : PassView Entry) (n : ℕ) (answer : Answer)
+pub advanced_for : (id : SessionId) (d : ℕ) (c e : ClientView) (p q : PassView Entry) (n : ℕ) (answer : Answer) → RefusalWasSeen id d (part_in c d) answer
     → ((call : Call) (a : Answer) → q ≡ pass_after p call a → Makes c e (made_by d call a))
-    → IsAdvancedBy p q n answer → IsAdvancedFor d c e n answer
-advanced_for d c e p q n (Ok (replies.Done ticks)) m done =
-    (record { some = done.some; most = done.most; made = m (calls.Advance ticks) (Ok (replies.Done ticks)) done.pass }, tt)
-advanced_for d c e p q n (Ok replies.Admitted) m done = absurd done
-advanced_for d c e p q n (Ok replies.Changed) m done = absurd done
-advanced_for d c e p q n (Ok replies.Woken) m done = absurd done
-advanced_for d c e p q n (Ok replies.Left) m done = absurd done
-advanced_for d c e p q n (Ok replies.Set) m done = absurd done
-advanced_for d c e p q n (Ok replies.Full) m done = absurd done
-advanced_for d c e p q n (Ok replies.Twice) m done = absurd done
-advanced_for d c e p q n (Ok (replies.Busy seen)) m done = absurd done
-advanced_for d c e p q n (Ok replies.NotListed) m done = absurd done
-advanced_for d c e p q n (Ok replies.NotWaiting) m done = absurd done
-advanced_for d c e p q n (Ok replies.Departed) m done = absurd done
-advanced_for d c e p q n (Err refusals.Full) m done = (made_nothing c e d (calls.Wake 0) refusals.Full (m (calls.Wake 0) (Err refusals.Full) done), tt)
-advanced_for d c e p q n (Err refusals.Enomem) m done = (made_nothing c e d (calls.Wake 0) refusals.Full (m (calls.Wake 0) (Err refusals.Full) done), tt)
-advanced_for d c e p q n (Err refusals.Eperm) m done = absurd done
-advanced_for d c e p q n (Err refusals.Twice) m done = absurd done
-advanced_for d c e p q n (Err (refusals.Einval k)) m done = absurd done
-advanced_for d c e p q n (Err refusals.Esrch) m done = absurd done
-advanced_for d c e p q n (Err (refusals.Stale now)) m done = absurd done
-advanced_for d c e p q n (Err refusals.SameDomain) m done = absurd done
-advanced_for d c e p q n (Err (refusals.Busy seen)) m done = absurd done
+    → IsAdvancedBy p q n answer → e.hand ≡ c.hand → IsAdvancedFor id d c e n answer
+advanced_for id d c e p q n (Ok (replies.Done ticks)) seen m done same =
+    (record { some = done.some; most = done.most; made = m (calls.Advance ticks) (Ok (replies.Done ticks)) done.pass }, tt, same, tt)
+advanced_for id d c e p q n (Ok replies.Admitted) seen m done same = absurd done
+advanced_for id d c e p q n (Ok replies.Changed) seen m done same = absurd done
+advanced_for id d c e p q n (Ok replies.Woken) seen m done same = absurd done
+advanced_for id d c e p q n (Ok replies.Left) seen m done same = absurd done
+advanced_for id d c e p q n (Ok replies.Set) seen m done same = absurd done
+advanced_for id d c e p q n (Ok replies.Full) seen m done same = absurd done
+advanced_for id d c e p q n (Ok replies.Twice) seen m done same = absurd done
+advanced_for id d c e p q n (Ok (replies.Busy k)) seen m done same = absurd done
+advanced_for id d c e p q n (Ok replies.NotListed) seen m done same = absurd done
+advanced_for id d c e p q n (Ok replies.NotWaiting) seen m done same = absurd done
+advanced_for id d c e p q n (Ok replies.Departed) seen m done same = absurd done
+advanced_for id d c e p q n (Err refusals.Full) seen m done same = (made_nothing c e d (calls.Wake 0) refusals.Full (m (calls.Wake 0) (Err refusals.Full) done), tt, same, seen)
+advanced_for id d c e p q n (Err refusals.Enomem) seen m done same = (made_nothing c e d (calls.Wake 0) refusals.Full (m (calls.Wake 0) (Err refusals.Full) done), tt, same, seen)
+advanced_for id d c e p q n (Err refusals.Eperm) seen m done same = absurd done
+advanced_for id d c e p q n (Err refusals.Twice) seen m done same = absurd done
+advanced_for id d c e p q n (Err (refusals.Einval k)) seen m done same = absurd done
+advanced_for id d c e p q n (Err refusals.Esrch) seen m done same = absurd done
+advanced_for id d c e p q n (Err (refusals.Stale now)) seen m done same = absurd done
+advanced_for id d c e p q n (Err refusals.SameDomain) seen m done same = absurd done
+advanced_for id d c e p q n (Err (refusals.Busy k)) seen m done same = absurd done
 
 -- ---- a change of the limit
 
-hand_unasked : (gate : GateId) (hand next : Option BlankView) (piece : BlankView) (answer : Answer) → piece ≡ blank_or_new gate hand → IfErr answer (λ _. next ≡ Some piece) → IfErr answer (λ _. IsHandUnasked gate hand next)
-hand_unasked gate hand next piece (Ok reply) is same = tt
-hand_unasked gate hand next piece (Err refusal) is same = subst (λ (h : Option BlankView). IsHandUnasked gate hand h) (sym same) is
+only_full : (id : SessionId) (d : ℕ) (part : ClientPart) (refusal : Refusal) → RefusesOnlyFull (Err refusal) → RefusalWasSeen id d part (Err refusal) → SawFull id d part
+only_full id d part refusals.Full only seen = seen
+only_full id d part refusals.Enomem only seen = absurd only
+only_full id d part refusals.Eperm only seen = absurd only
+only_full id d part refusals.Twice only seen = absurd only
+only_full id d part refusals.Esrch only seen = absurd only
+only_full id d part refusals.SameDomain only seen = absurd only
+only_full id d part (refusals.Einval k) only seen = absurd only
+only_full id d part (refusals.Stale now) only seen = absurd only
+only_full id d part (refusals.Busy n) only seen = absurd only
+
+hand_unasked : (id : SessionId) (d : ℕ) (part : ClientPart) (hand next : Option BlankView) (piece : BlankView) (answer : Answer)
+    → piece ≡ blank_or_new id.gate hand → RefusesOnlyFull answer → RefusalWasSeen id d part answer → IfErr answer (λ _. next ≡ Some piece) → IfErr answer (λ _. IsHandUnasked id d part hand next)
+hand_unasked id d part hand next piece (Ok reply) is only seen same = tt
+hand_unasked id d part hand next piece (Err refusal) is only seen same =
+    subst (λ (h : Option BlankView). IsHandUnasked id d part hand h) (sym same) (is, only_full id d part refusal only seen)
 
 -- by a piece that was found for it
 pub limit_made : (id : SessionId) (c e : ClientView) (d limit : ℕ) (piece : BlankView) (answer : Answer) → piece ≡ blank_or_new id.gate c.hand
-    → MakesLimitWith id (record c { hand = None }) e d limit piece answer → MakesLimit id c e d limit answer
-limit_made id c e d limit piece answer is m = record {
+    → MakesLimitWith id (record c { hand = None }) e d limit piece answer → RefusesOnlyFull answer → RefusalWasSeen id d (part_in c d) answer → MakesLimit id c e d limit answer
+limit_made id c e d limit piece answer is m only seen = record {
   word = m.word;
   made = record { number = m.made.number; domains = m.made.domains; passes = m.made.passes };
-  reply = subst (λ (b : BlankView). IfOk answer (IsLimitReply d (length (cpu_set_of id d)) id.limit limit b m.word e.hand)) is m.reply;
-  unasked = hand_unasked id.gate c.hand e.hand piece answer is m.unasked;
+  reply = subst (λ (b : BlankView). IfOk answer (IsLimitReply id d (part_in c d) limit b m.word e.hand)) is m.reply;
+  unasked = hand_unasked id d (part_in c d) c.hand e.hand piece answer is only seen m.unasked;
 }
 
 -- without one
@@ -321,16 +370,31 @@ limit_unmade id c d limit none = record {
 -- ---- admissions
 
 -- a task that is admitted nowhere
-pub refused_asks : (id : SessionId) (c : ClientView) (t : TaskSpecView) (r : Refusal) → IsLawful id t (Err r) → IsHandAfter id t c.hand (Err r) c.hand
+nothing_seen : (id : SessionId) (d : ℕ) (part : ClientPart) (call : Call) (next : Option BlankView) (r : Refusal) → IsOfTask r → EntryWasSeen id d part call (Err r) next
+nothing_seen id d part call next (refusals.Einval k) of = tt
+nothing_seen id d part call next refusals.Eperm of = tt
+nothing_seen id d part call next refusals.Full of = absurd of
+nothing_seen id d part call next refusals.Twice of = absurd of
+nothing_seen id d part call next refusals.Enomem of = absurd of
+nothing_seen id d part call next (refusals.Busy n) of = absurd of
+nothing_seen id d part call next refusals.Esrch of = absurd of
+nothing_seen id d part call next (refusals.Stale now) of = absurd of
+nothing_seen id d part call next refusals.SameDomain of = absurd of
+
+refused_nowhere : (id : SessionId) (c : ClientView) (t : TaskSpecView) (r : Refusal) → Makes c c (λ d. made_in id d (record { task = t; answer = Err r } ∷ []))
+refused_nowhere id c t r = record {
+  number = refl;
+  domains = refl;
+  passes = λ e inside. rw (refused_at e (domain_with_cpus id.cpu_sets t.cpus) (admit_call t) r) (sym (append-nil (client_pass_in c e)));
+}
+
+pub refused_asks : (id : SessionId) (c : ClientView) (t : TaskSpecView) (r : Refusal) → IsOfTask r → IsLawful id t (Err r) → IsHandAfter id t c.hand (Err r) c.hand
     → Asks id c c (record { task = t; answer = Err r } ∷ [])
-refused_asks id c t r lawful same = record {
+refused_asks id c t r of lawful same = record {
   lawful = All-cons (λ q. IsLawful id q.task q.answer) _ [] lawful (All-nil (λ q. IsLawful id q.task q.answer));
-  made = record {
-    number = refl;
-    domains = refl;
-    passes = λ e inside. rw (refused_at e (domain_with_cpus id.cpu_sets t.cpus) (admit_call t) r) (sym (append-nil (client_pass_in c e)));
-  };
+  made = refused_nowhere id c t r;
   hand = (c.hand, same, refl);
+  turns = (c, record { made = refused_nowhere id c t r; hand = same; seen = λ d goes. nothing_seen id d (part_in c d) (admit_call t) c.hand r of }, refl);
 }
 
 -- the domain to which a task goes
@@ -354,21 +418,32 @@ hand_after id t d hand (Err refusals.SameDomain) next g v h = absurd v
 -- the answer to a task that goes to a domain
 pub asks_one : (id : SessionId) (c c' : ClientView) (t : TaskSpecView) (d : ℕ) (answer : Answer) → Goes id t d
     → Makes c c' (made_by d (admit_call t) answer) → IsEntryVerdict (length (cpu_set_of id d)) (params_of t.attr).bw answer → AsksGate id.gate d (params_of t.attr).bw c.hand answer c'.hand
+    → EntryWasSeen id d (part_in c d) (admit_call t) answer c'.hand
     → Asks id c c' (record { task = t; answer = answer } ∷ [])
-asks_one id c c' t d answer goes m verdict asks = record {
+asks_one id c c' t d answer goes m verdict asks seen = record {
   lawful = All-cons (λ q. IsLawful id q.task q.answer) _ [] (lawful_of id t d answer goes verdict) (All-nil (λ q. IsLawful id q.task q.answer));
   made = makes_one id c c' t d answer goes.domain m;
   hand = (c'.hand, hand_after id t d c.hand answer c'.hand goes verdict asks, refl);
+  turns = (
+    c',
+    record {
+      made = makes_one id c c' t d answer goes.domain m;
+      hand = hand_after id t d c.hand answer c'.hand goes verdict asks;
+      seen = λ e goes_e.
+          subst (λ (k : ℕ). EntryWasSeen id k (part_in c k) (admit_call t) answer c'.hand) (same_Some d e (sym goes.domain ∙ goes_e.domain)) seen;
+    },
+    refl,
+  );
 }
 
-last_of_more : (found : List ℕ) (n : ℕ) → last_word_found (found ++ n ∷ []) ≡ n
-last_of_more [] n = refl
-last_of_more (x ∷ []) n = refl
-last_of_more (x ∷ y ∷ found) n = last_of_more (y ∷ found) n
+last_of_more : (found : List Found) (d n : ℕ) → last_word_found (found ++ found_in d (n ∷ [])) ≡ n
+last_of_more [] d n = refl
+last_of_more (x ∷ []) d n = refl
+last_of_more (x ∷ y ∷ found) d n = last_of_more (y ∷ found) d n
 
 -- a refused try found its word last
 pub last_seen : (b : BlankView) (d bw : ℕ) (back : BlankView) (word seen : ℕ) → IsTake b d bw (takes.Refused back word) → seen ≡ used_of word → used_of (last_word_found back.found) ≡ seen
-last_seen b d bw back word seen t is = ap (λ (v : BlankView). used_of (last_word_found v.found)) t.last.blank ∙ ap used_of (last_of_more (b.found ++ words_of t.races) word) ∙ sym is
+last_seen b d bw back word seen t is = ap (λ (v : BlankView). used_of (last_word_found v.found)) t.last.blank ∙ ap used_of (last_of_more (b.found ++ found_in d (words_of t.races)) d word) ∙ sym is
 
 -- and the cap that this word carries leaves no room
 pub gate_over : (cpus : ℕ) (b : BlankView) (d bw : ℕ) (back : BlankView) (word seen : ℕ) → gate_cpus b.gate d ≡ cpus → IsTake b d bw (takes.Refused back word) → seen ≡ used_of word → IsOverCap cpus bw seen

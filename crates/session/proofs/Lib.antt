@@ -4,6 +4,7 @@ pub mod Closed
 pub mod Admitted
 pub mod Advanced
 pub mod CallerLemmas
+pub mod Sighted
 pub mod Replied
 pub mod Passes
 pub mod Moved

@@ -1,6 +1,6 @@
 -- A task that moves between two books, and what a client's passes have then.
-use Rattle.std.proofs.Common.{◌≡◌, ◌≢◌, ℕ, zero, suc, ◌+◌, ◌<◌, List, [], ◌∷◌, ◌++◌, length, map, set, take, drop, get_or, arith, Option, Some, Ok, Err, refl, sym, ap, subst, ◌∙◌}
-use Rattle.std.specs.Prelude.{Result, IfSome, IsSomeAnd}
+use Rattle.std.proofs.Common.{◌≡◌, ◌≢◌, ℕ, zero, suc, ◌+◌, ◌<◌, List, [], ◌∷◌, ◌++◌, length, map, set, take, drop, get_or, arith, Option, Some, Ok, Err, inl, inr, refl, sym, ap, subst, ◌∙◌}
+use Rattle.std.specs.Prelude.{◌⊎◌, Result, IfOk, IfErr, IfSome, IsSomeAnd}
 use Rattle.std.proofs.Math.Seq.{take-append_seam}
 use Rattle.std.proofs.lemmas.List.{get_or-set_other, get_or-take, get_or-drop, get_or_default, length-set}
 use Rattle.attr_check.specs.ParamsView.{ParamsView}
@@ -13,39 +13,33 @@ use Rattle.domain_run.specs.declared.call.Reply.TheVariants as replies
 use Rattle.domain_run.specs.Domain.{Domain}
 use Rattle.domain_run.specs.Views.{Moving, moving_in}
 use Rattle.domain_run.specs.Calls.{reply_to}
-use Rattle.domain_run.specs.Run.{run_of}
 use Rattle.bw_gate.specs.Pieces.{GateId, BlankView, TicketView}
 use Rattle.bw_gate.specs.Answers.{IsGive}
 use Rattle.call_book.specs.Pieces.{IsTicketOf}
 use Rattle.calls_text.specs.declared.section.Entry.{Entry}
-use Rattle.call_book.specs.Book.{BookView, AdmissionView, Enters, Stays, state_of}
-use Rattle.calls_text.specs.Histories.{calls_of}
-use Rattle.call_book.specs.MoveAnswers.{Sides, moving_as, arrival, IsStale, ComeBack, IsMoved, LacksRoom}
+use Rattle.call_book.specs.declared.book.domain.moving.MoveFault.{MoveFault}
+use Rattle.call_book.specs.declared.book.domain.moving.MoveFault.TheVariants as faults
+use Rattle.call_book.specs.Book.{BookView, AdmissionView, Enters, Stays, IsFull, state_of}
+use Rattle.call_book.specs.MoveAnswers.{Sides, moving_as, arrival, IsStale, ComeBack, IsMoved, LacksRoom, IsUnprepared}
 use Rattle.session.specs.declared.refusal.Refusal.{Refusal}
 use Rattle.session.specs.SessionId.{SessionId, cpu_set_of}
-use Rattle.session.specs.Asks.{IsOverCap, ClientView, Made, made_by, Makes}
-use Rattle.session.specs.Moves.{state_after, WasListed, WouldReply, WasChanged}
-use Rattle.session.specs.private.Entering.{IsSessionBook, IsClientOf, pass_after}
-use Rattle.session.specs.private.Moving.{PassPair, IsMovedBy, IsWhyRefused, IsMoveRefusedBy, IsBooksAnswer, PassesMove, IsMoveFor}
+use Rattle.session.specs.Seen.{ClientPart, WouldReply}
+use Rattle.session.specs.Asks.{IsOverCap, ClientView, part_in, Made, made_by, Makes}
+use Rattle.session.specs.Moves.{WasListed, WasChanged, NoRoomWasSeen}
+use Rattle.session.specs.private.Entering.{IsSessionBook, part_with, IsSeenBook, IsClientOf, pass_after}
+use Rattle.session.specs.private.Moving.{PassPair, IsUnpreparedAt, IsMovedBy, IsWhyRefused, IsMoveRefusedBy, IsBooksAnswer, PassesMove, IsMoveFor}
 use Rattle.session.proofs.Asked.{makes_at, made_nothing}
 use Rattle.session.proofs.Admitted.{followed_more}
 use Rattle.session.proofs.Passes.{kept, still_client}
+use Rattle.session.proofs.Sighted.{saw_book, same_state, would_reply, saw_full, part_at}
 
--- ---- the state of a book is one of its domain
+-- ---- what a book shows
 
-same_state : (id : SessionId) (d : ℕ) (b : BookView) → IsSessionBook id d b → state_of b ≡ state_after id d (calls_of b.history)
-same_state id d b named =
-    ap (λ (n : ℕ). run_of n b.limit (calls_of b.history)) named.cpus ∙ ap (λ (l : ℕ). run_of (length (cpu_set_of id d)) l (calls_of b.history)) named.limit
-
-pub would_reply : (id : SessionId) (d : ℕ) (b : BookView) (call : Call) (reply : Reply) → IsSessionBook id d b → reply_to (state_of b) call ≡ reply → WouldReply id d call reply
-would_reply id d b call reply named is =
-    record { before = calls_of b.history; replied = subst (λ (s : Domain). reply_to s call ≡ reply) (same_state id d b named) is }
-
-pub no_room : (id : SessionId) (d : ℕ) (b : BookView) (a : AdmissionView) (seen : ℕ) → IsSessionBook id d b → LacksRoom b a seen
-    → WouldReply id d (arrival a) (replies.Busy seen) × IsOverCap (length (cpu_set_of id d)) a.params.bw seen
-no_room id d b a seen named lacks = (
-  would_reply id d b (arrival a) (replies.Busy seen) named lacks.reply,
-  subst (λ (n : ℕ). IsOverCap n a.params.bw seen) named.cpus
+pub no_room : (id : SessionId) (d : ℕ) (b : BookView) (p : PassView Entry) (a : AdmissionView) (n : ℕ) → IsSessionBook id d b → IsSeenBook b p → LacksRoom b a n
+    → WouldReply id d (part_with p) (arrival a) (replies.Busy n) × IsOverCap (length (cpu_set_of id d)) a.params.bw n
+no_room id d b p a n named seen lacks = (
+  would_reply id d b p (arrival a) (replies.Busy n) named seen lacks.reply,
+  subst (λ (k : ℕ). IsOverCap k a.params.bw n) named.cpus
       (record {
         cap = cap b.cpus (state_of b).limit;
         a_cap = record { limit = (state_of b).limit; a_limit = record { least = lacks.a_limit.0; most = lacks.a_limit.1 }; product = refl };
@@ -54,12 +48,37 @@ no_room id d b a seen named lacks = (
       }),
 )
 
-was_listed : (id : SessionId) (d number : ℕ) (b : BookView) (task : Moving) → IsSessionBook id d b → moving_in (state_of b) number ≡ Some task → WasListed id d number task
-was_listed id d number b task named is =
-    record { before = calls_of b.history; found = subst (λ (s : Domain). moving_in s number ≡ Some task) (same_state id d b named) is }
+pub was_listed : (id : SessionId) (d number : ℕ) (b : BookView) (p : PassView Entry) (task : Moving) → IsSessionBook id d b → IsSeenBook b p → moving_in (state_of b) number ≡ Some task
+    → WasListed id d number (part_with p) task
+was_listed id d number b p task named seen is =
+    record { saw = saw_book id d b p named seen; found = subst (λ (s : Domain). moving_in s number ≡ Some task) (same_state id d b named) is }
 
-pub was_changed : (id : SessionId) (d : ℕ) (b : BookView) (a : AdmissionView) (now : ParamsView) → IsSessionBook id d b → IsStale b a now → WasChanged id d a.number (moving_as a) now
-was_changed id d b a now named s = record { task = s.task; listed = was_listed id d a.number b s.task named s.found; differs = s.differs; told = s.told }
+pub was_changed : (id : SessionId) (d : ℕ) (b : BookView) (p : PassView Entry) (a : AdmissionView) (now : ParamsView) → IsSessionBook id d b → IsSeenBook b p → IsStale b a now
+    → WasChanged id d a.number (part_with p) (moving_as a) now
+was_changed id d b p a now named seen s = record { task = s.task; listed = was_listed id d a.number b p s.task named seen s.found; differs = s.differs; told = s.told }
+
+-- why there is no room for a move
+pub no_place : (id : SessionId) (from to : ℕ) (s : Sides) (a : AdmissionView) → IsSessionBook id from s.from → IsSessionBook id to s.to → IsSeenBook s.from s.out → IsSeenBook s.to s.into
+    → IsFull s.from ⊎ IsFull s.to ⊎ (reply_to (state_of s.to) (arrival a) ≡ replies.Full) → NoRoomWasSeen id from to (part_with s.out) (part_with s.into) (arrival a)
+no_place id from to s a out into from_seen to_seen (inl full) = inl (saw_full id from s.from s.out out from_seen full)
+no_place id from to s a out into from_seen to_seen (inr (inl full)) = inr (inl (saw_full id to s.to s.into into to_seen full))
+no_place id from to s a out into from_seen to_seen (inr (inr is)) = inr (inr (would_reply id to s.to s.into (arrival a) replies.Full into to_seen is))
+
+-- what is prepared of a task, or why nothing is
+unprepared : (id : SessionId) (d number : ℕ) (b : BookView) (p : PassView Entry) (fault : MoveFault) → IsSessionBook id d b → IsSeenBook b p → IsUnprepared (state_of b) number fault
+    → IsUnpreparedAt id d number (part_with p) fault
+unprepared id d number b p faults.NotListed named seen is = would_reply id d b p (calls.Depart number) replies.NotListed named seen is
+unprepared id d number b p faults.Memory named seen is = would_reply id d b p (calls.Depart number) replies.Departed named seen is
+
+pub prepared_seen : (id : SessionId) (d number : ℕ) (b : BookView) (p : PassView Entry) (made : Result AdmissionView MoveFault) → IsSessionBook id d b → IsSeenBook b p
+    → IfOk made (λ a. moving_in (state_of b) number ≡ Some (moving_as a)) → IfOk made (λ a. WasListed id d number (part_with p) (moving_as a))
+prepared_seen id d number b p (Ok a) named seen is = was_listed id d number b p (moving_as a) named seen is
+prepared_seen id d number b p (Err fault) named seen is = tt
+
+pub unprepared_seen : (id : SessionId) (d number : ℕ) (b : BookView) (p : PassView Entry) (made : Result AdmissionView MoveFault) → IsSessionBook id d b → IsSeenBook b p
+    → IfErr made (IsUnprepared (state_of b) number) → IfErr made (IsUnpreparedAt id d number (part_with p))
+unprepared_seen id d number b p (Ok a) named seen is = tt
+unprepared_seen id d number b p (Err fault) named seen is = unprepared id d number b p fault named seen is
 
 -- ---- under both locks
 
@@ -73,11 +92,13 @@ pub stays_named : (id : SessionId) (d : ℕ) (old new : BookView) (p q : PassVie
 stays_named id d old new p q is s = subst (IsSessionBook id d) (sym s.book) is
 
 pub moved_by : (id : SessionId) (from to : ℕ) (old new : Sides) (a : AdmissionView) (ticket back : TicketView) (blank : BlankView) → IsSessionBook id from old.from
-    → IsMoved old new a ticket back → IsGive back blank → IsMovedBy id from to (record { out = old.out; into = old.into }) (record { out = new.out; into = new.into }) a blank
-moved_by id from to old new a ticket back blank named m given = record {
+    → IsSessionBook id to old.to → IsSeenBook old.from old.out → IsSeenBook old.to old.into → IsMoved old new a ticket back → IsGive back blank → IsMovedBy id from to (record { out = old.out; into = old.into }) (record { out = new.out; into = new.into }) a blank
+moved_by id from to old new a ticket back blank named into from_seen to_seen m given = record {
   left = m.left.pass;
   came = m.came.pass;
-  listed = was_listed id from a.number old.from (moving_as a) named m.as_prepared;
+  listed = was_listed id from a.number old.from old.out (moving_as a) named from_seen m.as_prepared;
+  leaves = would_reply id from old.from old.out (calls.Depart a.number) replies.Departed named from_seen (sym m.left.lawful);
+  comes = would_reply id to old.to old.into (arrival a) replies.Admitted into to_seen (sym m.came.lawful);
   ticket = back;
   own = subst (λ (n : ℕ). IsTicketOf id.gate n back) named.domain (subst (λ (i : GateId). IsTicketOf i old.from.domain back) named.gate m.own);
   bw = m.bw;
@@ -85,7 +106,7 @@ moved_by id from to old new a ticket back blank named m given = record {
 }
 
 pub refused_by : (id : SessionId) (from to : ℕ) (old new : Sides) (a b : AdmissionView) (ticket back : TicketView) (blank : BlankView) (refusal : Refusal)
-    → ComeBack old new a b ticket back → IsGive back blank → IsWhyRefused id from to a refusal
+    → ComeBack old new a b ticket back → IsGive back blank → IsWhyRefused id from to (part_with old.out) (part_with old.into) a refusal
     → IsMoveRefusedBy id from to (record { out = old.out; into = old.into }) (record { out = new.out; into = new.into }) a ticket blank refusal
 refused_by id from to old new a b ticket back blank refusal c given why = record {
   same = ap (λ (p : PassView Entry). record { out = p; into = new.into }) c.from.pass ∙ ap (λ (p : PassView Entry). record { out = old.out; into = p }) c.to.pass;
@@ -225,13 +246,21 @@ move_makes id from to c e ps qs a ticket blank answer old new number hand apart 
         (ap (λ (v : PassView Entry). v.client) unset ∙ owner to r to_in)
         (subst (λ (v : PassView Entry). s ≡ pass_after v call x) (m.become.into ∙ sym unset) is)
 
+    out_is : part_with p ≡ part_in c from
+    out_is = part_at c ps from p old from_in m.become.out (owner from p from_in)
+
+    into_is : part_with r ≡ part_in c to
+    into_is = part_at c ps to r old to_in m.become.into (owner to r to_in)
+
     handed : (t : TicketView) → IsGive t blank → IsSomeAnd e.hand (IsGive t)
     handed t given = subst (λ (h : Option BlankView). IsSomeAnd h (IsGive t)) (sym hand) given
 
     by : {U : Type 0} (x : Result U Refusal) → IsBooksAnswer id from to m.was m.is a ticket blank x → IsMoveFor id from to c e a ticket x
     by (Ok _) done = record {
       made = both_made c mid e _ _ (first (calls.Depart a.number) (Ok replies.Departed) done.left) (second (arrival a) (Ok replies.Admitted) done.came);
-      listed = done.listed;
+      listed = subst (λ (x : ClientPart). WasListed id from a.number x (moving_as a)) out_is done.listed;
+      leaves = subst (λ (x : ClientPart). WouldReply id from x (calls.Depart a.number) replies.Departed) out_is done.leaves;
+      comes = subst (λ (x : ClientPart). WouldReply id to x (arrival a) replies.Admitted) into_is done.comes;
       ticket = done.ticket;
       own = done.own;
       bw = done.bw;
@@ -242,7 +271,7 @@ move_makes id from to c e ps qs a ticket blank answer old new number hand apart 
           (made_nothing c mid from (calls.Depart a.number) refusal (first (calls.Depart a.number) (Err refusal) (ap (λ (v : PassPair). v.out) done.same)))
           (made_nothing mid e to (arrival a) refusal (second (arrival a) (Err refusal) (ap (λ (v : PassPair). v.into) done.same)));
       given = handed ticket done.given;
-      why = done.why;
+      why = subst (λ (x : ClientPart). IsWhyRefused id from to x (part_in c to) a refusal) out_is (subst (λ (x : ClientPart). IsWhyRefused id from to (part_with p) x a refusal) into_is done.why);
     }
 
 -- and it is one of the session's still

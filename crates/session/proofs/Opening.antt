@@ -74,14 +74,19 @@ cpus_are : (limit : ℕ) (domains : List ℕ) → map (λ (r : Room). r.cpus) (m
 cpus_are limit [] = refl
 cpus_are limit (cpus ∷ domains) = ap (λ (ns : List ℕ). cpus ∷ ns) (cpus_are limit domains)
 
-abbrev terms_with : List ℕ → ℕ → TermsView
-terms_with cpus pieces = record { cpus = cpus; pieces = pieces }
+limits_are : (limit : ℕ) (domains : List ℕ) → map (λ (r : Room). r.limit) (map (room_of limit) domains) ≡ replicate (length domains) limit
+limits_are limit [] = refl
+limits_are limit (cpus ∷ domains) = ap (λ (ns : List ℕ). limit ∷ ns) (limits_are limit domains)
+
+abbrev terms_with : List ℕ → List ℕ → ℕ → TermsView
+terms_with cpus limits pieces = record { cpus = cpus; limits = limits; pieces = pieces }
 
 pub terms_are : (o : Options) (rooms : List Room) (n : ℕ) → rooms ≡ map (room_of o.limit) o.domains.items → n ≡ length o.domains.items → gate_terms rooms (n * 256 + o.clients) ≡ gate_terms_of o
 terms_are o rooms n are count =
     ap (λ (rs : List Room). gate_terms rs (n * 256 + o.clients)) are
-    ∙ ap (λ (ns : List ℕ). terms_with ns (n * 256 + o.clients)) (cpus_are o.limit o.domains.items)
-    ∙ ap (λ (k : ℕ). terms_with o.domains.items (k * 256 + o.clients)) count
+    ∙ ap (λ (ns : List ℕ). terms_with ns (map (λ (r : Room). r.limit) (map (room_of o.limit) o.domains.items)) (n * 256 + o.clients)) (cpus_are o.limit o.domains.items)
+    ∙ ap (λ (ns : List ℕ). terms_with o.domains.items ns (n * 256 + o.clients)) (limits_are o.limit o.domains.items)
+    ∙ ap (λ (k : ℕ). terms_with o.domains.items (replicate (length o.domains.items) o.limit) (k * 256 + o.clients)) count
 
 pub are_rooms : (o : Options) (rooms : List Room) → AreOptions o → rooms ≡ map (room_of o.limit) o.domains.items
     → AreRooms rooms (length o.domains.items * 256 + o.clients)

@@ -6,12 +6,14 @@ use Rattle.attr_check.specs.ParamsView.{ParamsView}
 use Rattle.attr_check.specs.Ratio.{cap}
 use Rattle.pass_seats.specs.Lists.{PassView}
 use Rattle.domain_run.specs.declared.call.Call.{Call}
+use Rattle.domain_run.specs.declared.call.Call.TheVariants as calls
 use Rattle.domain_run.specs.declared.call.Reply.{Reply}
 use Rattle.domain_run.specs.declared.call.Reply.TheVariants as replies
 use Rattle.domain_run.specs.declared.task.Task.{Task}
 use Rattle.domain_run.specs.Domain.{Domain}
 use Rattle.domain_run.specs.Tick.{sum_of}
-use Rattle.domain_run.specs.Calls.{regrade_reply, word_reply, task_of}
+use Rattle.domain_run.specs.Run.{run_of}
+use Rattle.domain_run.specs.Calls.{reply_to, regrade_reply, word_reply, task_of}
 use Rattle.bw_gate.specs.Pieces.{GateId, BlankView, TicketView}
 use Rattle.call_book.specs.declared.book.domain.Full.{Full}
 use Rattle.call_book.specs.declared.book.domain.Limit.{Limit}
@@ -24,9 +26,10 @@ use Rattle.calls_text.specs.Histories.{calls_of}
 use Rattle.call_book.specs.BookAnswers.{IsBusy, IsRegraded}
 use Rattle.call_book.specs.LimitAnswers.{IsLimitSet, AnswersLimit}
 use Rattle.session.specs.declared.refusal.Refusal.TheVariants as refusals
-use Rattle.session.specs.SessionId.{SessionId}
-use Rattle.session.specs.Asks.{Answer, IsOverCap, AsksWord, IsByWord}
-use Rattle.session.specs.private.Entering.{IsSessionBook, SameBook, IsReplied, IsRegradedBy, limit_answer, limit_back, IsLimitedBy, IsWhyNotMade}
+use Rattle.session.specs.SessionId.{SessionId, cpu_set_of}
+use Rattle.session.specs.Asks.{Answer, IsOverCap, AsksWord, IsByWord, IsLimitByWord}
+use Rattle.session.specs.private.Entering.{IsSessionBook, IsSeenBook, SameBook, IsReplied, IsRegradedBy, limit_answer, limit_back, IsLimitedBy, IsCallAnswered, IsWhyNotMade}
+use Rattle.session.proofs.Sighted.{saw_book, same_state}
 
 -- what is the session's book stays so with other entries and pieces
 pub same_named : (id : SessionId) (d : ℕ) (old new : BookView) → SameBook old new → IsSessionBook id d old → IsSessionBook id d new
@@ -89,6 +92,14 @@ pub why_not : (old new : BookView) (p q : PassView Entry) (made : Result Reply F
 why_not old new p q (Ok reply) answer full ok err = subst (λ (a : Answer). IsWhyNotMade old a) (sym ok) tt
 why_not old new p q (Err e) answer full ok err = subst (λ (a : Answer). IsWhyNotMade old a) (sym err) full.full
 
+-- what the book says to a wake or a leave
+pub call_answered : (old new : BookView) (p q : PassView Entry) (call : Call) (made : Result Reply Full) (answer : Answer)
+    → IfOk made (EntersAlone old new p q call) → IfErr made (λ _. IsRefusedFull old new p q)
+    → IfOk made (λ reply. answer ≡ Ok reply) → IfErr made (λ _. answer ≡ Err refusals.Full)
+    → IsCallAnswered old call answer
+call_answered old new p q call (Ok reply) answer entered full ok err = subst (λ (a : Answer). IsCallAnswered old call a) (sym ok) (sym entered.entered.lawful)
+call_answered old new p q call (Err e) answer entered full ok err = subst (λ (a : Answer). IsCallAnswered old call a) (sym err) full.full
+
 -- a regrade
 pub same_regraded : (old new : BookView) (p q : PassView Entry) (number : ℕ) (params : ParamsView) (made : Result Reply Full)
     → IfOk made (IsRegraded old new p q number params) → IfErr made (λ _. IsRefusedFull old new p q) → SameBook old new
@@ -143,25 +154,25 @@ by_word gate d state params word None reply lawful asked unasked = none_asked ga
 by_word gate d state params word (Some t) reply lawful asked unasked =
     by_test (nat_lt (cap state.cpus state.limit) (sum_of state.tasks - t.params.bw + params.bw)) gate d params.bw (sum_of state.tasks) word reply lawful asked unasked
 
-pub regraded : (old new : BookView) (p q : PassView Entry) (number : ℕ) (params : ParamsView) (made : Result Reply Full) (answer : Answer)
-    → IfOk made (IsRegraded old new p q number params) → IfErr made (λ _. IsRefusedFull old new p q)
+pub regraded : (id : SessionId) (d : ℕ) (old new : BookView) (p q : PassView Entry) (number : ℕ) (params : ParamsView) (made : Result Reply Full) (answer : Answer)
+    → IsSessionBook id d old → IsSeenBook old p → IfOk made (IsRegraded old new p q number params) → IfErr made (λ _. IsRefusedFull old new p q)
     → IfOk made (λ reply. answer ≡ Ok reply) → IfErr made (λ _. answer ≡ Err refusals.Full)
-    → IsRegradedBy old.gate old.domain old.cpus old.limit p q number params answer
-regraded old new p q number params (Ok reply) answer entered full ok err =
-    subst (λ (a : Answer). IsRegradedBy old.gate old.domain old.cpus old.limit p q number params a) (sym ok)
+    → IsRegradedBy id d p q number params answer
+regraded id d old new p q number params (Ok reply) answer named seen entered full ok err =
+    subst (λ (a : Answer). IsRegradedBy id d p q number params a) (sym ok)
     (record {
       word = entered.word;
       replied = record { pass = entered.entered.pass; full = tt };
       reply = record {
-        before = calls_of old.history;
-        lawful = entered.entered.lawful;
-        by_word = by_word old.gate old.domain (state_of old) params entered.word (task_of (state_of old) number) reply entered.entered.lawful
+        saw = saw_book id d old p named seen;
+        lawful = subst (λ (s : Domain). reply ≡ reply_to s (calls.Regrade number params entered.word)) (same_state id d old named) entered.entered.lawful;
+        by_word = subst (λ (n : ℕ). IsByWord id.gate n params.bw entered.word reply) named.domain (subst (λ (i : GateId). IsByWord i old.domain params.bw entered.word reply) named.gate (by_word old.gate old.domain (state_of old) params entered.word (task_of (state_of old) number) reply entered.entered.lawful
             (λ e. asks_word old number params.bw new.tickets entered.word (entered.own e) (entered.asked e))
-            (λ differ. (entered.unasked differ).0);
+            (λ differ. (entered.unasked differ).0)));
       };
     })
-regraded old new p q number params (Err e) answer entered full ok err =
-    subst (λ (a : Answer). IsRegradedBy old.gate old.domain old.cpus old.limit p q number params a) (sym err)
+regraded id d old new p q number params (Err e) answer named seen entered full ok err =
+    subst (λ (a : Answer). IsRegradedBy id d p q number params a) (sym err)
     (record { word = None; replied = record { pass = full.stays.pass; full = tt }; reply = tt })
 
 -- ---- a change of the limit
@@ -196,27 +207,56 @@ limited_own old new p q limit blank (limits.Busy back seen) (inl a) = ap (λ (b 
 limited_own old new p q limit blank (limits.Busy back seen) (inr a) = a.asked.own
 limited_own old new p q limit blank (limits.Full back) a = ap (λ (b : BlankView). b.gate) a.1
 
-pub limited : (old new : BookView) (p q : PassView Entry) (limit : ℕ) (blank : BlankView) (made : Limit) → AnswersLimit old new p q limit blank made
-    → IsLimitedBy old.domain old.cpus old.limit p q blank limit (limit_answer made) (Some (limit_back made))
-limited old new p q limit blank (limits.Set back) a = record {
+-- the word's part, of the domain of a session
+by_limit : (id : SessionId) (d : ℕ) (b : BookView) (limit : ℕ) (piece : BlankView) (word : Option ℕ) (reply : Reply) (back : BlankView)
+    → IsSessionBook id d b → IsLimitByWord b.cpus b.domain limit piece word reply back → IsLimitByWord (length (cpu_set_of id d)) d limit piece word reply back
+by_limit id d b limit piece word reply back named by =
+    subst (λ (n : ℕ). IsLimitByWord n d limit piece word reply back) named.cpus (subst (λ (n : ℕ). IsLimitByWord b.cpus n limit piece word reply back) named.domain by)
+
+limit_state : (id : SessionId) (d : ℕ) (b : BookView) (limit : ℕ) (word : Option ℕ) (reply : Reply)
+    → IsSessionBook id d b → reply ≡ reply_to (state_of b) (calls.Limit limit word) → reply ≡ reply_to (run_of (length (cpu_set_of id d)) id.limit (calls_of b.history)) (calls.Limit limit word)
+limit_state id d b limit word reply named is = subst (λ (s : Domain). reply ≡ reply_to s (calls.Limit limit word)) (same_state id d b named) is
+
+pub limited : (id : SessionId) (d : ℕ) (old new : BookView) (p q : PassView Entry) (limit : ℕ) (blank : BlankView) (made : Limit)
+    → IsSessionBook id d old → IsSeenBook old p → AnswersLimit old new p q limit blank made
+    → IsLimitedBy id d p q blank limit (limit_answer made) (Some (limit_back made))
+limited id d old new p q limit blank (limits.Set back) named seen a = record {
   word = None;
   replied = record { pass = a.pass; full = tt };
-  reply = record { before = calls_of old.history; lawful = a.lawful; back = back; in_hand = refl; by_word = a.asked };
+  reply = record {
+    saw = saw_book id d old p named seen;
+    lawful = limit_state id d old limit None replies.Set named a.lawful;
+    back = back;
+    in_hand = refl;
+    by_word = by_limit id d old limit blank None replies.Set back named a.asked;
+  };
   unasked = tt;
 }
-limited old new p q limit blank (limits.Busy back seen) (inl a) = record {
+limited id d old new p q limit blank (limits.Busy back n) named seen (inl a) = record {
   word = None;
   replied = record { pass = a.entered.entered.pass; full = tt };
-  reply = record { before = calls_of old.history; lawful = a.entered.entered.lawful; back = back; in_hand = refl; by_word = a.same };
+  reply = record {
+    saw = saw_book id d old p named seen;
+    lawful = limit_state id d old limit None (replies.Busy n) named a.entered.entered.lawful;
+    back = back;
+    in_hand = refl;
+    by_word = a.same;
+  };
   unasked = tt;
 }
-limited old new p q limit blank (limits.Busy back seen) (inr a) = record {
-  word = Some seen;
+limited id d old new p q limit blank (limits.Busy back n) named seen (inr a) = record {
+  word = Some n;
   replied = record { pass = a.entered.entered.pass; full = tt };
-  reply = record { before = calls_of old.history; lawful = a.entered.entered.lawful; back = back; in_hand = refl; by_word = (refl, a.asked) };
+  reply = record {
+    saw = saw_book id d old p named seen;
+    lawful = limit_state id d old limit (Some n) (replies.Busy n) named a.entered.entered.lawful;
+    back = back;
+    in_hand = refl;
+    by_word = by_limit id d old limit blank (Some n) (replies.Busy n) back named (refl, a.asked);
+  };
   unasked = tt;
 }
-limited old new p q limit blank (limits.Full back) a = record {
+limited id d old new p q limit blank (limits.Full back) named seen a = record {
   word = None;
   replied = record { pass = a.0.stays.pass; full = tt };
   reply = tt;

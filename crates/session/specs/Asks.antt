@@ -12,7 +12,6 @@ use Rattle.domain_run.specs.declared.call.Call.TheVariants.{Admit, Regrade, Adva
 use Rattle.domain_run.specs.declared.call.Reply.{Reply}
 use Rattle.domain_run.specs.declared.call.Reply.TheVariants as replies
 use Rattle.domain_run.specs.Calls.{reply_to}
-use Rattle.domain_run.specs.Run.{run_of}
 use Rattle.rtapp_scenario.specs.ScenarioView.{TaskSpecView}
 use Rattle.calls_text.specs.declared.section.Entry.{Entry}
 use Rattle.call_book.specs.Pieces.{IsTicketOf, IsTicketAnswered}
@@ -20,6 +19,7 @@ use Rattle.call_book.specs.LimitAnswers.{AsksForLimit}
 use Rattle.session.specs.declared.refusal.Refusal.{Refusal}
 use Rattle.session.specs.declared.refusal.Refusal.TheVariants as refusals
 use Rattle.session.specs.SessionId.{SessionId, cpu_set_of}
+use Rattle.session.specs.Seen.{ClientPart, Saw, SawFull, state_seen, EntryWasSeen}
 
 -- ---- a task: its domain and its call
 
@@ -179,6 +179,10 @@ pub record ClientView : Type 0 where
 abbrev pub client_pass_in : ClientView → ℕ → List Entry
 client_pass_in c d = slice_index_or c.passes d []
 
+-- its part of a domain's book
+abbrev pub part_in : ClientView → ℕ → ClientPart
+part_in c d = record { client = c.number; entries = client_pass_in c d }
+
 -- behind its entries in a domain stand those of these calls
 abbrev pub followed_by : ClientView → ℕ → List Made → List Entry
 followed_by c d made =
@@ -191,13 +195,27 @@ pub record Makes (c c' : ClientView) (made : ℕ → List Made) : Type 0 where
   pub domains : length c'.passes ≡ length c.passes
   pub passes : (d : ℕ) → d < length c.passes → client_pass_in c' d ≡ followed_by c d (made d)
 
+-- a client asked for one task: in the domain to which it goes, the book answered as the call saw it
+pub record AsksOne (id : SessionId) (c c' : ClientView) (q : Asked) : Type 0 where
+  pub made : Makes c c' (λ d. made_in id d (q ∷ []))
+  pub hand : IsHandAfter id q.task c.hand q.answer c'.hand
+  pub seen : (d : ℕ) → Goes id q.task d
+      → EntryWasSeen id d (part_in c d) (admit_call q.task) q.answer c'.hand
+
+-- and for one task after the other
+abbrev pub AsksInTurn : SessionId → ClientView → List Asked → ClientView → Type 0
+AsksInTurn id c [] last = last ≡ c
+AsksInTurn id c (q ∷ asked) last =
+    (next : ClientView) × AsksOne id c next q × AsksInTurn id next asked last
+
 -- a client asked for these tasks and got these answers: each is lawful, in each domain the calls
--- that were answered there are what it made, and each EBUSY of the gate is by the piece that was in
--- its hand
+-- that were answered there are what it made, each EBUSY of the gate is by the piece that was in its
+-- hand, and each answer of a book is by what that call saw
 pub record Asks (id : SessionId) (c c' : ClientView) (asked : List Asked) : Type 0 where
   pub lawful : All (λ q. IsLawful id q.task q.answer) asked
   pub made : Makes c c' (λ d. made_in id d asked)
   pub hand : IsHandAfterAll id c.hand asked c'.hand
+  pub turns : AsksInTurn id c asked c'
 
 -- ---- calls on a domain
 
@@ -240,12 +258,12 @@ IsByWord gate d bw (Some seen) reply = (reply ≡ replies.Busy seen) × AsksWord
 IsByWord gate d bw None replies.Changed = AsksWord gate d bw None
 IsByWord gate d bw None _ = Unit {0}
 
--- the reply to a regrade is that of a state of the domain to which some calls led, and of the word
-pub record IsRegradeReply (gate : GateId) (d cpus limit number : ℕ) (params : ParamsView)
-    (word : Option ℕ) (reply : Reply) : Type 0 where
-  pub before : List Call
-  pub lawful : reply ≡ reply_to (run_of cpus limit before) (Regrade number params word)
-  pub by_word : IsByWord gate d params.bw word reply
+-- the reply to a regrade is that of the state that the call saw, and of the word
+pub record IsRegradeReply (id : SessionId) (d : ℕ) (part : ClientPart) (number : ℕ)
+    (params : ParamsView) (word : Option ℕ) (reply : Reply) : Type 0 where
+  pub saw : Saw id d part
+  pub lawful : reply ≡ reply_to (state_seen id d part saw) (Regrade number params word)
+  pub by_word : IsByWord id.gate d params.bw word reply
 
 -- a regrade: with the word, which is the gate's answer in this very call, or none
 pub record MakesRegrade (id : SessionId) (c c' : ClientView) (d number : ℕ) (params : ParamsView)
@@ -253,7 +271,7 @@ pub record MakesRegrade (id : SessionId) (c c' : ClientView) (d number : ℕ) (p
   pub word : Option ℕ
   pub made : Makes c c' (made_by d (Regrade number params word) answer)
   pub reply : IfOk answer
-      (IsRegradeReply id.gate d (length (cpu_set_of id d)) id.limit number params word)
+      (IsRegradeReply id d (part_in c d) number params word)
 
 -- what the word has to do with the reply to a change of the limit: where it refused, the reply is
 -- EBUSY with its number; where it did not, the limit is set by it; and no other reply asked it. It
@@ -265,20 +283,20 @@ IsLimitByWord cpus d limit piece None replies.Set back =
     AsksForLimit cpus d limit piece back None
 IsLimitByWord cpus d limit piece None _ back = back ≡ piece
 
--- the reply to a change of the limit is that of a state of the domain to which some calls led, and
--- of the word; and the piece that asked it is in hand then
-pub record IsLimitReply (d cpus limit wanted : ℕ) (piece : BlankView) (word : Option ℕ)
-    (hand : Option BlankView) (reply : Reply) : Type 0 where
-  pub before : List Call
-  pub lawful : reply ≡ reply_to (run_of cpus limit before) (Limit wanted word)
+-- the reply to a change of the limit is that of the state that the call saw, and of the word; and
+-- the piece that asked it is in hand then
+pub record IsLimitReply (id : SessionId) (d : ℕ) (part : ClientPart) (wanted : ℕ)
+    (piece : BlankView) (word : Option ℕ) (hand : Option BlankView) (reply : Reply) : Type 0 where
+  pub saw : Saw id d part
+  pub lawful : reply ≡ reply_to (state_seen id d part saw) (Limit wanted word)
   pub back : BlankView
   pub in_hand : hand ≡ Some back
-  pub by_word : IsLimitByWord cpus d wanted piece word reply back
+  pub by_word : IsLimitByWord (length (cpu_set_of id d)) d wanted piece word reply back
 
--- Full: there was no piece, or the book is full, and the piece is in hand as it was found
-abbrev pub IsHandUnasked : GateId → Option BlankView → Option BlankView → Type 0
-IsHandUnasked gate hand None = hand ≡ None
-IsHandUnasked gate hand (Some back) = back ≡ blank_or_new gate hand
+-- Full: there was no piece, or the book was full, and the piece is in hand as it was found
+abbrev pub IsHandUnasked : SessionId → ℕ → ClientPart → Option BlankView → Option BlankView → Type 0
+IsHandUnasked id d part hand None = hand ≡ None
+IsHandUnasked id d part hand (Some back) = (back ≡ blank_or_new id.gate hand) × SawFull id d part
 
 -- a change of a domain's limit: with the word, which is the gate's answer in this very call to the
 -- client's own piece, or none
@@ -287,9 +305,8 @@ pub record MakesLimit (id : SessionId) (c c' : ClientView) (d limit : ℕ)
   pub word : Option ℕ
   pub made : Makes c c' (made_by d (Limit limit word) answer)
   pub reply : IfOk answer
-      (IsLimitReply d (length (cpu_set_of id d)) id.limit limit
-      (blank_or_new id.gate c.hand) word c'.hand)
-  pub unasked : IfErr answer (λ _. IsHandUnasked id.gate c.hand c'.hand)
+      (IsLimitReply id d (part_in c d) limit (blank_or_new id.gate c.hand) word c'.hand)
+  pub unasked : IfErr answer (λ _. IsHandUnasked id d (part_in c d) c.hand c'.hand)
 
 -- an advance: the entry tells how many ticks were made, at least one and at most as many as were
 -- asked for

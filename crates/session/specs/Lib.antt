@@ -1,6 +1,7 @@
 pub mod SessionId
 pub mod Options
 pub mod RefusalText
+pub mod Seen
 pub mod Asks
 pub mod Moves
 pub mod Clients

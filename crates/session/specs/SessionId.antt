@@ -36,7 +36,7 @@ no_session = record {
           offset = 0;
           slot_names = [];
         };
-    terms = record { cpus = []; pieces = 0 };
+    terms = record { cpus = []; limits = []; pieces = 0 };
   };
   spines = [];
   cpu_sets = [];

@@ -8,7 +8,8 @@ ghost use Rattle.domain_run.specs.Log.{Tells};
 ghost use Rattle.calls_text.specs.Limits.{IsCall};
 ghost use Rattle.call_book.specs.Book.{IsMember, IsFull, admission, own_entries};
 ghost use Rattle.session.specs.SessionId.{IsSession, IsDomainIndex, cpu_set_of, spine_of};
-ghost use Rattle.session.specs.Asks.{Asks, admit_call, client_pass_in, Makes, made_by, MakesRegrade, MakesLimit, MakesAdvance, RefusesOnlyFull, RefusesOnlyFullOrMemory, IsLastFound, blank_or_new, AsksGate, IsHandAfter};
+ghost use Rattle.session.specs.Seen.{AnswerWasSeen, EntryWasSeen, RefusalWasSeen};
+ghost use Rattle.session.specs.Asks.{Asks, admit_call, client_pass_in, part_in, Makes, made_by, MakesRegrade, MakesLimit, MakesAdvance, RefusesOnlyFull, RefusesOnlyFullOrMemory, IsLastFound, blank_or_new, AsksGate, IsHandAfter};
 ghost use Rattle.session.specs.Clients.{IsNew};
 ghost use Rattle.session.specs.private.Parts.{IsHand};
 ghost use Rattle.session.specs.private.Entering.{IsAdvancedFor, IsAsk, IsDoneFor, IsEntryVerdict, IsSessionBook};
@@ -138,7 +139,7 @@ impl<N: Names> Client<N> {
         requires place { IsDomainIndex N.id D }
         requires some { IsSome book.now }
         requires call { IsCall (calls.Advance ticks) }
-        ensures { IsAdvancedFor D self.old self.new ticks result }
+        ensures { IsAdvancedFor N.id D self.old self.new ticks result }
     {
         let Some(lock) = book else { unreachable!() };
         let mut named = lock.lock(rt);
@@ -285,6 +286,8 @@ impl<N: Names> Client<N> {
         ensures last { IsLastFound self.new.hand result }
         ensures gate { AsksGate N.id.gate place prepared.params.bw
             (Some blank) result self.new.hand }
+        ensures seen { EntryWasSeen N.id place (part_in self.old place) (admission prepared)
+            result self.new.hand }
     {
         match shared.gate.take(rt, blank, place, prepared.bw()) {
             Take::Taken(ticket) => {
@@ -323,6 +326,8 @@ impl<N: Names> Client<N> {
         ensures last { IsLastFound self.new.hand result }
         ensures gate { AsksGate N.id.gate place (params_of task.now.attr).bw
             (Some blank) result self.new.hand }
+        ensures seen { EntryWasSeen N.id place (part_in self.old place) (admit_call task.now)
+            result self.new.hand }
     {
         match prepare(
             alloc,
@@ -358,6 +363,8 @@ impl<N: Names> Client<N> {
         ensures last { IsLastFound self.new.hand result }
         ensures gate { AsksGate N.id.gate place (params_of task.now.attr).bw
             self.old.hand result self.new.hand }
+        ensures seen { EntryWasSeen N.id place (part_in self.old place) (admit_call task.now)
+            result self.new.hand }
     {
         match self.find_blank(rt, shared, place) {
             Some(blank) => self.admit_with(rt, alloc, shared, task, params, place, blank),
@@ -407,6 +414,8 @@ impl<N: Names> Client<N> {
         requires call { IsCall (calls.Regrade number params None) }
         ensures made { MakesRegrade N.id self.old self.new domain number params result }
         ensures full { RefusesOnlyFull result }
+        ensures hand { self.new.hand ≡ self.old.hand }
+        ensures seen { RefusalWasSeen N.id domain (part_in self.old domain) result }
     {
         self.enter_at(
             rt,
@@ -429,6 +438,9 @@ impl<N: Names> Client<N> {
         requires call { IsCall (calls.Wake number) }
         ensures made { Makes self.old self.new (made_by domain (calls.Wake number) result) }
         ensures full { RefusesOnlyFull result }
+        ensures hand { self.new.hand ≡ self.old.hand }
+        ensures seen { AnswerWasSeen N.id domain (part_in self.old domain) (calls.Wake number)
+            result }
     {
         self.enter_at(rt, session.shares(), domain, Ask::Wake { number })
     }
@@ -446,6 +458,9 @@ impl<N: Names> Client<N> {
         requires call { IsCall (calls.Leave number) }
         ensures made { Makes self.old self.new (made_by domain (calls.Leave number) result) }
         ensures full { RefusesOnlyFull result }
+        ensures hand { self.new.hand ≡ self.old.hand }
+        ensures seen { AnswerWasSeen N.id domain (part_in self.old domain) (calls.Leave number)
+            result }
     {
         self.enter_at(rt, session.shares(), domain, Ask::Leave { number })
     }
@@ -490,6 +505,8 @@ impl<N: Names> Client<N> {
         requires call { IsCall (calls.Advance ticks) }
         ensures made { MakesAdvance self.old self.new domain ticks result }
         ensures full { RefusesOnlyFullOrMemory result }
+        ensures hand { self.new.hand ≡ self.old.hand }
+        ensures seen { RefusalWasSeen N.id domain (part_in self.old domain) result }
     {
         let shared = session.shares();
         let gate = &shared.gate;

@@ -4,11 +4,12 @@
 //! A [`Session`] meets the definitions of which session it is (`specs/SessionId.antt`,
 //! `specs/Options.antt`), of the clients that it hands out (`specs/Clients.antt`), of what a
 //! [`Client`] is answered and what it leaves in the books (`specs/Asks.antt`; for a task that
-//! moves, `specs/Moves.antt`), and of what the session leaves at its end (`specs/Report.antt`). To
-//! the crate above it promises: a call leaves exactly its entry, or none; a move leaves a departure
-//! in the one book and an arrival in the other, or nothing; an admission is answered EINVAL and
-//! EPERM exactly where the definition says; and at the end the histories are legal, and each
-//! client's entries in them are what it entered.
+//! moves, `specs/Moves.antt`), by the history that the call saw (`specs/Seen.antt`), and of what
+//! the session leaves at its end (`specs/Report.antt`). To the crate above it promises: a call
+//! leaves exactly its entry, or none; a book's answer is that of a legal history in which the
+//! client's entries are its pass; a move leaves a departure in the one book and an arrival in the
+//! other, or nothing; an admission is answered EINVAL and EPERM exactly where the definition says;
+//! and at the end the histories are legal, and each client's entries in them are what it entered.
 //!
 //! [`admit_all`] lets many clients admit a scenario's tasks at once, each client in a thread of its
 //! own. It meets the definition "Admissions of many clients" (`specs/Admissions.antt`) and
@@ -33,6 +34,7 @@ mod parts;
 mod pool;
 mod refusal;
 mod report;
+mod seen;
 mod session;
 mod shared;
 mod turnstile;
@@ -47,6 +49,7 @@ pub use parts::Parts;
 pub use refusal::{Answer, Refusal};
 pub use report::{Finished, Report, Wanted};
 pub use run_options::{Options, Print};
+pub use seen::one_client_sees_all;
 pub use session::Session;
 pub use shared::{Shared, Shares};
 pub use turnstile::{AllPass, Turnstile};

@@ -5,18 +5,24 @@ ghost use Rattle.bw_gate.specs.Answers.{IsGive};
 ghost use Rattle.domain_run.specs.declared.call.Call.TheVariants as calls;
 ghost use Rattle.domain_run.specs.Domain.{IsLimit};
 ghost use Rattle.call_book.specs.Book.{IsPassOf, IsMember, admission};
+ghost use Rattle.call_book.specs.MoveAnswers.{moving_as};
 ghost use Rattle.calls_text.specs.Limits.{IsCall};
 ghost use Rattle.call_book.specs.Pieces.{IsTicketOf};
 ghost use Rattle.session.specs.SessionId.{IsSession, spine_of};
-ghost use Rattle.session.specs.private.Entering.{IsSessionBook, SameBook, IsAsk, IsGivenBack, NoneIsKept, IsDone, IsOffered, IsReplied, IsRegradedBy, limit_answer, limit_back, IsLimitedBy, IsAdvancedBy, IsWhyNotAdmitted, IsWhyNotMade, IsWhyNot};
-ghost use Rattle.session.specs.private.Moving.{IsPassPair, IsMoveAsk, IsBooksAnswer, IsWhyNotMoved};
+ghost use Rattle.session.specs.Seen.{RefusalWasSeen};
+ghost use Rattle.session.specs.Moves.{WasListed};
+ghost use Rattle.session.specs.private.Entering.{IsSessionBook, part_with, IsSeenBook, SameBook, IsAsk, IsGivenBack, NoneIsKept, LeavesNoBlank, IsDone, IsOffered, IsReplied, IsRegradedBy, limit_answer, limit_back, IsLimitedBy, IsAdvancedBy, IsAdmissionAnswered, IsCallAnswered, IsWhyNotMade, IsBookAnswer, WasSeenFor};
+ghost use Rattle.session.specs.private.Moving.{IsPassPair, IsMoveAsk, IsUnpreparedAt, IsBooksAnswer, IsWhyNotMoved};
 
 use crate::names::Names;
 use crate::refusal::{Answer, Refusal};
 use attr_check::Params;
 use bw_gate::{Blank, Gate, Ticket};
-use call_book::{Admit, AdvanceError, Domain, Full, Limit, Move, Pass, Prepared, move_task};
+use call_book::{
+    Admit, AdvanceError, Domain, Full, Limit, Move, MoveFault, Pass, Prepared, move_task,
+};
 use domain_run::Reply;
+use std::alloc::Global;
 use std::marker::PhantomData;
 use std::sync::Wait;
 use std::thread::Threads;
@@ -69,7 +75,7 @@ fn admit(
     ensures same { SameBook domain.old domain.new }
     ensures offered { IsOffered domain.old.cpus pass.old pass.new prepared result.answer }
     ensures given { IsGivenBack ticket result.answer result.blank }
-    ensures told { IsWhyNotAdmitted domain.old (admission prepared) result.answer }
+    ensures told { IsAdmissionAnswered domain.old (admission prepared) result.answer }
     ensures own { IfSome result.blank (λ b. b.gate ≡ gate.now) }
 {
     match domain.admit(pass, prepared, ticket) {
@@ -108,7 +114,7 @@ fn outcome_of(made: Result<Reply, Full>) -> Outcome
     }
 }
 
-fn regrade<R: Wait>(
+fn regrade<N: Names, const D: usize, R: Wait>(
     rt: &R,
     domain: &mut Domain,
     gate: &Gate,
@@ -116,13 +122,13 @@ fn regrade<R: Wait>(
     number: u32,
     params: Params,
 ) -> Outcome
+    requires named { IsSessionBook N.id D domain.old }
+    requires seen { IsSeenBook domain.old pass.old }
     requires gate { gate.now ≡ domain.old.gate }
     requires pass { IsPassOf domain.old pass.old }
     requires call { IsCall (calls.Regrade number params None) }
     ensures same { SameBook domain.old domain.new }
-    ensures replied { IsRegradedBy domain.old.gate domain.old.domain domain.old.cpus
-        domain.old.limit
-        pass.old pass.new number params result.answer }
+    ensures replied { IsRegradedBy N.id D pass.old pass.new number params result.answer }
     ensures told { IsWhyNotMade domain.old result.answer }
     ensures own { result.blank ≡ None }
 {
@@ -134,7 +140,7 @@ fn wake(domain: &mut Domain, pass: &mut Pass, number: u32) -> Outcome
     requires call { IsCall (calls.Wake number) }
     ensures same { SameBook domain.old domain.new }
     ensures replied { IsReplied pass.old pass.new (calls.Wake number) result.answer }
-    ensures told { IsWhyNotMade domain.old result.answer }
+    ensures told { IsCallAnswered domain.old (calls.Wake number) result.answer }
     ensures own { result.blank ≡ None }
 {
     outcome_of(domain.wake(pass, number))
@@ -145,7 +151,7 @@ fn leave(domain: &mut Domain, pass: &mut Pass, number: u32) -> Outcome
     requires call { IsCall (calls.Leave number) }
     ensures same { SameBook domain.old domain.new }
     ensures replied { IsReplied pass.old pass.new (calls.Leave number) result.answer }
-    ensures told { IsWhyNotMade domain.old result.answer }
+    ensures told { IsCallAnswered domain.old (calls.Leave number) result.answer }
     ensures own { result.blank ≡ None }
 {
     outcome_of(domain.leave(pass, number))
@@ -168,7 +174,7 @@ fn outcome_of_limit(made: Limit) -> Outcome
 }
 
 /// Sets the limit; the blank comes back.
-fn set_limit<R: Wait>(
+fn set_limit<N: Names, const D: usize, R: Wait>(
     rt: &R,
     domain: &mut Domain,
     gate: &Gate,
@@ -176,18 +182,52 @@ fn set_limit<R: Wait>(
     blank: Blank,
     limit: u64,
 ) -> Outcome
+    requires named { IsSessionBook N.id D domain.old }
+    requires seen { IsSeenBook domain.old pass.old }
     requires gate { gate.now ≡ domain.old.gate }
     requires pass { IsPassOf domain.old pass.old }
     requires blank { blank.gate ≡ gate.now }
     requires limit { IsLimit limit }
     ensures same { SameBook domain.old domain.new }
-    ensures limited { IsLimitedBy domain.old.domain domain.old.cpus domain.old.limit
-        pass.old pass.new blank limit result.answer result.blank }
+    ensures limited { IsLimitedBy N.id D pass.old pass.new blank limit result.answer result.blank }
     ensures told { IsWhyNotMade domain.old result.answer }
     ensures some { IsSome result.blank }
     ensures own { IfSome result.blank (λ b. b.gate ≡ gate.now) }
 {
     outcome_of_limit(domain.limit(rt, pass, gate, blank, limit))
+}
+
+/// Makes a call with a client's pass, which agrees with the book.
+fn make_seen<N: Names, const D: usize, R: Wait>(
+    rt: &R,
+    domain: &mut Domain,
+    gate: &Gate,
+    pass: &mut Pass,
+    ask: Ask,
+) -> Outcome
+    requires named { IsSessionBook N.id D domain.old }
+    requires seen { IsSeenBook domain.old pass.old }
+    requires gate { gate.now ≡ N.id.gate }
+    requires pass { IsPassOf domain.old pass.old }
+    requires ask { IsAsk N.id D ask }
+    ensures same { SameBook domain.old domain.new }
+    ensures done { IsDone N.id D pass.old pass.new ask result.answer result.blank }
+    ensures given { NoneIsKept ask result.answer result.blank }
+    ensures none { LeavesNoBlank ask result.blank }
+    ensures told { IsBookAnswer domain.old ask result.answer }
+    ensures own { IfSome result.blank (λ b. b.gate ≡ N.id.gate) }
+{
+    match ask {
+        Ask::Admit { prepared, ticket } => admit(domain, gate, pass, prepared, ticket),
+        Ask::Regrade { number, params } => {
+            regrade::<N, D, R>(rt, domain, gate, pass, number, params)
+        }
+        Ask::Wake { number } => wake(domain, pass, number),
+        Ask::Leave { number } => leave(domain, pass, number),
+        Ask::Limit { blank, limit } => {
+            set_limit::<N, D, R>(rt, domain, gate, pass, blank, limit)
+        }
+    }
 }
 
 /// Moves a task between the books of two domains, and gives the ticket that comes out of it back to
@@ -204,6 +244,8 @@ fn move_listed<N: Names, const D: usize, const E: usize>(
     requires gate { gate.now ≡ N.id.gate }
     requires from { IsSessionBook N.id D from.old }
     requires to { IsSessionBook N.id E to.old }
+    requires from_seen { IsSeenBook from.old from_pass.old }
+    requires to_seen { IsSeenBook to.old to_pass.old }
     requires passes { IsPassPair N.id D E
         (record { out = from_pass.old; into = to_pass.old }) }
     requires ask { IsMoveAsk N.id E prepared ticket }
@@ -262,17 +304,14 @@ impl<N: Names, const D: usize> LockedBook<N, D> {
         requires ask { IsAsk N.id D ask }
         ensures done { IsDone N.id D pass.old pass.new ask result.answer result.blank }
         ensures given { NoneIsKept ask result.answer result.blank }
-        ensures told { IsWhyNot self.old.domain.value ask result.answer }
+        ensures none { LeavesNoBlank ask result.blank }
+        ensures told { IsBookAnswer self.old.domain.value ask result.answer }
+        ensures seen { WasSeenFor N.id D (part_with pass.old) ask result.answer }
         ensures own { IfSome result.blank (λ b. b.gate ≡ N.id.gate) }
     {
         let domain = &mut *self.domain;
-        match ask {
-            Ask::Admit { prepared, ticket } => admit(domain, gate, pass, prepared, ticket),
-            Ask::Regrade { number, params } => regrade(rt, domain, gate, pass, number, params),
-            Ask::Wake { number } => wake(domain, pass, number),
-            Ask::Leave { number } => leave(domain, pass, number),
-            Ask::Limit { blank, limit } => set_limit(rt, domain, gate, pass, blank, limit),
-        }
+        domain.agree(pass);
+        make_seen::<N, D, R>(rt, domain, gate, pass, ask)
     }
 
     /// Makes up to so many ticks with a client's pass.
@@ -289,12 +328,36 @@ impl<N: Names, const D: usize> LockedBook<N, D> {
         requires call { IsCall (calls.Advance ticks) }
         ensures made { IsAdvancedBy pass.old pass.new ticks result }
         ensures told { IsWhyNotMade self.old.domain.value result }
+        ensures seen { RefusalWasSeen N.id D (part_with pass.old) result }
     {
-        match self.domain.advance(rt, pass, gate, ticks) {
+        let domain = &mut *self.domain;
+        domain.agree(pass);
+        match domain.advance(rt, pass, gate, ticks) {
             Ok(reply) => Ok(reply),
             Err(AdvanceError::Full) => Err(Refusal::Full),
             Err(AdvanceError::Memory) => Err(Refusal::Enomem),
         }
+    }
+
+    /// What a task takes along to another domain, as a client sees it.
+    pub(crate) fn prepare(
+        &mut self,
+        alloc: Global,
+        pass: &mut Pass,
+        number: u32,
+    ) -> Result<Prepared, MoveFault>
+        requires pass { pass.old.spine ≡ spine_of N.id D }
+        requires call { IsCall (calls.Depart number) }
+        ensures same { pass.new ≡ pass.old }
+        ensures number { IfOk result (λ a. a.number ≡ number) }
+        ensures soon { IfOk result (λ a. a.delay ≡ 0) }
+        ensures listed { IfOk result
+            (λ a. WasListed N.id D number (part_with pass.old) (moving_as a)) }
+        ensures fault { IfErr result (IsUnpreparedAt N.id D number (part_with pass.old)) }
+    {
+        let domain = &mut *self.domain;
+        domain.agree(pass);
+        domain.prepare_move(alloc, number)
     }
 
     /// Moves a task to another domain with a client's passes of both. A refusal is told of both
@@ -321,6 +384,8 @@ impl<N: Names, const D: usize> LockedBook<N, D> {
         ensures own { result.1.gate ≡ N.id.gate }
     {
         let (from, to) = (&mut *self.domain, &mut *to.domain);
+        from.agree(from_pass);
+        to.agree(to_pass);
         move_listed::<N, D, E>(from, from_pass, to, to_pass, gate, prepared, ticket)
     }
 }

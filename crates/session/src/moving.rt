@@ -6,7 +6,7 @@ ghost use Rattle.calls_text.specs.Limits.{IsCall};
 ghost use Rattle.call_book.specs.MoveAnswers.{moving_as};
 ghost use Rattle.session.specs.declared.refusal.Refusal.TheVariants as refusals;
 ghost use Rattle.session.specs.SessionId.{IsDomainIndex};
-ghost use Rattle.session.specs.Asks.{Makes, blank_or_new};
+ghost use Rattle.session.specs.Asks.{Makes, part_in, blank_or_new};
 ghost use Rattle.session.specs.Moves.{WasListed, HasMoved, IsWhyUnmoved};
 ghost use Rattle.session.specs.private.Moving.{IsMoveAsk, AreOfOne, PassesMove, IsMoveFor, IsUnpreparedAt, refusal_by};
 
@@ -59,44 +59,50 @@ fn refusal_of(fault: MoveFault) -> Refusal
     }
 }
 
-/// What a task takes along, under its domain's lock.
-fn prepare_here<N: Names, const D: usize, R: Wait>(
-    rt: &R,
-    alloc: Global,
-    book: &Option<Mutex<LockedBook<N, D>>>,
-    number: u32,
-) -> Result<Prepared, MoveFault>
-    requires some { IsSome book.now }
-    requires call { IsCall (calls.Depart number) }
-    ensures number { IfOk result (λ a. a.number ≡ number) }
-    ensures soon { IfOk result (λ a. a.delay ≡ 0) }
-    ensures listed { IfOk result (λ a. WasListed N.id D number (moving_as a)) }
-    ensures fault { IfErr result (IsUnpreparedAt N.id D number) }
-{
-    match book {
-        Some(lock) => lock.lock(rt).domain.prepare_move(alloc, number),
-        None => unreachable!(),
-    }
-}
-
-fn prepare_at<N: Names, R: Wait>(
-    rt: &R,
-    alloc: Global,
-    shared: &Shared<N>,
-    from: usize,
-    number: u32,
-) -> Result<Prepared, MoveFault>
-    requires from { IsDomainIndex N.id from }
-    requires call { IsCall (calls.Depart number) }
-    ensures number { IfOk result (λ a. a.number ≡ number) }
-    ensures soon { IfOk result (λ a. a.delay ≡ 0) }
-    ensures listed { IfOk result (λ a. WasListed N.id from number (moving_as a)) }
-    ensures fault { IfErr result (IsUnpreparedAt N.id from number) }
-{
-    at_place!(shared.books, from, book => prepare_here(rt, alloc, book, number))
-}
-
 impl<N: Names> Client<N> {
+    /// What a task takes along, under its domain's lock.
+    fn prepare_here<const D: usize, R: Wait>(
+        &mut self,
+        rt: &R,
+        alloc: Global,
+        book: &Option<Mutex<LockedBook<N, D>>>,
+        number: u32,
+    ) -> Result<Prepared, MoveFault>
+        requires place { IsDomainIndex N.id D }
+        requires some { IsSome book.now }
+        requires call { IsCall (calls.Depart number) }
+        ensures same { self.new ≡ self.old }
+        ensures number { IfOk result (λ a. a.number ≡ number) }
+        ensures soon { IfOk result (λ a. a.delay ≡ 0) }
+        ensures listed { IfOk result
+            (λ a. WasListed N.id D number (part_in self.old D) (moving_as a)) }
+        ensures fault { IfErr result (IsUnpreparedAt N.id D number (part_in self.old D)) }
+    {
+        let Some(lock) = book else { unreachable!() };
+        let mut named = lock.lock(rt);
+        named.prepare(alloc, &mut self.passes[D], number)
+    }
+
+    fn prepare_at<R: Wait>(
+        &mut self,
+        rt: &R,
+        alloc: Global,
+        shared: &Shared<N>,
+        from: usize,
+        number: u32,
+    ) -> Result<Prepared, MoveFault>
+        requires from { IsDomainIndex N.id from }
+        requires call { IsCall (calls.Depart number) }
+        ensures same { self.new ≡ self.old }
+        ensures number { IfOk result (λ a. a.number ≡ number) }
+        ensures soon { IfOk result (λ a. a.delay ≡ 0) }
+        ensures listed { IfOk result
+            (λ a. WasListed N.id from number (part_in self.old from) (moving_as a)) }
+        ensures fault { IfErr result (IsUnpreparedAt N.id from number (part_in self.old from)) }
+    {
+        at_place!(shared.books, from, book => self.prepare_here(rt, alloc, book, number))
+    }
+
     /// Moves a task between two domains whose locks are held.
     fn move_locked<const D: usize, const E: usize>(
         &mut self,
@@ -209,12 +215,13 @@ impl<N: Names> Client<N> {
         requires to { IsDomainIndex N.id to }
         requires own { blank.gate ≡ N.id.gate }
         requires soon { prepared.delay ≡ 0 }
-        requires listed { WasListed N.id from prepared.number (moving_as prepared) }
+        requires listed { WasListed N.id from prepared.number (part_in self.old from)
+            (moving_as prepared) }
         ensures moved { OnOk result
             (HasMoved N.id prepared.number from to blank self.old self.new) }
         ensures unmoved { IfErr result (λ _. Makes self.old self.new (λ d. [])) }
         ensures why { IfErr result
-            (IsWhyUnmoved N.id prepared.number from to (Some blank) self.new.hand) }
+            (IsWhyUnmoved N.id self.old prepared.number from to (Some blank) self.new.hand) }
     {
         match shared.gate.take(rt, blank, to, prepared.bw()) {
             Take::Taken(ticket) => self.move_at(rt, shared, from, to, prepared, ticket),
@@ -249,9 +256,10 @@ impl<N: Names> Client<N> {
         requires own { blank.gate ≡ N.id.gate }
         ensures moved { OnOk result (HasMoved N.id number from to blank self.old self.new) }
         ensures unmoved { IfErr result (λ _. Makes self.old self.new (λ d. [])) }
-        ensures why { IfErr result (IsWhyUnmoved N.id number from to (Some blank) self.new.hand) }
+        ensures why { IfErr result
+            (IsWhyUnmoved N.id self.old number from to (Some blank) self.new.hand) }
     {
-        match prepare_at(rt, alloc, shared, from, number) {
+        match self.prepare_at(rt, alloc, shared, from, number) {
             Ok(prepared) => self.submit_move(rt, shared, from, to, blank, prepared),
             Err(fault) => {
                 self.keep(blank);
@@ -293,7 +301,7 @@ impl<N: Names> Client<N> {
             self.new) }
         ensures unmoved { IfErr result (λ _. Makes self.old self.new (λ d. [])) }
         ensures why { IfErr result
-            (IsWhyUnmoved N.id number from to self.old.hand self.new.hand) }
+            (IsWhyUnmoved N.id self.old number from to self.old.hand self.new.hand) }
     {
         if from == to {
             return Err(Refusal::SameDomain);

@@ -8,6 +8,7 @@ ghost use Rattle.attr_check.specs.Accepted.{accepted};
 ghost use Rattle.bw_gate.specs.Pieces.{BlankView};
 ghost use Rattle.session.specs.SessionId.{IsDomainIndex};
 ghost use Rattle.session.specs.Asks.{domain_with_cpus, same_cpus, blank_or_new, IsLawful, IsLastFound, IsHandAfter};
+ghost use Rattle.session.specs.private.Entering.{IsOfTask};
 
 use crate::books::Books;
 use crate::names::Names;
@@ -64,6 +65,7 @@ impl<N: Names> Shared<N> {
             (λ r. domain_with_cpus N.id.cpu_sets task.now.cpus ≡ Some r.1) }
         ensures place { IfOk result (λ r. IsDomainIndex N.id r.1) }
         ensures refused { IfErr result (λ r. IsLawful N.id task.now (Err r)) }
+        ensures nowhere { IfErr result IsOfTask }
         ensures unasked { (hand : Option BlankView) → IfErr result (λ r. IsLastFound hand (Err r)) }
         ensures same { (hand : Option BlankView)
             → IfErr result (λ r. IsHandAfter N.id task.now hand (Err r) hand) }

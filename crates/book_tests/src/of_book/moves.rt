@@ -232,6 +232,18 @@ fn move_of_a_changed_task(rt: HostRuntime) -> Result<(), Fail> {
     Ok(())
 }
 
+// As it was prepared it goes: its bandwidth stands in both words, and then in the new one alone.
+#[test]
+fn move_step_by_step(rt: HostRuntime) -> Result<(), Fail> {
+    let mut pair = opened_two(&rt, rt.alloc())?;
+    let made = answers(&rt, rt.alloc(), &mut pair, &[NOTHING]);
+    let ends = ends(&rt, rt.alloc(), pair);
+    let both = (524288, 524288);
+    assert!(rt; ends == [(0, 0, 3), (524288, 524288, 1)]);
+    assert!(rt; made?.as_slice() == [("moved", both, both)].as_slice());
+    Ok(())
+}
+
 // One that has ended since stays.
 #[test]
 fn move_of_an_ended_task(rt: HostRuntime) -> Result<(), Fail> {

@@ -452,12 +452,13 @@ impl Domain {
     }
 
     /// Compares a pass with the book, which changes neither: the pass's list is exactly its
-    /// client's entries.
+    /// client's entries in the history, which is legal.
     pub fn agree(&mut self, pass: &mut Pass)
         requires { pass.old.spine ≡ self.old.spine }
         ensures book { self.new ≡ self.old }
         ensures pass { pass.new ≡ pass.old }
         ensures own { pass.new.entries ≡ own_entries pass.new.client self.new.history }
+        ensures history { IsBookHistory self.new }
     {
         self.ledger.agree(pass);
     }

@@ -104,6 +104,7 @@ impl Ledger {
         ensures ledger { self.new ≡ self.old }
         ensures pass { pass.new ≡ pass.old }
         ensures own { pass.new.entries ≡ own_entries pass.new.client self.new.history }
+        ensures history { IsHistory self.new.clients self.new.room self.new.history }
     {
         self.spine.agree(pass);
     }

@@ -14,12 +14,14 @@ use Rattle.call_book.specs.declared.book.domain.Limit.{Limit}
 use Rattle.call_book.specs.declared.book.domain.Limit.TheVariants as limits
 use Rattle.call_book.specs.Pieces.{IsTicketOf}
 use Rattle.calls_text.specs.Limits.{IsCall}
-use Rattle.call_book.specs.Book.{BookView, IsMember, IsFull, AdmissionView, admission, state_of, with_entry}
+use Rattle.call_book.specs.Book.{BookView, IsBookHistory, IsMember, IsFull, AdmissionView, admission, own_entries, state_of, with_entry}
+use Rattle.session.specs.declared.refusal.Refusal.{Refusal}
 use Rattle.session.specs.declared.refusal.Refusal.TheVariants as refusals
 use Rattle.session.specs.declared.locked_book.Ask.{Ask}
 use Rattle.session.specs.declared.locked_book.Ask.TheVariants as asks
 use Rattle.session.specs.SessionId.{SessionId, cpu_set_of, spine_of, IsDomainIndex}
-use Rattle.session.specs.Asks.{Answer, ClientView, Makes, made_by, IsOverCap, IsRegradeReply, MakesRegrade, IsLimitReply, MakesAdvance, RefusesOnlyFull, RefusesOnlyFullOrMemory}
+use Rattle.session.specs.Seen.{ClientPart, AdmissionWasSeen, AnswerWasSeen, RefusalWasSeen}
+use Rattle.session.specs.Asks.{Answer, ClientView, Makes, made_by, part_in, IsOverCap, IsRegradeReply, MakesRegrade, IsLimitReply, MakesAdvance, RefusesOnlyFull, RefusesOnlyFullOrMemory}
 
 -- the book of a domain of the session
 pub record IsSessionBook (id : SessionId) (d : ℕ) (b : BookView) : Type 0 where
@@ -37,6 +39,15 @@ pub record IsSessionBook (id : SessionId) (d : ℕ) (b : BookView) : Type 0 wher
 pub record IsPassAt (id : SessionId) (client d : ℕ) (p : PassView Entry) : Type 0 where
   pub spine : p.spine ≡ spine_of id d
   pub owner : p.client ≡ client
+
+-- what a pass is of its domain's book
+abbrev pub part_with : PassView Entry → ClientPart
+part_with p = record { client = p.client; entries = p.entries }
+
+-- a book as a call sees it with a client's pass, which agrees with it
+pub record IsSeenBook (b : BookView) (p : PassView Entry) : Type 0 where
+  pub history : IsBookHistory b
+  pub own : p.entries ≡ own_entries p.client b.history
 
 -- what a client keeps: it is one of the session's, it has a pass of each domain's book, and a piece
 -- of the session's gate
@@ -83,6 +94,12 @@ IsEntryVerdict cpus bw (Err refusals.Enomem) = Unit {0}
 IsEntryVerdict cpus bw (Err (refusals.Busy seen)) = IsOverCap cpus bw seen
 IsEntryVerdict cpus bw (Err _) = ⊥
 
+-- a refusal of a task that goes nowhere
+abbrev pub IsOfTask : Refusal → Type 0
+IsOfTask (refusals.Einval kind) = Unit {0}
+IsOfTask refusals.Eperm = Unit {0}
+IsOfTask _ = ⊥
+
 -- the book of the same domain, with other entries and pieces
 pub record SameBook (old new : BookView) : Type 0 where
   pub gate : new.gate ≡ old.gate
@@ -105,15 +122,28 @@ NoneIsKept (asks.Admit prepared ticket) answer blank = IsGivenBack ticket answer
 NoneIsKept (asks.Limit asked limit) answer blank = IsSome blank
 NoneIsKept _ answer blank = Unit {0}
 
--- ---- why a call stands in no book, of the book before
+-- a regrade, a wake and a leave leave no blank to the client
+abbrev pub LeavesNoBlank : Ask → Option BlankView → Type 0
+LeavesNoBlank (asks.Admit prepared ticket) blank = Unit {0}
+LeavesNoBlank (asks.Limit piece limit) blank = Unit {0}
+LeavesNoBlank _ blank = blank ≡ None
 
--- an admission: Full where the book is full or lists 256 tasks, Twice where the number was admitted
--- before
-abbrev pub IsWhyNotAdmitted : BookView → Call → Answer → Type 0
-IsWhyNotAdmitted b call (Err refusals.Full) =
+-- and the piece in hand stays as it is, with the words that it has found
+abbrev pub KeepsHand : Ask → Option BlankView → Option BlankView → Type 0
+KeepsHand (asks.Admit prepared ticket) hand next = Unit {0}
+KeepsHand (asks.Limit piece limit) hand next = Unit {0}
+KeepsHand _ hand next = next ≡ hand
+
+-- ---- what the book before says to a call, and why the call stands in no book
+
+-- an admission: the reply is the state's; Full where the book is full or lists 256 tasks, Twice
+-- where the number was admitted before
+abbrev pub IsAdmissionAnswered : BookView → Call → Answer → Type 0
+IsAdmissionAnswered b call (Ok reply) = reply_to (state_of b) call ≡ reply
+IsAdmissionAnswered b call (Err refusals.Full) =
     IsFull b ⊎ (reply_to (state_of b) call ≡ replies.Full)
-IsWhyNotAdmitted b call (Err refusals.Twice) = reply_to (state_of b) call ≡ replies.Twice
-IsWhyNotAdmitted b call _ = Unit {0}
+IsAdmissionAnswered b call (Err refusals.Twice) = reply_to (state_of b) call ≡ replies.Twice
+IsAdmissionAnswered b call (Err _) = ⊥
 
 -- any other call: Full where the book is full; ENOMEM where it is not
 abbrev pub IsWhyNotMade : BookView → Answer → Type 0
@@ -121,12 +151,29 @@ IsWhyNotMade b (Err refusals.Full) = IsFull b
 IsWhyNotMade b (Err refusals.Enomem) = length b.history < b.room
 IsWhyNotMade b _ = Unit {0}
 
-abbrev pub IsWhyNot : BookView → Ask → Answer → Type 0
-IsWhyNot b (asks.Admit prepared ticket) answer = IsWhyNotAdmitted b (admission prepared) answer
-IsWhyNot b (asks.Regrade number params) answer = IsWhyNotMade b answer
-IsWhyNot b (asks.Wake number) answer = IsWhyNotMade b answer
-IsWhyNot b (asks.Leave number) answer = IsWhyNotMade b answer
-IsWhyNot b (asks.Limit piece limit) answer = IsWhyNotMade b answer
+-- a wake or a leave: the reply is the state's
+abbrev pub IsCallAnswered : BookView → Call → Answer → Type 0
+IsCallAnswered b call (Ok reply) = reply_to (state_of b) call ≡ reply
+IsCallAnswered b call (Err refusal) = IsWhyNotMade b (Err refusal)
+
+abbrev pub IsBookAnswer : BookView → Ask → Answer → Type 0
+IsBookAnswer b (asks.Admit prepared ticket) answer =
+    IsAdmissionAnswered b (admission prepared) answer
+IsBookAnswer b (asks.Regrade number params) answer = IsWhyNotMade b answer
+IsBookAnswer b (asks.Wake number) answer = IsCallAnswered b (calls.Wake number) answer
+IsBookAnswer b (asks.Leave number) answer = IsCallAnswered b (calls.Leave number) answer
+IsBookAnswer b (asks.Limit piece limit) answer = IsWhyNotMade b answer
+
+-- the same of the book that the call saw
+abbrev pub WasSeenFor : SessionId → ℕ → ClientPart → Ask → Answer → Type 0
+WasSeenFor id d part (asks.Admit prepared ticket) answer =
+    AdmissionWasSeen id d part (admission prepared) answer
+WasSeenFor id d part (asks.Regrade number params) answer = RefusalWasSeen id d part answer
+WasSeenFor id d part (asks.Wake number) answer =
+    AnswerWasSeen id d part (calls.Wake number) answer
+WasSeenFor id d part (asks.Leave number) answer =
+    AnswerWasSeen id d part (calls.Leave number) answer
+WasSeenFor id d part (asks.Limit piece limit) answer = RefusalWasSeen id d part answer
 
 -- ---- what a call comes to, under the domain's lock
 
@@ -141,11 +188,11 @@ pub record IsReplied (p q : PassView Entry) (call : Call) (answer : Answer) : Ty
   pub pass : q ≡ pass_after p call answer
   pub full : RefusesOnlyFull answer
 
-pub record IsRegradedBy (gate : GateId) (d cpus limit : ℕ) (p q : PassView Entry) (number : ℕ)
+pub record IsRegradedBy (id : SessionId) (d : ℕ) (p q : PassView Entry) (number : ℕ)
     (params : ParamsView) (answer : Answer) : Type 0 where
   pub word : Option ℕ
   pub replied : IsReplied p q (calls.Regrade number params word) answer
-  pub reply : IfOk answer (IsRegradeReply gate d cpus limit number params word)
+  pub reply : IfOk answer (IsRegradeReply id d (part_with p) number params word)
 
 -- what a client is answered to a change of the limit, and the blank that comes back
 abbrev pub limit_answer : Limit → Answer
@@ -159,11 +206,11 @@ limit_back (limits.Busy back seen) = back
 limit_back (limits.Full back) = back
 
 -- a change of the limit, by this piece, with what came back of it
-pub record IsLimitedBy (d cpus limit : ℕ) (p q : PassView Entry) (piece : BlankView) (wanted : ℕ)
-    (answer : Answer) (back : Option BlankView) : Type 0 where
+pub record IsLimitedBy (id : SessionId) (d : ℕ) (p q : PassView Entry) (piece : BlankView)
+    (wanted : ℕ) (answer : Answer) (back : Option BlankView) : Type 0 where
   pub word : Option ℕ
   pub replied : IsReplied p q (calls.Limit wanted word) answer
-  pub reply : IfOk answer (IsLimitReply d cpus limit wanted piece word back)
+  pub reply : IfOk answer (IsLimitReply id d (part_with p) wanted piece word back)
   pub unasked : IfErr answer (λ _. back ≡ Some piece)
 
 -- an advance
@@ -184,11 +231,11 @@ abbrev pub IsDone : SessionId → ℕ → PassView Entry → PassView Entry → 
 IsDone id d p q (asks.Admit prepared ticket) answer blank =
     IsOffered (length (cpu_set_of id d)) p q prepared answer
 IsDone id d p q (asks.Regrade number params) answer blank =
-    IsRegradedBy id.gate d (length (cpu_set_of id d)) id.limit p q number params answer
+    IsRegradedBy id d p q number params answer
 IsDone id d p q (asks.Wake number) answer blank = IsReplied p q (calls.Wake number) answer
 IsDone id d p q (asks.Leave number) answer blank = IsReplied p q (calls.Leave number) answer
 IsDone id d p q (asks.Limit piece limit) answer blank =
-    IsLimitedBy d (length (cpu_set_of id d)) id.limit p q piece limit answer blank
+    IsLimitedBy id d p q piece limit answer blank
 
 -- ---- what it comes to for a client
 
@@ -197,8 +244,7 @@ pub record MakesLimitWith (id : SessionId) (c e : ClientView) (d limit : ℕ) (p
     (answer : Answer) : Type 0 where
   pub word : Option ℕ
   pub made : Makes c e (made_by d (calls.Limit limit word) answer)
-  pub reply : IfOk answer
-      (IsLimitReply d (length (cpu_set_of id d)) id.limit limit piece word e.hand)
+  pub reply : IfOk answer (IsLimitReply id d (part_in c d) limit piece word e.hand)
   pub unasked : IfErr answer (λ _. e.hand ≡ Some piece)
 
 abbrev pub IsDoneFor : SessionId → ℕ → ClientView → ClientView → Ask → Answer → Type 0
@@ -206,15 +252,22 @@ IsDoneFor id d c e (asks.Admit prepared ticket) answer =
     Makes c e (made_by d (admission prepared) answer)
     × IsBookVerdict (length (cpu_set_of id d)) prepared.params.bw answer
     × IsGivenBack ticket answer e.hand
+    × AdmissionWasSeen id d (part_in c d) (admission prepared) answer
 IsDoneFor id d c e (asks.Regrade number params) answer =
-    MakesRegrade id c e d number params answer × RefusesOnlyFull answer
+    MakesRegrade id c e d number params answer × RefusesOnlyFull answer × (e.hand ≡ c.hand)
+    × RefusalWasSeen id d (part_in c d) answer
 IsDoneFor id d c e (asks.Wake number) answer =
-    Makes c e (made_by d (calls.Wake number) answer) × RefusesOnlyFull answer
+    Makes c e (made_by d (calls.Wake number) answer) × RefusesOnlyFull answer × (e.hand ≡ c.hand)
+    × AnswerWasSeen id d (part_in c d) (calls.Wake number) answer
 IsDoneFor id d c e (asks.Leave number) answer =
-    Makes c e (made_by d (calls.Leave number) answer) × RefusesOnlyFull answer
+    Makes c e (made_by d (calls.Leave number) answer) × RefusesOnlyFull answer × (e.hand ≡ c.hand)
+    × AnswerWasSeen id d (part_in c d) (calls.Leave number) answer
 IsDoneFor id d c e (asks.Limit piece limit) answer =
     MakesLimitWith id c e d limit piece answer × RefusesOnlyFull answer
+    × RefusalWasSeen id d (part_in c d) answer
 
 -- an advance
-abbrev pub IsAdvancedFor : ℕ → ClientView → ClientView → ℕ → Answer → Type 0
-IsAdvancedFor d c e n answer = MakesAdvance c e d n answer × RefusesOnlyFullOrMemory answer
+abbrev pub IsAdvancedFor : SessionId → ℕ → ClientView → ClientView → ℕ → Answer → Type 0
+IsAdvancedFor id d c e n answer =
+    MakesAdvance c e d n answer × RefusesOnlyFullOrMemory answer × (e.hand ≡ c.hand)
+    × RefusalWasSeen id d (part_in c d) answer

@@ -15,9 +15,10 @@ use Rattle.call_book.specs.MoveAnswers.{moving_as, arrival, BothHaveRoom, IsAsPr
 use Rattle.session.specs.declared.refusal.Refusal.{Refusal}
 use Rattle.session.specs.declared.refusal.Refusal.TheVariants as refusals
 use Rattle.session.specs.SessionId.{SessionId, cpu_set_of, spine_of}
-use Rattle.session.specs.Asks.{IsOverCap, ClientView, Makes}
-use Rattle.session.specs.Moves.{calls_of_move, WasListed, WouldReply, WasChanged}
-use Rattle.session.specs.private.Entering.{IsPassAt}
+use Rattle.session.specs.Seen.{ClientPart, WouldReply}
+use Rattle.session.specs.Asks.{IsOverCap, ClientView, part_in, Makes}
+use Rattle.session.specs.Moves.{calls_of_move, WasListed, WasChanged, NoRoomWasSeen}
+use Rattle.session.specs.private.Entering.{IsPassAt, part_with}
 
 -- ---- what a move needs
 
@@ -36,11 +37,13 @@ pub record AreOfOne (id : SessionId) (passes : List (PassView Entry)) : Type 0 w
   pub each : (d : ℕ) (x : PassView Entry) → d < length passes
       → IsPassAt id client d (slice_index_or passes d x)
 
--- nothing can be prepared: in a state of the domain no such task may depart, or one may, and there
--- was no memory
-abbrev pub IsUnpreparedAt : SessionId → ℕ → ℕ → MoveFault → Type 0
-IsUnpreparedAt id d number faults.NotListed = WouldReply id d (Depart number) replies.NotListed
-IsUnpreparedAt id d number faults.Memory = WouldReply id d (Depart number) replies.Departed
+-- nothing can be prepared: in the state seen no such task may depart, or one may, and there was no
+-- memory
+abbrev pub IsUnpreparedAt : SessionId → ℕ → ℕ → ClientPart → MoveFault → Type 0
+IsUnpreparedAt id d number part faults.NotListed =
+    WouldReply id d part (Depart number) replies.NotListed
+IsUnpreparedAt id d number part faults.Memory =
+    WouldReply id d part (Depart number) replies.Departed
 
 -- what the client is answered then
 abbrev pub refusal_by : MoveFault → Refusal
@@ -66,22 +69,27 @@ pub record IsMovedBy (id : SessionId) (from to : ℕ) (old new : PassPair) (a : 
     (blank : BlankView) : Type 0 where
   pub left : new.out ≡ with_entry old.out (Depart a.number) replies.Departed
   pub came : new.into ≡ with_entry old.into (arrival a) replies.Admitted
-  pub listed : WasListed id from a.number (moving_as a)
+  pub listed : WasListed id from a.number (part_with old.out) (moving_as a)
+  pub leaves : WouldReply id from (part_with old.out) (Depart a.number) replies.Departed
+  pub comes : WouldReply id to (part_with old.into) (arrival a) replies.Admitted
   pub ticket : TicketView
   pub own : IsTicketOf id.gate from ticket
   pub bw : ticket.bw ≡ a.params.bw
   pub given : IsGive ticket blank
 
 -- why the books refuse it
-abbrev pub IsWhyRefused : SessionId → ℕ → ℕ → AdmissionView → Refusal → Type 0
-IsWhyRefused id from to a refusals.Full = Unit {0}
-IsWhyRefused id from to a refusals.Esrch = WouldReply id from (Depart a.number) replies.NotListed
-IsWhyRefused id from to a (refusals.Stale now) = WasChanged id from a.number (moving_as a) now
-IsWhyRefused id from to a refusals.Twice = WouldReply id to (arrival a) replies.Twice
-IsWhyRefused id from to a (refusals.Busy seen) =
-    WouldReply id to (arrival a) (replies.Busy seen)
+abbrev pub IsWhyRefused : SessionId → ℕ → ℕ → ClientPart → ClientPart → AdmissionView → Refusal
+    → Type 0
+IsWhyRefused id from to out into a refusals.Full = NoRoomWasSeen id from to out into (arrival a)
+IsWhyRefused id from to out into a refusals.Esrch =
+    WouldReply id from out (Depart a.number) replies.NotListed
+IsWhyRefused id from to out into a (refusals.Stale now) =
+    WasChanged id from a.number out (moving_as a) now
+IsWhyRefused id from to out into a refusals.Twice = WouldReply id to into (arrival a) replies.Twice
+IsWhyRefused id from to out into a (refusals.Busy seen) =
+    WouldReply id to into (arrival a) (replies.Busy seen)
     × IsOverCap (length (cpu_set_of id to)) a.params.bw seen
-IsWhyRefused id from to a _ = ⊥
+IsWhyRefused id from to out into a _ = ⊥
 
 -- the same of the two books as they were, by the tests in their order
 abbrev pub IsWhyNotMoved : {T : Type 0} → BookView → BookView → AdmissionView → Result T Refusal
@@ -104,7 +112,7 @@ pub record IsMoveRefusedBy (id : SessionId) (from to : ℕ) (old new : PassPair)
     (ticket : TicketView) (blank : BlankView) (refusal : Refusal) : Type 0 where
   pub same : new ≡ old
   pub given : IsGive ticket blank
-  pub why : IsWhyRefused id from to a refusal
+  pub why : IsWhyRefused id from to (part_with old.out) (part_with old.into) a refusal
 
 abbrev pub IsBooksAnswer : {T : Type 0} → SessionId → ℕ → ℕ → PassPair → PassPair → AdmissionView
     → TicketView → BlankView → Result T Refusal → Type 0
@@ -134,7 +142,9 @@ pub record PassesMove {T : Type 0} (id : SessionId) (from to : ℕ) (old new : L
 pub record HasMovedFor (id : SessionId) (from to : ℕ) (c e : ClientView) (a : AdmissionView)
     : Type 0 where
   pub made : Makes c e (calls_of_move a.number (moving_as a) from to)
-  pub listed : WasListed id from a.number (moving_as a)
+  pub listed : WasListed id from a.number (part_in c from) (moving_as a)
+  pub leaves : WouldReply id from (part_in c from) (Depart a.number) replies.Departed
+  pub comes : WouldReply id to (part_in c to) (arrival a) replies.Admitted
   pub ticket : TicketView
   pub own : IsTicketOf id.gate from ticket
   pub bw : ticket.bw ≡ a.params.bw
@@ -144,7 +154,7 @@ pub record IsRefusedFor (id : SessionId) (from to : ℕ) (c e : ClientView) (a :
     (ticket : TicketView) (refusal : Refusal) : Type 0 where
   pub made : Makes c e (λ d. [])
   pub given : IsSomeAnd e.hand (IsGive ticket)
-  pub why : IsWhyRefused id from to a refusal
+  pub why : IsWhyRefused id from to (part_in c from) (part_in c to) a refusal
 
 abbrev pub IsMoveFor : {T : Type 0} → SessionId → ℕ → ℕ → ClientView → ClientView → AdmissionView
     → TicketView → Result T Refusal → Type 0

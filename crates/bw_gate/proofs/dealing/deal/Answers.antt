@@ -1,8 +1,9 @@
-use Rattle.std.proofs.Common.{◌≡◌, ◌<◌, ◌-◌, ℕ, List, [], ◌∷◌, ◌++◌, replicate, sym, ap, ◌∙◌, arith}
+use Rattle.std.proofs.Common.{◌≡◌, ◌<◌, ◌-◌, List, [], ◌∷◌, ◌++◌, replicate, sym, ap, ◌∙◌, arith}
 use Rattle.std.specs.Prelude.{vec_len}
 use Rattle.bw_gate.specs.declared.view.Piece.{Piece}
 use Rattle.bw_gate.specs.declared.view.Piece.TheVariants.{Blank}
 use Rattle.bw_gate.specs.declared.view.View.{View}
+use Rattle.bw_gate.specs.declared.view.Found.{Found}
 use Rattle.atomic_table.specs.Table.{Me}
 use Rattle.atomic_table.specs.Seated.{TableId}
 use Rattle.bw_gate.specs.Terms.{TermsView}
@@ -15,10 +16,10 @@ use Rattle.bw_gate.proofs.dealing.deal.Goals as goal
 abbrev Seat : Type 0
 Seat = Me (Unit {0}) View
 
-abbrev blank_of : TableId → TermsView → List ℕ → BlankView
+abbrev blank_of : TableId → TermsView → List Found → BlankView
 blank_of table terms found = record { gate = record { table = table; terms = terms }; found = found }
 
-same_blank : (a b : TableId) (t u : TermsView) (f g : List ℕ) → a ≡ b → t ≡ u → f ≡ g → blank_of a t f ≡ blank_of b u g
+same_blank : (a b : TableId) (t u : TermsView) (f g : List Found) → a ≡ b → t ≡ u → f ≡ g → blank_of a t f ≡ blank_of b u g
 same_blank a b t u f g p q r = λ i. blank_of (p i) (q i) (r i)
 
 pub split_seat-seat-requires : goal.split_seat-seat-requires
@@ -38,7 +39,7 @@ loop-seat-preserved c =
     let push = c.push_reserved.ensures in
     let some : 0 < left = omega arith in
     let rest : Seat → Seat = λ m. (other_pieces m.0, m.1) in
-    let seat_of : List Piece → Seat = λ ps. (record { pieces = ps; found = []; terms = key }, []) in
+    let seat_of : List Piece → Seat = λ ps. (record { pieces = ps; found = []; limited_in = []; terms = key }, []) in
     let less : left - 1 ≡ c.args.n - vec_len c.push_reserved.new.self = omega (arith, push.len) in
     let one = blank_of shared.table_id key [] in
     let terms : c.split_seat-seat.result.me.0.terms ≡ key = ap (λ (m : Seat). m.0.terms) split.4 ∙ ap (λ (m : Seat). m.0.terms) inv.1 in

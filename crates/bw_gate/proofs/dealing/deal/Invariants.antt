@@ -7,7 +7,7 @@ use Rattle.bw_gate.proofs.dealing.deal.Given as goal
 abbrev pub invariant-loop-seat : goal.invariant-loop-seat
 invariant-loop-seat l =
     (l.seat.table_id ≡ l.shared.table_id)
-    × (l.seat.me ≡ (record { pieces = replicate (l.n - vec_len l.blanks) Blank; found = []; terms = l.shared.key }, []))
+    × (l.seat.me ≡ (record { pieces = replicate (l.n - vec_len l.blanks) Blank; found = []; limited_in = []; terms = l.shared.key }, []))
     × (l.blanks.items ≡ replicate (vec_len l.blanks) (record { gate = record { table = l.shared.table_id; terms = l.shared.key }; found = [] }))
     × (vec_len l.blanks ≤ l.n) × (l.n ≤ vec_capacity l.blanks)
 

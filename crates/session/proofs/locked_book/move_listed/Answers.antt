@@ -2,7 +2,8 @@ use Rattle.domain_run.specs.declared.call.Call.TheVariants as calls
 use Rattle.domain_run.specs.declared.call.Reply.TheVariants as replies
 use Rattle.call_book.specs.MoveAnswers.{arrival}
 use Rattle.session.specs.declared.refusal.Refusal.TheVariants as refusals
-use Rattle.session.proofs.Moved.{entered_named, stays_named, would_reply, was_changed, no_room, moved_by, refused_by}
+use Rattle.session.proofs.Moved.{entered_named, stays_named, was_changed, no_room, no_place, moved_by, refused_by}
+use Rattle.session.proofs.Sighted.{would_reply}
 use Rattle.session.proofs.locked_book.move_listed.Goals as goal
 
 pub returns-in-Moved-clause-from : goal.returns-in-Moved-clause-from
@@ -13,7 +14,7 @@ returns-in-Moved-clause-to g c = entered_named g.N.Names.id g.row.E _ _ _ _ _ _ 
 
 pub returns-in-Moved-clause-answered : goal.returns-in-Moved-clause-answered
 returns-in-Moved-clause-answered g c =
-    moved_by g.N.Names.id g.row.D g.row.E _ _ c.args.prepared c.args.ticket c.in-Moved.ticket c.give.result c.requires.from c.in-Moved.ensures c.give.ensures
+    moved_by g.N.Names.id g.row.D g.row.E _ _ c.args.prepared c.args.ticket c.in-Moved.ticket c.give.result c.requires.from c.requires.to c.requires.from_seen c.requires.to_seen c.in-Moved.ensures c.give.ensures
 
 pub returns-in-Full-clause-from : goal.returns-in-Full-clause-from
 returns-in-Full-clause-from g c = stays_named g.N.Names.id g.row.D _ _ _ _ c.requires.from c.in-Full.ensures.0.from
@@ -24,7 +25,7 @@ returns-in-Full-clause-to g c = stays_named g.N.Names.id g.row.E _ _ _ _ c.requi
 pub returns-in-Full-clause-answered : goal.returns-in-Full-clause-answered
 returns-in-Full-clause-answered g c =
     refused_by g.N.Names.id g.row.D g.row.E _ _ c.args.prepared c.in-Full.prepared c.args.ticket c.in-Full.ticket c.give_back.result refusals.Full c.in-Full.ensures.0 c.give_back.ensures
-    tt
+    (no_place g.N.Names.id g.row.D g.row.E (record { from = c.args.from.now; out = c.args.from_pass.now; to = c.args.to.now; into = c.args.to_pass.now }) c.args.prepared c.requires.from c.requires.to c.requires.from_seen c.requires.to_seen c.in-Full.ensures.1)
 
 pub returns-in-NotListed-clause-from : goal.returns-in-NotListed-clause-from
 returns-in-NotListed-clause-from g c = stays_named g.N.Names.id g.row.D _ _ _ _ c.requires.from c.in-NotListed.ensures.0.from
@@ -35,7 +36,7 @@ returns-in-NotListed-clause-to g c = stays_named g.N.Names.id g.row.E _ _ _ _ c.
 pub returns-in-NotListed-clause-answered : goal.returns-in-NotListed-clause-answered
 returns-in-NotListed-clause-answered g c =
     refused_by g.N.Names.id g.row.D g.row.E _ _ c.args.prepared c.in-NotListed.prepared c.args.ticket c.in-NotListed.ticket c.give_back-in-NotListed.result refusals.Esrch c.in-NotListed.ensures.0 c.give_back-in-NotListed.ensures
-    (would_reply g.N.Names.id g.row.D c.args.from.now (calls.Depart c.args.prepared.number) replies.NotListed c.requires.from c.in-NotListed.ensures.2)
+    (would_reply g.N.Names.id g.row.D c.args.from.now c.args.from_pass.now (calls.Depart c.args.prepared.number) replies.NotListed c.requires.from c.requires.from_seen c.in-NotListed.ensures.2)
 
 pub returns-in-NotListed-clause-told : goal.returns-in-NotListed-clause-told
 returns-in-NotListed-clause-told g c = (c.in-NotListed.ensures.1, c.in-NotListed.ensures.2)
@@ -49,7 +50,7 @@ returns-in-Stale-clause-to g c = stays_named g.N.Names.id g.row.E _ _ _ _ c.requ
 pub returns-in-Stale-clause-answered : goal.returns-in-Stale-clause-answered
 returns-in-Stale-clause-answered g c =
     refused_by g.N.Names.id g.row.D g.row.E _ _ c.args.prepared c.in-Stale.prepared c.args.ticket c.in-Stale.ticket c.give_back-in-Stale.result (refusals.Stale c.in-Stale.now) c.in-Stale.ensures.0 c.give_back-in-Stale.ensures
-    (was_changed g.N.Names.id g.row.D c.args.from.now c.args.prepared c.in-Stale.now c.requires.from c.in-Stale.ensures.2)
+    (was_changed g.N.Names.id g.row.D c.args.from.now c.args.from_pass.now c.args.prepared c.in-Stale.now c.requires.from c.requires.from_seen c.in-Stale.ensures.2)
 
 pub returns-in-Stale-clause-told : goal.returns-in-Stale-clause-told
 returns-in-Stale-clause-told g c = (c.in-Stale.ensures.1, c.in-Stale.ensures.2)
@@ -63,7 +64,7 @@ returns-in-Twice-clause-to g c = stays_named g.N.Names.id g.row.E _ _ _ _ c.requ
 pub returns-in-Twice-clause-answered : goal.returns-in-Twice-clause-answered
 returns-in-Twice-clause-answered g c =
     refused_by g.N.Names.id g.row.D g.row.E _ _ c.args.prepared c.in-Twice.prepared c.args.ticket c.in-Twice.ticket c.give_back-in-Twice.result refusals.Twice c.in-Twice.ensures.0 c.give_back-in-Twice.ensures
-    (would_reply g.N.Names.id g.row.E c.args.to.now (arrival c.args.prepared) replies.Twice c.requires.to c.in-Twice.ensures.3)
+    (would_reply g.N.Names.id g.row.E c.args.to.now c.args.to_pass.now (arrival c.args.prepared) replies.Twice c.requires.to c.requires.to_seen c.in-Twice.ensures.3)
 
 pub returns-in-Twice-clause-told : goal.returns-in-Twice-clause-told
 returns-in-Twice-clause-told g c = (c.in-Twice.ensures.1, c.in-Twice.ensures.2, c.in-Twice.ensures.3)
@@ -77,7 +78,7 @@ returns-in-Busy-clause-to g c = stays_named g.N.Names.id g.row.E _ _ _ _ c.requi
 pub returns-in-Busy-clause-answered : goal.returns-in-Busy-clause-answered
 returns-in-Busy-clause-answered g c =
     refused_by g.N.Names.id g.row.D g.row.E _ _ c.args.prepared c.in-Busy.prepared c.args.ticket c.in-Busy.ticket c.give_back-in-Busy.result (refusals.Busy c.in-Busy.seen) c.in-Busy.ensures.0 c.give_back-in-Busy.ensures
-    (no_room g.N.Names.id g.row.E c.args.to.now c.args.prepared c.in-Busy.seen c.requires.to c.in-Busy.ensures.3)
+    (no_room g.N.Names.id g.row.E c.args.to.now c.args.to_pass.now c.args.prepared c.in-Busy.seen c.requires.to c.requires.to_seen c.in-Busy.ensures.3)
 
 pub returns-in-Busy-clause-told : goal.returns-in-Busy-clause-told
 returns-in-Busy-clause-told g c = (c.in-Busy.ensures.1, c.in-Busy.ensures.2, c.in-Busy.ensures.3)

@@ -12,14 +12,15 @@ returns-clause-same g c =
 
 pub returns-clause-limited : goal.returns-clause-limited
 returns-clause-limited g c =
+    let id = g.N.Names.id in
     let b = c.args.domain.now in
     let p = c.args.pass.now in
     let q = c.limit.new.pass in
     let made = c.limit.result in
     let told = c.outcome_of_limit.ensures in
-    subst (λ (a : Answer). IsLimitedBy b.domain b.cpus b.limit p q c.args.blank c.args.limit a c.outcome_of_limit.result.blank) (sym told.answer)
-    (subst (λ (o : Option BlankView). IsLimitedBy b.domain b.cpus b.limit p q c.args.blank c.args.limit (limit_answer made) o) (sym told.blank)
-    (limited b c.limit.new.self p q c.args.limit c.args.blank made c.limit.ensures.answer))
+    subst (λ (a : Answer). IsLimitedBy id g.row.D p q c.args.blank c.args.limit a c.outcome_of_limit.result.blank) (sym told.answer)
+    (subst (λ (o : Option BlankView). IsLimitedBy id g.row.D p q c.args.blank c.args.limit (limit_answer made) o) (sym told.blank)
+    (limited id g.row.D b c.limit.new.self p q c.args.limit c.args.blank made c.requires.named c.requires.seen c.limit.ensures.answer))
 
 pub returns-clause-told : goal.returns-clause-told
 returns-clause-told g c =

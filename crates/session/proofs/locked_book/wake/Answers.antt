@@ -1,5 +1,5 @@
 use Rattle.domain_run.specs.declared.call.Call.TheVariants as calls
-use Rattle.session.proofs.Replied.{same_replied, replied, why_not}
+use Rattle.session.proofs.Replied.{same_replied, replied, call_answered}
 use Rattle.session.proofs.locked_book.wake.Goals as goal
 
 pub returns-clause-same : goal.returns-clause-same
@@ -13,5 +13,5 @@ returns-clause-replied c =
 
 pub returns-clause-told : goal.returns-clause-told
 returns-clause-told c =
-    why_not c.args.domain.now c.wake.new.self c.args.pass.now c.wake.new.pass c.wake.result c.outcome_of.result.answer
-    c.wake.ensures.full c.outcome_of.ensures.ok c.outcome_of.ensures.err
+    call_answered c.args.domain.now c.wake.new.self c.args.pass.now c.wake.new.pass (calls.Wake c.args.number) c.wake.result c.outcome_of.result.answer
+    c.wake.ensures.entered c.wake.ensures.full c.outcome_of.ensures.ok c.outcome_of.ensures.err

@@ -24,4 +24,4 @@ pub invariant_of-result : goal.invariant_of-result
 invariant_of-result c =
     let seat = c.ticket.inside.seat in
     let found = c.fetch_sub-found.result in
-    seat_after _ seat.me c.fetch_sub-found.new.seat.me (made Blank found seat.me.0) Blank seat.me.0.found found c.ticket.invariant.0 c.fetch_sub-found.ensures.2.1 refl refl
+    seat_after _ seat.me c.fetch_sub-found.new.seat.me (made Blank c.ticket.inside.domain found seat.me.0) Blank seat.me.0.found c.ticket.inside.domain found c.ticket.invariant.0 c.fetch_sub-found.ensures.2.1 refl refl

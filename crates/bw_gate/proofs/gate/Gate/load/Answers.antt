@@ -25,5 +25,5 @@ invariant_of-ticket c =
     let seat = c.ticket.inside.seat in
     let found = c.load-found.result in
     let step = c.load-found.ensures.2.1 in
-    let s = seat_after _ seat.me c.load-found.new.seat.me (with_found found seat.me.0) (Ticket c.ticket.inside.domain c.ticket.inside.bw) seat.me.0.found found c.ticket.invariant.0 step c.ticket.invariant.1 refl in
+    let s = seat_after _ seat.me c.load-found.new.seat.me (with_found c.ticket.inside.domain found seat.me.0) (Ticket c.ticket.inside.domain c.ticket.inside.bw) seat.me.0.found c.ticket.inside.domain found c.ticket.invariant.0 step c.ticket.invariant.1 refl in
     (s.0, s.1, s.2, subst (λ (t : TermsView). c.ticket.inside.domain < length t.cpus) (sym (ap (λ (m : _). m.0.terms) step)) c.ticket.invariant.3, c.ticket.invariant.4)

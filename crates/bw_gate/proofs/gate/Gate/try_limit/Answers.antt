@@ -3,7 +3,7 @@ use Rattle.bw_gate.specs.declared.view.Piece.TheVariants.{Blank}
 use Rattle.bw_gate.specs.Pieces.{GateId, BlankView, cpus_of}
 use Rattle.bw_gate.specs.Terms.{TermsView, cpus_in}
 use Rattle.bw_gate.specs.Word.{IsWord, word_of, used_of as used_part}
-use Rattle.bw_gate.specs.Kinds.{with_found}
+use Rattle.bw_gate.specs.Kinds.{with_found, with_limit_set}
 use Rattle.bw_gate.proofs.Parts.{of_parts, new_cap}
 use Rattle.bw_gate.proofs.Views.{seat_after, shown_after, shown_twice, took, missed}
 use Rattle.bw_gate.proofs.Steps.{loads, limits}
@@ -26,7 +26,7 @@ load-seen-requires c =
 pub invariant_of-blank : goal.invariant_of-blank
 invariant_of-blank c =
     let seat = c.blank.inside.seat in
-    seat_after _ seat.me c.load-seen.new.seat.me (with_found c.load-seen.result seat.me.0) Blank seat.me.0.found c.load-seen.result c.blank.invariant.0 c.load-seen.ensures.2.1 c.blank.invariant.1 refl
+    seat_after _ seat.me c.load-seen.new.seat.me (with_found c.args.domain c.load-seen.result seat.me.0) Blank seat.me.0.found c.args.domain c.load-seen.result c.blank.invariant.0 c.load-seen.ensures.2.1 c.blank.invariant.1 refl
 
 pub compare_exchange-found-requires : goal.compare_exchange-found-requires
 compare_exchange-found-requires c =
@@ -59,7 +59,7 @@ invariant_of-result c =
     let new = word_of (c.cpus.result * c.args.limit) c.used_of-used.result in
     let told_me = c.load-seen.ensures.2.1 in
     let step = took c.compare_exchange-found.result c.load-seen.result _ _ c.if-found-seen.true c.compare_exchange-found.ensures.2.1 in
-    seat_after _ seat.me c.compare_exchange-found.new.seat.me (with_found new seat.me.0) Blank seat.me.0.found new (ap (λ (m : _). m.1) told_me ∙ c.blank.invariant.0) step (ap (λ (m : _). m.0.pieces) told_me ∙ c.blank.invariant.1) refl
+    seat_after _ seat.me c.compare_exchange-found.new.seat.me (with_limit_set c.args.domain new seat.me.0) Blank seat.me.0.found c.args.domain new (ap (λ (m : _). m.1) told_me ∙ c.blank.invariant.0) step (ap (λ (m : _). m.0.pieces) told_me ∙ c.blank.invariant.1) refl
 
 pub invariant_of-blank-2 : goal.invariant_of-blank-2
 invariant_of-blank-2 c =
@@ -67,7 +67,7 @@ invariant_of-blank-2 c =
     let found = c.compare_exchange-found.result in
     let told_me = c.load-seen.ensures.2.1 in
     let step = missed found c.load-seen.result _ _ c.if-found-seen.false c.compare_exchange-found.ensures.2.1 in
-    seat_after _ seat.me c.compare_exchange-found.new.seat.me (with_found found seat.me.0) Blank seat.me.0.found found (ap (λ (m : _). m.1) told_me ∙ c.blank.invariant.0) step (ap (λ (m : _). m.0.pieces) told_me ∙ c.blank.invariant.1) refl
+    seat_after _ seat.me c.compare_exchange-found.new.seat.me (with_found c.args.domain found seat.me.0) Blank seat.me.0.found c.args.domain found (ap (λ (m : _). m.1) told_me ∙ c.blank.invariant.0) step (ap (λ (m : _). m.0.pieces) told_me ∙ c.blank.invariant.1) refl
 
 pub returns-then-used-cap : goal.returns-then-used-cap
 returns-then-used-cap c =
@@ -78,7 +78,7 @@ returns-then-used-cap c =
     record {
       word = subst (λ (b : BlankView). IsWord (cpus_of b.gate c.args.domain) seen) c.blank.view_is step.2.0.0.word;
       over = subst (λ (n : ℕ). n * c.args.limit < used_part seen) cpus (subst (λ (u : ℕ). c.cpus.result * c.args.limit < u) c.used_of-used.ensures c.if-used-cap.true);
-      blank = shown_after _ c.args.blank seat.table_id c.load-seen.new.seat.table_id seat.me c.load-seen.new.seat.me (with_found seen seat.me.0) (seen ∷ []) c.blank.view_is step.0 step.2.1 refl refl;
+      blank = shown_after _ c.args.blank seat.table_id c.load-seen.new.seat.table_id seat.me c.load-seen.new.seat.me (with_found c.args.domain seen seat.me.0) c.args.domain (seen ∷ []) c.blank.view_is step.0 step.2.1 refl refl;
     }
 
 pub returns-then-found-seen : goal.returns-then-found-seen
@@ -97,7 +97,7 @@ returns-then-found-seen c =
       seen = seen;
       word = subst (λ (b : BlankView). IsWord (cpus_of b.gate c.args.domain) seen) c.blank.view_is step.2.0.0.word;
       room = subst (λ (n : ℕ). used_part seen ≤ n * c.args.limit) cpus (subst (λ (u : ℕ). u ≤ c.cpus.result * c.args.limit) c.used_of-used.ensures c.if-used-cap.false);
-      blank = shown_twice _ c.args.blank seat.table_id mid.table_id after.table_id seat.me mid.me after.me (with_found seen seat.me.0) (with_found new mid.me.0) seen new _
+      blank = shown_twice _ c.args.blank seat.table_id mid.table_id after.table_id seat.me mid.me after.me (with_found c.args.domain seen seat.me.0) (with_limit_set c.args.domain new mid.me.0) c.args.domain seen new _
           c.blank.view_is step.0 step.2.1 refl refl c.compare_exchange-found.ensures.0 next refl refl is;
     }
 
@@ -116,7 +116,8 @@ returns c =
         word = subst (λ (b : BlankView). IsWord (cpus_of b.gate c.args.domain) seen) c.blank.view_is step.2.0.0.word;
         room = subst (λ (n : ℕ). used_part seen ≤ n * c.args.limit) cpus (subst (λ (u : ℕ). u ≤ c.cpus.result * c.args.limit) c.used_of-used.ensures c.if-used-cap.false);
         other = c.if-found-seen.false;
+        other_word = subst (λ (b : BlankView). IsWord (cpus_of b.gate c.args.domain) found) c.blank.view_is (subst (λ (t : TermsView). IsWord (cpus_in t c.args.domain) found) (ap (λ (m : _). m.0.terms) step.2.1) c.compare_exchange-found.ensures.2.0.1);
       };
-      blank = shown_twice _ c.args.blank seat.table_id mid.table_id after.table_id seat.me mid.me after.me (with_found seen seat.me.0) (with_found found mid.me.0) seen found found
+      blank = shown_twice _ c.args.blank seat.table_id mid.table_id after.table_id seat.me mid.me after.me (with_found c.args.domain seen seat.me.0) (with_found c.args.domain found mid.me.0) c.args.domain seen found found
           c.blank.view_is step.0 step.2.1 refl refl c.compare_exchange-found.ensures.0 next refl refl refl;
     }

@@ -1,6 +1,6 @@
 use Rattle.std.proofs.Common.{◌≡◌, ◌<◌, ◌≤◌, ◌+◌, ◌-◌, ◌∷◌, [], length, refl, sym, ap, ◌∙◌, subst, arith}
 use Rattle.bw_gate.specs.declared.view.Piece.TheVariants.{Ticket}
-use Rattle.bw_gate.specs.Pieces.{GateId, TicketView}
+use Rattle.bw_gate.specs.Pieces.{GateId, TicketView, cpus_of}
 use Rattle.bw_gate.specs.Terms.{TermsView, cpus_in}
 use Rattle.bw_gate.specs.Word.{IsWord, used_of as used_part, cap_of as cap_part}
 use Rattle.bw_gate.proofs.Parts.{other_used, over_in, room_in, same_cap}
@@ -44,7 +44,7 @@ invariant_of-ticket c =
     let step = took found seen _ _ c.if-found-seen.true c.compare_exchange-found.ensures.2.1 in
     let mine : held_by d seat.me.0 ≡ was = held_one d seat.me.0 (Ticket d was) c.ticket.invariant.1 ∙ held_here d was in
     let bw : (seen - was + c.args.bw) + held_by d seat.me.0 - seen ≡ c.args.bw = omega (arith, mine, low) in
-    let s = seat_after _ seat.me c.compare_exchange-found.new.seat.me (made (Ticket d ((seen - was + c.args.bw) + held_by d seat.me.0 - seen)) found seat.me.0) (Ticket d c.args.bw) seat.me.0.found found c.ticket.invariant.0 step (ap (λ (n : _). Ticket d n ∷ []) bw) refl in
+    let s = seat_after _ seat.me c.compare_exchange-found.new.seat.me (made (Ticket d ((seen - was + c.args.bw) + held_by d seat.me.0 - seen)) c.ticket.inside.domain found seat.me.0) (Ticket d c.args.bw) seat.me.0.found c.ticket.inside.domain found c.ticket.invariant.0 step (ap (λ (n : _). Ticket d n ∷ []) bw) refl in
     (s.0, s.1, s.2, subst (λ (t : TermsView). d < length t.cpus) (sym (ap (λ (m : _). m.0.terms) step)) c.ticket.invariant.3, c.requires.one_cpu)
 
 pub invariant_of-ticket-else-found-seen : goal.invariant_of-ticket-else-found-seen
@@ -53,7 +53,7 @@ invariant_of-ticket-else-found-seen c =
     let d = c.ticket.inside.domain in
     let found = c.compare_exchange-found.result in
     let step = missed found c.load-seen.result _ _ c.if-found-seen.false c.compare_exchange-found.ensures.2.1 in
-    let s = seat_after _ seat.me c.compare_exchange-found.new.seat.me (with_found found seat.me.0) (Ticket d c.ticket.inside.bw) seat.me.0.found found c.ticket.invariant.0 step c.ticket.invariant.1 refl in
+    let s = seat_after _ seat.me c.compare_exchange-found.new.seat.me (with_found c.ticket.inside.domain found seat.me.0) (Ticket d c.ticket.inside.bw) seat.me.0.found c.ticket.inside.domain found c.ticket.invariant.0 step c.ticket.invariant.1 refl in
     (s.0, s.1, s.2, subst (λ (t : TermsView). d < length t.cpus) (sym (ap (λ (m : _). m.0.terms) step)) c.ticket.invariant.3, c.ticket.invariant.4)
 
 pub returns-then-used_of-ticket : goal.returns-then-used_of-ticket
@@ -78,7 +78,7 @@ returns-then-found-seen c =
       word = load.word;
       held = load.room;
       room = room_in _ _ _ _ _ _ c.args.bw c.used_of.ensures c.cap_of.ensures held c.if-used_of-ticket.false;
-      ticket = ticket_shown _ c.args.ticket c.load-seen.new.ticket d c.args.bw c.args.bw seat.table_id after.table_id seat.me after.me (made (Ticket d ((seen - was + c.args.bw) + held_by d seat.me.0 - seen)) found seat.me.0) seen found seen
+      ticket = ticket_shown _ c.args.ticket c.load-seen.new.ticket d c.args.bw c.args.bw seat.table_id after.table_id seat.me after.me (made (Ticket d ((seen - was + c.args.bw) + held_by d seat.me.0 - seen)) c.ticket.inside.domain found seat.me.0) seen found seen
           (ap blank_of c.ticket.view_is) load.ticket (ap (λ (t : TicketView). t.domain) c.ticket.view_is) refl c.compare_exchange-found.ensures.0 step refl refl c.if-found-seen.true;
     }
 
@@ -97,7 +97,8 @@ returns c =
         held = load.room;
         room = room_in _ _ _ _ _ _ c.args.bw c.used_of.ensures c.cap_of.ensures held c.if-used_of-ticket.false;
         other = c.if-found-seen.false;
+        other_word = subst (λ (t : TicketView). IsWord (cpus_of t.gate t.domain) found) (c.ticket.view_is ∙ load.ticket) c.compare_exchange-found.ensures.2.0.1;
       };
-      ticket = ticket_shown _ c.args.ticket c.load-seen.new.ticket c.ticket.inside.domain c.ticket.inside.bw c.args.ticket.bw seat.table_id after.table_id seat.me after.me (with_found found seat.me.0) seen found found
+      ticket = ticket_shown _ c.args.ticket c.load-seen.new.ticket c.ticket.inside.domain c.ticket.inside.bw c.args.ticket.bw seat.table_id after.table_id seat.me after.me (with_found c.ticket.inside.domain found seat.me.0) seen found found
           (ap blank_of c.ticket.view_is) load.ticket (ap (λ (t : TicketView). t.domain) c.ticket.view_is) held c.compare_exchange-found.ensures.0 step refl refl refl;
     }

@@ -26,7 +26,7 @@ load-seen-requires c =
 pub invariant_of-blank : goal.invariant_of-blank
 invariant_of-blank c =
     let seat = c.blank.inside.seat in
-    seat_after _ seat.me c.load-seen.new.seat.me (with_found c.load-seen.result seat.me.0) Blank seat.me.0.found c.load-seen.result c.blank.invariant.0 c.load-seen.ensures.2.1 c.blank.invariant.1 refl
+    seat_after _ seat.me c.load-seen.new.seat.me (with_found c.args.domain c.load-seen.result seat.me.0) Blank seat.me.0.found c.args.domain c.load-seen.result c.blank.invariant.0 c.load-seen.ensures.2.1 c.blank.invariant.1 refl
 
 pub compare_exchange-found-requires : goal.compare_exchange-found-requires
 compare_exchange-found-requires c =
@@ -59,7 +59,7 @@ invariant_of-result c =
     let told_me = c.load-seen.ensures.2.1 in
     let step = took found c.load-seen.result _ _ c.if-found-seen.true c.compare_exchange-found.ensures.2.1 in
     let bw : (c.load-seen.result + c.args.bw) - c.load-seen.result ≡ c.args.bw = omega arith in
-    let s = seat_after _ seat.me c.compare_exchange-found.new.seat.me (made (Ticket d ((c.load-seen.result + c.args.bw) - c.load-seen.result)) found seat.me.0) (Ticket d c.args.bw) seat.me.0.found found (ap (λ (m : _). m.1) told_me ∙ c.blank.invariant.0) step (ap (λ (n : _). Ticket d n ∷ []) bw) refl in
+    let s = seat_after _ seat.me c.compare_exchange-found.new.seat.me (made (Ticket d ((c.load-seen.result + c.args.bw) - c.load-seen.result)) c.args.domain found seat.me.0) (Ticket d c.args.bw) seat.me.0.found c.args.domain found (ap (λ (m : _). m.1) told_me ∙ c.blank.invariant.0) step (ap (λ (n : _). Ticket d n ∷ []) bw) refl in
     let gate = ap (λ (b : _). b.gate) c.blank.view_is ∙ c.requires.own in
     let terms : c.compare_exchange-found.new.seat.me.0.terms ≡ c.args.self.now.terms = ap (λ (m : _). m.0.terms) step ∙ ap (λ (m : _). m.0.terms) told_me ∙ ap (λ (g : GateId). g.terms) gate in
     (s.0, s.1, s.2, subst (λ (t : TermsView). d < length t.cpus) (sym terms) c.requires.inside, c.requires.one_cpu)
@@ -70,7 +70,7 @@ invariant_of-blank-2 c =
     let found = c.compare_exchange-found.result in
     let told_me = c.load-seen.ensures.2.1 in
     let step = missed found c.load-seen.result _ _ c.if-found-seen.false c.compare_exchange-found.ensures.2.1 in
-    seat_after _ seat.me c.compare_exchange-found.new.seat.me (with_found found seat.me.0) Blank seat.me.0.found found (ap (λ (m : _). m.1) told_me ∙ c.blank.invariant.0) step (ap (λ (m : _). m.0.pieces) told_me ∙ c.blank.invariant.1) refl
+    seat_after _ seat.me c.compare_exchange-found.new.seat.me (with_found c.args.domain found seat.me.0) Blank seat.me.0.found c.args.domain found (ap (λ (m : _). m.1) told_me ∙ c.blank.invariant.0) step (ap (λ (m : _). m.0.pieces) told_me ∙ c.blank.invariant.1) refl
 
 pub returns-then-used_of-bw : goal.returns-then-used_of-bw
 returns-then-used_of-bw c =
@@ -80,7 +80,7 @@ returns-then-used_of-bw c =
     record {
       word = subst (λ (b : BlankView). IsWord (cpus_of b.gate c.args.domain) seen) c.blank.view_is step.2.0.0.word;
       over = omega (arith, c.used_of.ensures, c.cap_of.ensures, c.if-used_of-bw.true);
-      blank = shown_after _ c.args.blank seat.table_id c.load-seen.new.seat.table_id seat.me c.load-seen.new.seat.me (with_found seen seat.me.0) (seen ∷ []) c.blank.view_is step.0 step.2.1 refl refl;
+      blank = shown_after _ c.args.blank seat.table_id c.load-seen.new.seat.table_id seat.me c.load-seen.new.seat.me (with_found c.args.domain seen seat.me.0) c.args.domain (seen ∷ []) c.blank.view_is step.0 step.2.1 refl refl;
     }
 
 pub returns-then-found-seen : goal.returns-then-found-seen
@@ -99,7 +99,7 @@ returns-then-found-seen c =
       word = subst (λ (b : BlankView). IsWord (cpus_of b.gate d) seen) c.blank.view_is step.2.0.0.word;
       room = omega (arith, c.used_of.ensures, c.cap_of.ensures, c.if-used_of-bw.false);
       ticket = ap (λ (b : BlankView). record { gate = b.gate; domain = d; bw = bw; found = b.found })
-          (shown_twice _ c.args.blank seat.table_id mid.table_id after.table_id seat.me mid.me after.me (with_found seen seat.me.0) (made (Ticket d ((seen + bw) - seen)) found mid.me.0) seen found seen
+          (shown_twice _ c.args.blank seat.table_id mid.table_id after.table_id seat.me mid.me after.me (with_found c.args.domain seen seat.me.0) (made (Ticket d ((seen + bw) - seen)) c.args.domain found mid.me.0) c.args.domain seen found seen
           c.blank.view_is step.0 step.2.1 refl refl c.compare_exchange-found.ensures.0 next refl refl c.if-found-seen.true);
     }
 
@@ -117,7 +117,8 @@ returns c =
         word = subst (λ (b : BlankView). IsWord (cpus_of b.gate c.args.domain) seen) c.blank.view_is step.2.0.0.word;
         room = omega (arith, c.used_of.ensures, c.cap_of.ensures, c.if-used_of-bw.false);
         other = c.if-found-seen.false;
+        other_word = subst (λ (b : BlankView). IsWord (cpus_of b.gate c.args.domain) found) c.blank.view_is (subst (λ (t : TermsView). IsWord (cpus_in t c.args.domain) found) (ap (λ (m : _). m.0.terms) step.2.1) c.compare_exchange-found.ensures.2.0.1);
       };
-      blank = shown_twice _ c.args.blank seat.table_id mid.table_id after.table_id seat.me mid.me after.me (with_found seen seat.me.0) (with_found found mid.me.0) seen found found
+      blank = shown_twice _ c.args.blank seat.table_id mid.table_id after.table_id seat.me mid.me after.me (with_found c.args.domain seen seat.me.0) (with_found c.args.domain found mid.me.0) c.args.domain seen found found
           c.blank.view_is step.0 step.2.1 refl refl c.compare_exchange-found.ensures.0 next refl refl refl;
     }

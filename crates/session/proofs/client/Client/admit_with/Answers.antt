@@ -7,7 +7,8 @@ use Rattle.rtapp_scenario.specs.ScenarioView.{TaskSpecView}
 use Rattle.call_book.specs.Book.{AdmissionView, admission}
 use Rattle.session.specs.declared.refusal.Refusal.TheVariants as refusals
 use Rattle.session.specs.SessionId.{cpu_set_of}
-use Rattle.session.specs.Asks.{ClientView, Makes, made_by, admit_call, AsksGate}
+use Rattle.session.specs.Seen.{EntryWasSeen}
+use Rattle.session.specs.Asks.{ClientView, part_in, Makes, made_by, admit_call, AsksGate}
 use Rattle.session.specs.private.Entering.{IsEntryVerdict}
 use Rattle.session.proofs.Asked.{accepted_is, refused_makes}
 use Rattle.session.proofs.client.Client.admit_with.Goals as goal
@@ -18,6 +19,13 @@ returns-in-Ok-clause-made g c =
     subst (λ (call : Call). Makes c.args.self.now c.submit.new.self (made_by c.args.place call c.submit.result))
     (ap admission c.in-Ok.ensures ∙ ap (λ (v : TaskSpecView). calls.Admit v.number v.name c.args.params v.delay v.script) c.task.view_is
     ∙ ap (λ (p : ParamsView). calls.Admit t.number t.name p t.delay t.script) (accepted_is t.attr c.args.params c.requires.checked)) c.submit.ensures.made
+
+pub returns-in-Ok-clause-seen : goal.returns-in-Ok-clause-seen
+returns-in-Ok-clause-seen g c =
+    let t = c.args.task.now in
+    subst (λ (call : Call). EntryWasSeen g.N.Names.id c.args.place (part_in c.args.self.now c.args.place) call c.submit.result c.submit.new.self.hand)
+    (ap admission c.in-Ok.ensures ∙ ap (λ (v : TaskSpecView). calls.Admit v.number v.name c.args.params v.delay v.script) c.task.view_is
+    ∙ ap (λ (p : ParamsView). calls.Admit t.number t.name p t.delay t.script) (accepted_is t.attr c.args.params c.requires.checked)) c.submit.ensures.seen
 
 pub returns-in-Ok-clause-verdict : goal.returns-in-Ok-clause-verdict
 returns-in-Ok-clause-verdict g c =

@@ -4,9 +4,10 @@ use Rattle.pass_seats.specs.Lists.{PassView}
 use Rattle.bw_gate.specs.Pieces.{BlankView}
 use Rattle.calls_text.specs.declared.section.Entry.{Entry}
 use Rattle.session.specs.Asks.{ClientView}
-use Rattle.session.specs.private.Entering.{pass_after, NoneIsKept, IsDone}
-use Rattle.session.proofs.Asked.{none_kept, done_anyhow, makes_at, done_for}
+use Rattle.session.specs.private.Entering.{pass_after, NoneIsKept, KeepsHand, IsDone}
+use Rattle.session.proofs.Asked.{none_kept, done_anyhow, hand_taken, hand_same, makes_at, done_for}
 use Rattle.session.proofs.Passes.{done_kept, still_client}
+use Rattle.session.proofs.Sighted.{part_at}
 use Rattle.session.proofs.client.Client.enter.Goals.{in-Some-blank+in-Some-1, in-Some-blank+in-None-1, in_default-blank}
 use Rattle.session.proofs.client.Client.enter.Goals as goal
 
@@ -48,10 +49,19 @@ returns g c =
           (subst (λ (h : Option BlankView). IsDone g.N.Names.id g.row.D p q c.args.ask c.make-answer.result.answer h) w.in_default-blank.is c.make-answer.ensures.done)
           (subst (λ (h : Option BlankView). NoneIsKept c.args.ask c.make-answer.result.answer h) w.in_default-blank.is c.make-answer.ensures.given)
     ] in
+    let keeps : KeepsHand c.args.ask (c.args.self.now).hand c.match-blank.self.hand =
+    elim c.match-blank.branch [
+      | in-Some-blank+in-Some-1 w ↦ hand_taken c.args.ask c.make-answer.result.blank w.in-Some-blank.blank (c.args.self.now).hand c.match-blank.self.hand c.make-answer.ensures.none w.in-Some-blank.is
+      | in-Some-blank+in-None-1 w ↦ hand_taken c.args.ask c.make-answer.result.blank w.in-Some-blank.blank (c.args.self.now).hand c.match-blank.self.hand c.make-answer.ensures.none w.in-Some-blank.is
+      | in_default-blank w ↦ hand_same c.args.ask (c.args.self.now).hand c.match-blank.self.hand (ap (λ (v : ClientView). v.hand) w.self-is ∙ ap (λ (v : ClientView). v.hand) c.self.view_is)
+    ] in
     done_for g.N.Names.id g.row.D c.args.self.now c.match-blank.self p q c.args.ask c.make-answer.result.answer
+    (part_at c.args.self.now ps g.row.D p (sym (ap (λ (v : ClientView). v.passes) c.self.view_is)) inside at owner)
     (λ call a becomes. makes_at c.args.self.now c.match-blank.self ps g.row.D p q call a (sym (ap (λ (v : ClientView). v.passes) c.self.view_is)) passes number inside owner (subst (λ (r : PassView Entry). q ≡ pass_after r call a) at becomes))
     done
     given
+    c.make-answer.ensures.seen
+    keeps
 
 pub invariant_of-self : goal.invariant_of-self
 invariant_of-self g c =

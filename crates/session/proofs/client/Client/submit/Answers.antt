@@ -3,8 +3,9 @@ use Rattle.bw_gate.specs.Pieces.{GateId, cpus_of as gate_cpus}
 use Rattle.call_book.specs.Book.{admission}
 use Rattle.session.specs.declared.refusal.Refusal.TheVariants as refusals
 use Rattle.session.specs.SessionId.{cpu_set_of}
-use Rattle.session.specs.Asks.{ClientView, AsksGate, IsLastFound, IsOverCap, IsGateRefusal}
+use Rattle.session.specs.Asks.{ClientView, part_in, AsksGate, IsLastFound, IsOverCap, IsGateRefusal}
 use Rattle.session.proofs.Asked.{refused_makes, last_seen, gate_over, gate_refused}
+use Rattle.session.proofs.Sighted.{entry_seen}
 use Rattle.session.proofs.client.Client.submit.Goals as goal
 
 pub returns-in-Refused-clause-made : goal.returns-in-Refused-clause-made
@@ -30,3 +31,7 @@ returns-in-Refused-clause-gate g c =
     subst (λ (v : ClientView). AsksGate g.N.Names.id.gate c.args.place bw (Some c.args.blank) (Err (refusals.Busy c.used_of.result)) v.hand) (sym c.keep.ensures)
     (subst (λ (n : ℕ). IsGateRefusal c.args.blank c.args.place n c.used_of.result c.in-Refused.blank) c.bw.ensures.value
     (gate_refused c.args.blank c.args.place c.bw.result c.in-Refused.blank c.in-Refused.word c.used_of.result c.in-Refused.ensures c.used_of.ensures))
+
+pub returns-in-Taken-clause-seen : goal.returns-in-Taken-clause-seen
+returns-in-Taken-clause-seen g c =
+    entry_seen g.N.Names.id c.args.place (part_in c.args.self.now c.args.place) (admission c.args.prepared) c.enter_at.result c.enter_at.new.self.hand c.enter_at.ensures.3

@@ -14,7 +14,7 @@ returns-in-Refused-clause-why g c =
     let cpus = length (cpu_set_of g.N.Names.id to) in
     let same : gate_cpus c.args.blank.gate to ≡ cpus =
     ap (λ (i : GateId). gate_cpus i to) c.requires.own ∙ c.shared.invariant.2.machines to c.requires.to in
-    subst (λ (v : ClientView). IsWhyUnmoved g.N.Names.id c.args.prepared.number c.args.from to (Some c.args.blank) v.hand (refusals.Busy c.used_of.result)) (sym c.keep.ensures)
+    subst (λ (v : ClientView). IsWhyUnmoved g.N.Names.id c.args.self.now c.args.prepared.number c.args.from to (Some c.args.blank) v.hand (refusals.Busy c.used_of.result)) (sym c.keep.ensures)
     (inl (record {
       task = moving_as c.args.prepared;
       listed = c.requires.listed;
