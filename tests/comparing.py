@@ -43,6 +43,10 @@ SPLIT = [*MODEL[:2], (3000, "b", IDLE), (3050, IDLE, "b"), *MODEL[2:]]
 OTHER_CPU = [(0, IDLE, "a"), (2000, "a", IDLE), (2000, IDLE, "b", 1), (5000, "b", IDLE, 1), (10000, IDLE, "a"), (12000, "a", IDLE)]
 ONE_MORE = [*MODEL[:3], (7000, IDLE, "b"), (8000, "b", IDLE), *MODEL[3:]]
 NAMES = [(0, IDLE, "a = b: c"), (2000, "a = b: c", IDLE)]
+# Names that do not print: one that is no UTF-8, and one that is, as a text of bytes.
+NO_TEXT = [(0, IDLE, "a\x1b\tb\x9b"), (2000, "a\x1b\tb\x9b", IDLE)]
+TURNED = "\u00e4\x1b\u202ez".encode().decode("latin1")
+TEXT = [(0, IDLE, TURNED), (2000, TURNED, IDLE)]
 BAD = "a-1 [000] d..2. 0.000000: sched_switch: prev_comm=a prev_pid=1 next_prio=x\n"
 
 # A task that is throttled inside its job, as dlsim writes it; the same on Linux 6.18, as tracefs told it, with lines before the start and two
@@ -92,7 +96,12 @@ HOSTILE_MODEL = (
     " x-1 [000] 0.000001: sched_switch: a:1 [0] S ==> \xff\0 =:b:2 [-1]\r\n\n x-1 [65535] 1099511627775.999999: sched_switch: ==> :0 [9]\xfe [-999999999999999999]"
 )
 HOSTILE = "\0\xff [000] 1.0: sched_switch\n: sched_switch: \n9.999999: sched_switch: next_prio=\n"
+# The mark of ftrace comes first, so what follows it would have to be in one of the two forms of ftrace and trace-cmd.
+BOTH_MARKS = "a-7 [000] 7.000001: sched_switch: sched:sched_switch: a:7 [-1] S ==> b:8\n"
 BAD_AT_3 = "\n\n a [0] 1.000000: sched_switch: a:7 [-1] S ==> b:8\n"
+
+# A megabyte of lines that tell no switch: more than eight reads of 64 KiB.
+MEGABYTE = "a-1 [000] 0.000000: sched_wakeup: comm=a\n" * 25600
 
 HEADER = "#          task   runs recorded matched  start_p50 start_p95 start_max   end_p50   end_p95   end_max    cpu_us rec_cpu_us\n"
 NOTHING = ("-", "-", "-")
@@ -101,7 +110,7 @@ NONE = "first difference: none\n"
 
 
 def row(name, runs, recorded, matched, starts, ends, cpu, recorded_cpu):
-    columns = [f"{name:>15}", f"{runs:6}", f"{recorded:8}", f"{matched:7}"]
+    columns = [" " * (15 - len(name.encode())) + name, f"{runs:6}", f"{recorded:8}", f"{matched:7}"]
     columns += [f"{starts[0]:>10}", f"{starts[1]:>9}", f"{starts[2]:>9}", *(f"{end:>9}" for end in ends)]
     return " ".join([*columns, f"{cpu:9}", f"{recorded_cpu:10}"]) + "\n"
 
@@ -183,7 +192,29 @@ ROWS = [
         AT_0 + HEADER + row("a = b: c", 1, 1, 1, EXACT, EXACT, 2000, 2000) + NONE,
         model=NAMES,
     ),
+    matches(
+        "a name with ESC, TAB and a lone byte",
+        recording(*NO_TEXT),
+        AT_0 + HEADER + row("a\\x1b\\x09b\\x9b", 1, 1, 1, EXACT, EXACT, 2000, 2000) + NONE,
+        model=NO_TEXT,
+    ),
+    matches(
+        "the same of which nothing was recorded",
+        recording(*MODEL),
+        AT_0
+        + HEADER
+        + row("a\\x1b\\x09b\\x9b", 1, 0, 0, NOTHING, NOTHING, 2000, 0)
+        + "first difference: model run 0 of a\\x1b\\x09b\\x9b, 0.000000 to 0.002000 s, and nothing was recorded of this task\n",
+        model=NO_TEXT,
+    ),
+    matches(
+        "a name with a letter, ESC and a mark of direction",
+        recording(*TEXT),
+        AT_0 + HEADER + row("\u00e4\\u001b\\u202ez", 1, 1, 1, EXACT, EXACT, 2000, 2000) + NONE,
+        model=TEXT,
+    ),
     matches("bytes that are no text", "\0\xff : sched_switch: \n" + recording(*MODEL) + "x" * 100000, ALL),
+    matches("a megabyte before the switches", MEGABYTE + recording(*MODEL), ALL),
     Comparison("throttled inside a job, on Linux", "MODEL RECORDED", THROTTLED, LINUX_6, 0, AS_RECORDED, ""),
     Comparison("a run too long and one more, in several spellings", "--cpus MODEL RECORDED", THROTTLED, LATER_LINES, 0, DIFFERENT, ""),
     matches(
@@ -195,6 +226,8 @@ ROWS = [
     matches("standard input for the model", recording(*MODEL), ALL, words="- RECORDED"),
     fault("a bad line of the model", 1, "dlsim: trace line 2 in model.txt\n", model="# tracer: nop\n" + BAD, recorded=BAD),
     fault("a bad line of the recording", 1, "dlsim: trace line 8 in recorded.txt\n", recorded=recording(*MODEL) + BAD),
+    fault("a line with both marks", 1, "dlsim: trace line 1 in recorded.txt\n", recorded=BOTH_MARKS),
+    fault("a bad line behind a megabyte", 1, "dlsim: trace line 25601 in recorded.txt\n", recorded=MEGABYTE + BAD),
     fault("a bad line of standard input", 1, "dlsim: trace line 1 in standard input\n", words="MODEL -", recorded=BAD),
     fault("no switch in the model", 1, "dlsim: no switch in model.txt\n", model="# tracer: nop\n", recorded=""),
     fault("no switch in the recording", 1, "dlsim: no switch in recorded.txt\n", recorded="a-1 [000] 0.000000: sched_wakeup: comm=a\n"),
@@ -206,6 +239,8 @@ ROWS = [
     fault("both are standard input", 2, "dlsim: both traces are standard input\n", words="- -"),
     fault("a file that is not there", 3, "dlsim: cannot open none.txt\n", words="MODEL none.txt"),
     fault("a name with a line break", 3, "dlsim: cannot open a\\u000ab\n", words="'a\nb' RECORDED"),
+    fault("a name with a mark of direction", 3, "dlsim: cannot open \u00e4\\u202eb\n", words="'\u00e4\u202eb' RECORDED"),
+    fault("a long name", 3, f"dlsim: cannot open {'q' * 200}\n", words=f"{'q' * 200} RECORDED"),
     fault("a folder", 3, "dlsim: read failed in .\n", words="MODEL ."),
 ]
 

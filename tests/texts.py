@@ -634,4 +634,37 @@ LONG = [
     Row("a minute", "run", ONE_MINUTE, 0, trace(*one_minute()), ""),
 ]
 
-ROWS = [*TEXTS, *AGAIN, *BAD_LINES, *NO_JSON, *COUNTS, *fronts(), *LONG]
+# Keys that the profile does not have, and how they are told: what does not print is escaped, and letters of any language stand as they are.
+KEYS = {
+    "a line break": ("x\\ny", "x\\u000ay"),
+    "U+007F": ("x\x7fy", "x\\u007fy"),
+    "U+0085": ("x\u0085y", "x\\u0085y"),
+    "U+009B": ("\u009b2J", "\\u009b2J"),
+    "U+2028": ("x\u2028y", "x\\u2028y"),
+    "U+202E": ("x\u202ey", "x\\u202ey"),
+    "U+2069, by an escape": ("x\\u2069y", "x\\u2069y"),
+    "letters": ("\u00e4\u4e2d\U0001f600q", "\u00e4\u4e2d\U0001f600q"),
+    "200 letters": ("q" * 200, "q" * 200),
+}
+
+
+def keys():
+    for name, (key, shown) in KEYS.items():
+        yield Row(f"a key with {name}", "run", scenario(("a", f'"{key}":1')), 1, "", f"dlsim: scenario 22 key {shown}\n")
+
+
+def crowds():
+    """77 tasks of which none is refused: each number of clients has its threads."""
+    given = scenario(*((f"t{n}", working(1024, 1000000, 1)) for n in range(77)))
+    for clients in range(1, 65):
+        yield Row(f"77 tasks, {clients} clients", f"run --clients {clients}", given, 0, HEADER, "")
+
+
+def refused_crowd():
+    """Of 90 tasks each is refused, and told."""
+    given = scenario(*((f"t{n}", working(1, 1000, 1)) for n in range(90)))
+    told = "".join(f"dlsim: task {n} EINVAL 22 Small\n" for n in range(1, 91))
+    yield Row("90 tasks that are refused", "run", given, 0, HEADER, told)
+
+
+ROWS = [*TEXTS, *AGAIN, *BAD_LINES, *NO_JSON, *COUNTS, *fronts(), *LONG, *keys(), *crowds(), *refused_crowd()]

@@ -1,6 +1,7 @@
 -- The table of a comparison, as a text (own).
 use Rattle.std.specs.Prelude.{ℕ, ◌-◌, ◌/◌, ◌%◌, Bool, true, false, List, [], ◌∷◌, ◌++◌, length, replicate, Option, Some, None, codes, decimal}
 use Rattle.draft.specs.Columns.{right, column}
+use Rattle.one_line.specs.Shown.{shown_bytes}
 use Rattle.compare_report.specs.declared.line.Spread.{Spread}
 use Rattle.compare_report.specs.declared.line.Stretch.{Stretch}
 use Rattle.compare_report.specs.declared.line.Shift.{Shift}
@@ -49,7 +50,7 @@ cpu_columns r = column 9 (decimal r.cpu) ++ column 10 (decimal r.recorded_cpu)
 
 abbrev pub row_line : Row → List ℕ
 row_line r =
-    right 15 r.name.now
+    right 15 (shown_bytes r.name.now)
     ++ (run_columns r
     ++ (spread_columns 10 r.starts ++ (spread_columns 9 r.ends ++ (cpu_columns r ++ codes "\n"))))
 
@@ -67,7 +68,8 @@ stretch_text s = seconds_text s.start ++ (codes " to " ++ (seconds_text s.«end�
 
 abbrev pub place_text : Place → List ℕ
 place_text p =
-    decimal p.number ++ (codes " of " ++ (p.name.now ++ (codes ", " ++ stretch_text p.run)))
+    decimal p.number
+    ++ (codes " of " ++ (shown_bytes p.name.now ++ (codes ", " ++ stretch_text p.run)))
 
 abbrev pub nearest_text : Option Stretch → List ℕ
 nearest_text None = codes ", and nothing was recorded of this task\n"

@@ -6,6 +6,7 @@ ghost use Rattle.draft.specs.Draft.{Adds};
 use crate::line::{Place, Stretch};
 use crate::putting::put_seconds;
 use draft::Draft;
+use one_line::put_shown_bytes;
 
 fn put_stretch(out: &mut Draft, stretch: Stretch)
     ensures { Adds out.old out.new (stretch_text stretch) }
@@ -21,7 +22,7 @@ fn put_place(out: &mut Draft, place: &Place<'_>)
 {
     out.put_decimal(place.number);
     out.put(b" of ");
-    out.put(place.name);
+    put_shown_bytes(out, place.name);
     out.put(b", ");
     put_stretch(out, place.run);
 }

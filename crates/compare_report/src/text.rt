@@ -28,11 +28,11 @@ fn shift_of(shift: u64) -> Shift
 }
 
 /// Puts the rows of tasks behind a text.
-fn put_rows(out: &mut Draft, findings: &[Finding<'_>])
+fn put_rows(alloc: Global, out: &mut Draft, findings: &[Finding<'_>])
     ensures { Adds out.old out.new (flat_map (λ f. row_line f.row) findings.now) }
 {
     for finding in findings {
-        put_row(out, &finding.row);
+        put_row(alloc, out, &finding.row);
     }
 }
 
@@ -158,6 +158,7 @@ fn other_of<'a>(findings: &[Finding<'a>], task: Option<usize>) -> Option<Place<'
 
 /// Puts the whole text behind another.
 fn put_all(
+    alloc: Global,
     out: &mut Draft,
     cpus: bool,
     shift: u64,
@@ -169,7 +170,7 @@ fn put_all(
 {
     put_shift(out, shift_of(shift));
     put_header(out);
-    put_rows(out, findings);
+    put_rows(alloc, out, findings);
     put_asked_cpus(out, cpus, findings);
     put_differences(out, missing, other);
 }
@@ -187,6 +188,7 @@ pub(crate) fn text_of(
     let other = first_other(alloc, findings)?;
     let mut out = Draft::new(alloc);
     put_all(
+        alloc,
         &mut out,
         cpus,
         shift,

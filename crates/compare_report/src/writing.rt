@@ -2,11 +2,15 @@
 
 ghost use Rattle.std.specs.Prelude.{◌≤◌};
 ghost use Rattle.compare_report.specs.Table.{run_columns, cpus_line, table_header, row_line, shift_line, spread_columns, cpu_columns};
+ghost use Rattle.draft.specs.Columns.{right};
 ghost use Rattle.draft.specs.Draft.{Adds};
+ghost use Rattle.one_line.specs.Shown.{shown_bytes};
 
 use crate::line::{Row, Shift, Spread};
 use crate::putting::{put_column, put_count, put_number, put_right, put_seconds, put_wide};
 use draft::Draft;
+use one_line::put_shown_bytes;
+use std::alloc::Global;
 
 /// Puts the line of the shift behind a text: `shift 1705.992138 s`.
 pub fn put_shift(out: &mut Draft, shift: Shift)
@@ -58,11 +62,23 @@ fn put_times(out: &mut Draft, row: &Row<'_>)
     put_wide(out, 10, row.recorded_cpu);
 }
 
-/// Puts the line of a task behind a text.
-pub fn put_row(out: &mut Draft, row: &Row<'_>)
+/// A name at the right of its column, on one line.
+fn put_name(alloc: Global, out: &mut Draft, name: &[u8])
+    ensures { Adds out.old out.new (right 15 (shown_bytes name.now)) }
+{
+    let mut shown = Draft::new(alloc);
+    put_shown_bytes(&mut shown, name);
+    match shown.into_text() {
+        Ok(text) => put_right(out, 15, text.as_slice()),
+        Err(_) => out.refuse(),
+    }
+}
+
+/// Puts the line of a task behind a text. What a terminal does not show of its name is escaped.
+pub fn put_row(alloc: Global, out: &mut Draft, row: &Row<'_>)
     ensures { Adds out.old out.new (row_line row.now) }
 {
-    put_right(out, 15, row.name);
+    put_name(alloc, out, row.name);
     put_counts(out, row);
     put_spread(out, 10, row.starts);
     put_spread(out, 9, row.ends);

@@ -1,6 +1,5 @@
 pub mod Told
 pub mod ScenarioLaw
-pub mod Shown
 pub mod OrderAdmissions
 pub mod OrderRuns
 pub mod OrderEntries

@@ -1,10 +1,10 @@
 -- How a comparison of two traces ends: what is said on standard error, and the exit status (own).
 use Rattle.std.specs.Prelude.{◌≡◌, ℕ, List, [], ◌++◌, Result, Ok, Err, codes, decimal}
+use Rattle.one_line.specs.Shown.{shown}
 use Rattle.compare_report.specs.declared.fault.CompareFault.{CompareFault}
 use Rattle.compare_report.specs.declared.fault.CompareFault.TheVariants.{BadLine, NoSwitch, Read, Endless, Write, Memory}
 use Rattle.compare_report.specs.declared.fault.Input.{Input}
 use Rattle.compare_report.specs.declared.fault.Input.TheVariants.{Model, Recorded}
-use Rattle.dl_session.specs.Lines.{one_line}
 use Rattle.dl_session.specs.Ending.{as_line}
 use Rattle.dl_session.specs.declared.comparing.TraceNames.{TraceNames}
 use Rattle.dl_session.specs.declared.comparing.ComparisonEnding.{ComparisonEnding}
@@ -17,10 +17,10 @@ input_name names Recorded = names.recorded.now
 -- the text of a fault: one line, without the program's name and the LF
 abbrev pub compare_text : CompareFault → TraceNames → List ℕ
 compare_text (BadLine input line) names =
-    codes "trace line " ++ (decimal line ++ (codes " in " ++ one_line (input_name names input)))
-compare_text (NoSwitch input) names = codes "no switch in " ++ one_line (input_name names input)
-compare_text (Read input) names = codes "read failed in " ++ one_line (input_name names input)
-compare_text (Endless input) names = codes "read failed in " ++ one_line (input_name names input)
+    codes "trace line " ++ (decimal line ++ (codes " in " ++ shown (input_name names input)))
+compare_text (NoSwitch input) names = codes "no switch in " ++ shown (input_name names input)
+compare_text (Read input) names = codes "read failed in " ++ shown (input_name names input)
+compare_text (Endless input) names = codes "read failed in " ++ shown (input_name names input)
 compare_text (Write written) names = codes "write failed after " ++ decimal written
 compare_text Memory names = codes "out of memory"
 
@@ -28,7 +28,7 @@ compare_text Memory names = codes "out of memory"
 abbrev pub comparison_text : ComparisonEnding → List ℕ
 comparison_text Done = []
 comparison_text BothStdin = as_line (codes "dlsim: both traces are standard input")
-comparison_text (NotOpened name) = as_line (codes "dlsim: cannot open " ++ one_line name.now)
+comparison_text (NotOpened name) = as_line (codes "dlsim: cannot open " ++ shown name.now)
 comparison_text (Fault fault names) = as_line (codes "dlsim: " ++ compare_text fault names)
 
 -- 1 for a trace that is none; 3 where reading or writing failed; 4 for want of memory

@@ -1,10 +1,8 @@
 -- What the program prints on standard error (own).
-use Rattle.std.specs.Prelude.{ℕ, false, List, [], ◌∷◌, ◌++◌, ◌/◌, ◌%◌, ◌||◌, ◌==◌, nat_lt, if◌then◌else◌, codes, decimal, string_bytes}
-use Rattle.std.specs.Char.{encode_utf8}
-use Rattle.std.specs.Fmt.{digit_glyph}
-use Rattle.std.specs.List.{flat_map}
-use Rattle.std.specs.Str.{chars}
+use Rattle.std.specs.Prelude.{ℕ, List, [], ◌++◌, codes, decimal, string_bytes}
+use Rattle.one_line.specs.Shown.{shown}
 use Rattle.json_order.specs.Fault.{kind_number}
+use Rattle.json_order.specs.declared.fault.JsonFault.{JsonFault}
 use Rattle.rtapp_scenario.specs.Told.{fault_number}
 use Rattle.rtapp_scenario.specs.declared.fault.ScenarioFault.{ScenarioFault}
 use Rattle.rtapp_scenario.specs.declared.fault.ScenarioFault.TheVariants.{NoTasks, Duration, Unsupported, Value, Name, Policy, TooMany, Idle, Memory}
@@ -13,24 +11,12 @@ use Rattle.dl_session.specs.declared.fault.SessionFault.TheVariants as faults
 use Rattle.dl_session.specs.declared.fault.RefusedLine.{RefusedLine}
 use Rattle.session.specs.RefusalText.{refusal_text}
 
--- a character of a key: a control character as \u00 and its two digits, so that the line stays one
--- line; any other as it is
-abbrev pub shown_character : ℕ → List ℕ
-shown_character c =
-    if nat_lt c 32 || c == 127
-    then codes "\\u00" ++ (digit_glyph false (c / 16) ∷ digit_glyph false (c % 16) ∷ [])
-    else encode_utf8 c
-
--- the key to mend, on one line
-abbrev pub one_line : List ℕ → List ℕ
-one_line key = flat_map shown_character (chars key)
-
--- behind the number of a scenario's fault
+-- behind the number of a scenario's fault: the key to mend, on one line
 abbrev pub key_shown : ScenarioFault → List ℕ
 key_shown NoTasks = []
 key_shown Duration = []
-key_shown (Unsupported key) = codes " key " ++ one_line (string_bytes key)
-key_shown (Value key) = codes " key " ++ one_line (string_bytes key)
+key_shown (Unsupported key) = codes " key " ++ shown (string_bytes key)
+key_shown (Value key) = codes " key " ++ shown (string_bytes key)
 key_shown Name = []
 key_shown Policy = []
 key_shown TooMany = []
@@ -41,10 +27,14 @@ key_shown Memory = []
 abbrev pub scenario_text : ScenarioFault → List ℕ
 scenario_text fault = codes "scenario " ++ (decimal (fault_number fault) ++ key_shown fault)
 
+-- the text of a fault of a JSON text
+abbrev pub json_text : JsonFault → List ℕ
+json_text fault =
+    codes "json " ++ (decimal (kind_number fault.kind) ++ (codes " at " ++ decimal fault.at))
+
 -- the text of a fault: one line, without the program's name and the LF
 abbrev pub fault_text : SessionFault → List ℕ
-fault_text (faults.Json fault) =
-    codes "json " ++ (decimal (kind_number fault.kind) ++ (codes " at " ++ decimal fault.at))
+fault_text (faults.Json fault) = json_text fault
 fault_text (faults.Scenario fault) = scenario_text fault
 fault_text (faults.Calls n) = codes "calls 30 line " ++ decimal n
 fault_text faults.Read = codes "read failed"

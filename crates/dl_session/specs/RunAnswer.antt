@@ -143,7 +143,8 @@ pub record LacksRoomToAdvance (s : Streams) (o : Options) : Type 0 where
   pub reads : HasNoFault s.reader
   pub writes : HasNoFault s.writer
 
--- the system started no thread for a client of the scenario, and nothing was written
+-- the input is a scenario, and nothing was written; no clause says that the system started no
+-- thread for one of its clients
 pub record IsUnstarted (s : Streams) : Type 0 where
   pub scenario : ScenarioView
   pub input : IsScenario s scenario

@@ -1,12 +1,17 @@
 //! How a comparison of two traces ends.
 
-ghost use Rattle.std.specs.Prelude.{◌≡◌, ◌++◌};
+ghost use Rattle.std.specs.Prelude.{◌≡◌, ◌++◌, IfOk, codes, decimal};
 ghost use Rattle.std.specs.Fmt.{WritesOnOk};
-ghost use Rattle.dl_session.specs.Lines.{one_line};
-ghost use Rattle.dl_session.specs.Comparing.{input_name, compare_status, compare_text, comparison_status, IsEndOfComparison};
+ghost use Rattle.draft.specs.Draft.{Adds};
+ghost use Rattle.one_line.specs.Shown.{shown};
+ghost use Rattle.dl_session.specs.Comparing.{input_name, compare_status, compare_text, comparison_status, comparison_text, IsEndOfComparison};
+ghost use Rattle.dl_session.specs.Ending.{as_line};
 
-use crate::fault::write_one_line;
+use crate::putting::{put_counted, put_named};
 use compare_report::{CompareFault, Input};
+use draft::{Draft, NoMemory};
+use one_line::write_shown;
+use std::alloc::Global;
 use std::fmt;
 
 /// The names of two traces, as they are told: those of files, or `standard input`.
@@ -28,8 +33,7 @@ impl<'a> TraceNames<'a> {
     }
 }
 
-/// How a comparison ends: what it says on standard error, which is what this displays, and its exit
-/// status.
+/// How a comparison ends: what it says on standard error, which is its text, and its exit status.
 #[derive(Clone, Copy)]
 pub enum ComparisonEnding<'a> {
     /// The report was written.
@@ -66,6 +70,19 @@ impl<'a> ComparisonEnding<'a> {
             ComparisonEnding::Fault(fault, _) => status_of(*fault),
         }
     }
+
+    /// What the program says on standard error: nothing, or a line that ends with an LF. It is what
+    /// this displays.
+    ///
+    /// # Errors
+    /// 12 [`NoMemory`]: a growth was refused.
+    pub fn text(&self, alloc: Global) -> Result<Vec<u8>, NoMemory>
+        ensures { IfOk result (λ v. v.items ≡ comparison_text self.now) }
+    {
+        let mut out = Draft::new(alloc);
+        put_ending(&mut out, self);
+        out.into_text()
+    }
 }
 
 fn status_of(fault: CompareFault) -> u8
@@ -78,13 +95,62 @@ fn status_of(fault: CompareFault) -> u8
     }
 }
 
+fn put_bad_line(out: &mut Draft, line: u64, name: &str)
+    ensures { Adds out.old out.new
+        (codes "trace line " ++ (decimal line ++ (codes " in " ++ shown name.now))) }
+{
+    put_counted(out, b"trace line ", line);
+    put_named(out, b" in ", name);
+}
+
+/// The text of a fault, without the program's name and the LF.
+fn put_fault(out: &mut Draft, fault: CompareFault, names: &TraceNames<'_>)
+    ensures { Adds out.old out.new (compare_text fault names.now) }
+{
+    match fault {
+        CompareFault::BadLine { input, line } => put_bad_line(out, line, names.of(input)),
+        CompareFault::NoSwitch(input) => put_named(out, b"no switch in ", names.of(input)),
+        CompareFault::Read(input) | CompareFault::Endless(input) => {
+            put_named(out, b"read failed in ", names.of(input));
+        }
+        CompareFault::Write { written } => put_counted(out, b"write failed after ", written),
+        CompareFault::Memory => out.put(b"out of memory"),
+    }
+}
+
+fn put_fault_line(out: &mut Draft, fault: CompareFault, names: &TraceNames<'_>)
+    ensures { Adds out.old out.new (as_line (codes "dlsim: " ++ compare_text fault names.now)) }
+{
+    out.put(b"dlsim: ");
+    put_fault(out, fault, names);
+    out.put(b"\n");
+}
+
+fn put_not_opened(out: &mut Draft, name: &str)
+    ensures { Adds out.old out.new (as_line (codes "dlsim: cannot open " ++ shown name.now)) }
+{
+    put_named(out, b"dlsim: cannot open ", name);
+    out.put(b"\n");
+}
+
+fn put_ending(out: &mut Draft, ending: &ComparisonEnding<'_>)
+    ensures { Adds out.old out.new (comparison_text ending.now) }
+{
+    match ending {
+        ComparisonEnding::Done => {}
+        ComparisonEnding::BothStdin => out.put(b"dlsim: both traces are standard input\n"),
+        ComparisonEnding::NotOpened(name) => put_not_opened(out, name),
+        ComparisonEnding::Fault(fault, names) => put_fault_line(out, *fault, names),
+    }
+}
+
 /// Writes words, and behind them a name on one line.
 fn write_named<W: fmt::Write>(f: &mut fmt::Formatter<W>, words: &str, name: &str) -> fmt::Result
     ensures { WritesOnOk W.write_str_gives f.old result
-        (words.now ++ one_line name.now) f.new }
+        (words.now ++ shown name.now) f.new }
 {
     f.write_str(words)?;
-    write_one_line(f, name)
+    write_shown(f, name)
 }
 
 /// Writes the line of a fault, without the program's name and the LF.
@@ -98,7 +164,7 @@ fn write_fault<W: fmt::Write>(
     match fault {
         CompareFault::BadLine { input, line } => {
             write!(f, "trace line {line} in ")?;
-            write_one_line(f, names.of(input))
+            write_shown(f, names.of(input))
         }
         CompareFault::NoSwitch(input) => write_named(f, "no switch in ", names.of(input)),
         CompareFault::Read(input) | CompareFault::Endless(input) => {
@@ -109,7 +175,7 @@ fn write_fault<W: fmt::Write>(
     }
 }
 
-/// The line ends with an LF.
+/// The text, for want of memory. The line ends with an LF.
 impl fmt::Display for ComparisonEnding<'_> {
     ghost use Rattle.std.specs.Prelude.{Some};
     ghost use Rattle.dl_session.specs.Comparing.{comparison_text};

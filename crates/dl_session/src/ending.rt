@@ -1,15 +1,20 @@
-ghost use Rattle.std.specs.Prelude.{◌≡◌};
+ghost use Rattle.std.specs.Prelude.{◌≡◌, ◌++◌, IfOk, codes};
 ghost use Rattle.std.specs.Fmt.{WritesOnOk};
 ghost use Rattle.std.specs.List.{flat_map};
-ghost use Rattle.dl_session.specs.Ending.{refused_task_line, IsEndOfRun, IsEndOfReplay, ending_status};
+ghost use Rattle.draft.specs.Draft.{Adds};
+ghost use Rattle.run_options.specs.Words.{words_text};
+ghost use Rattle.dl_session.specs.Lines.{fault_text};
+ghost use Rattle.dl_session.specs.Ending.{as_line, refused_task_line, IsEndOfRun, IsEndOfReplay, ending_status, ending_text};
 
 use crate::fault::{RefusedLine, SessionFault};
+use crate::putting::{put_fault, put_refused_task, put_words};
+use draft::{Draft, NoMemory};
 use run_options::WordsFault;
 use session::{Refusal, Report};
+use std::alloc::Global;
 use std::fmt;
 
-/// How the program ends: what it says on standard error, which is what this displays, and its exit
-/// status.
+/// How the program ends: what it says on standard error, which is its text, and its exit status.
 #[derive(Clone, Copy)]
 pub enum Ending<'a> {
     /// The text was written; these tasks were refused, each with its number.
@@ -53,6 +58,54 @@ impl<'a> Ending<'a> {
             Ending::Words(fault) => fault.status(),
         }
     }
+
+    /// What the program says on standard error: a line for each refused task, or the line of the
+    /// fault; each ends with an LF. It is what this displays.
+    ///
+    /// # Errors
+    /// 12 [`NoMemory`]: a growth was refused.
+    pub fn text(&self, alloc: Global) -> Result<Vec<u8>, NoMemory>
+        ensures { IfOk result (λ v. v.items ≡ ending_text self.now) }
+    {
+        let mut out = Draft::new(alloc);
+        put_ending(&mut out, self);
+        out.into_text()
+    }
+}
+
+/// A line for each refused task, in their order.
+fn put_refused(out: &mut Draft, refused: &[(u32, Refusal)])
+    ensures { Adds out.old out.new (flat_map refused_task_line refused.now) }
+{
+    for (number, refusal) in refused.iter() {
+        put_refused_task(out, *number, *refusal);
+    }
+}
+
+fn put_fault_line(out: &mut Draft, fault: &SessionFault)
+    ensures { Adds out.old out.new (as_line (codes "dlsim: " ++ fault_text fault.now)) }
+{
+    out.put(b"dlsim: ");
+    put_fault(out, fault);
+    out.put(b"\n");
+}
+
+fn put_words_line(out: &mut Draft, fault: WordsFault)
+    ensures { Adds out.old out.new (as_line (codes "dlsim: " ++ words_text fault)) }
+{
+    out.put(b"dlsim: ");
+    put_words(out, fault);
+    out.put(b"\n");
+}
+
+fn put_ending(out: &mut Draft, ending: &Ending<'_>)
+    ensures { Adds out.old out.new (ending_text ending.now) }
+{
+    match ending {
+        Ending::Done(refused) => put_refused(out, refused),
+        Ending::Fault(fault) => put_fault_line(out, fault),
+        Ending::Words(fault) => put_words_line(out, *fault),
+    }
 }
 
 /// Writes a line for each refused task, in their order.
@@ -73,7 +126,7 @@ fn write_refused<W: fmt::Write>(
     Ok(())
 }
 
-/// Each line ends with an LF.
+/// The text, for want of memory. Each line ends with an LF.
 impl fmt::Display for Ending<'_> {
     ghost use Rattle.std.specs.Prelude.{Some};
     ghost use Rattle.dl_session.specs.Ending.{ending_text};

@@ -1,10 +1,11 @@
 ghost use Rattle.std.specs.Prelude.{◌≡◌};
 ghost use Rattle.std.specs.Fmt.{WritesOnOk};
-ghost use Rattle.dl_session.specs.Lines.{shown_character, one_line, scenario_text};
+ghost use Rattle.dl_session.specs.Lines.{scenario_text};
 ghost use Rattle.dl_session.specs.Status.{exit_status};
 
 use calls_trace::{ReplayFault, TraceFault};
 use json_order::JsonFault;
+use one_line::write_shown;
 use rtapp_scenario::ScenarioFault;
 use session::{AdmitFault, EndFault, Refusal};
 use std::error::Error;
@@ -114,29 +115,6 @@ impl SessionFault {
     }
 }
 
-/// Writes a character of a key: a control character (below 0x20, or 0x7f) as `\u00` and its two
-/// digits, so that the line stays one line, and any other as it is.
-fn write_shown<W: fmt::Write>(f: &mut fmt::Formatter<W>, c: char) -> fmt::Result
-    ensures { WritesOnOk W.write_str_gives f.old result (shown_character c) f.new }
-{
-    let code = u32::from(c);
-    if code < 0x20 || code == 0x7f {
-        write!(f, "\\u00{code:02x}")
-    } else {
-        f.write_char(c)
-    }
-}
-
-/// Writes a text, so that it stays on one line.
-pub(crate) fn write_one_line<W: fmt::Write>(f: &mut fmt::Formatter<W>, text: &str) -> fmt::Result
-    ensures { WritesOnOk W.write_str_gives f.old result (one_line text.now) f.new }
-{
-    for c in text.chars() {
-        write_shown(f, c)?;
-    }
-    Ok(())
-}
-
 /// Writes the fault of a scenario, with its key on one line.
 fn write_scenario<W: fmt::Write>(f: &mut fmt::Formatter<W>, fault: &ScenarioFault) -> fmt::Result
     ensures { WritesOnOk W.write_str_gives f.old result (scenario_text fault.now) f.new }
@@ -145,7 +123,7 @@ fn write_scenario<W: fmt::Write>(f: &mut fmt::Formatter<W>, fault: &ScenarioFaul
     match fault {
         ScenarioFault::Unsupported(key) | ScenarioFault::Value(key) => {
             write!(f, "scenario {number} key ")?;
-            write_one_line(f, key)
+            write_shown(f, key)
         }
         _ => write!(f, "scenario {number}"),
     }

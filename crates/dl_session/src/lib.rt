@@ -17,6 +17,9 @@
 //! [`compare_texts`] is for two traces, and the crate `compare_report`'s; how it ends is a
 //! [`ComparisonEnding`] (`specs/Comparing.antt`).
 //!
+//! What the program says on standard error is [`Ending::text`] or [`ComparisonEnding::text`]
+//! (`specs/Ending.antt`, `specs/Lines.antt`): `Ok` means that it is the whole text.
+//!
 //! A [`Session`] with its [`Client`]s is the crate `session`'s, for whoever wants its calls without
 //! texts; [`admit_all`] is its call with the faults of a run.
 #![tactic(auto)]
@@ -26,6 +29,7 @@ mod comparing;
 mod ending;
 mod fault;
 mod printing;
+mod putting;
 mod replaying;
 mod running;
 

@@ -9,26 +9,59 @@
 //! [`ComparisonEnding`].
 #![tactic(auto)]
 
-use clap::error::ErrorKind;
+use clap::error::ErrorKind as ClapKind;
 use command_line::{Comparison, Source, Task, Wrong, read_words};
 use dl_session::{
     AllPass, ComparisonEnding, Ending, TraceNames, WordsFault, compare_texts, replay_as, run,
 };
 use std::fs::{self, File};
-use std::io::Read;
+use std::io::{self, ErrorKind, Read, Stdin};
 use std::process::ExitCode;
 use switch_text::Counted;
 
-/// Says on standard error what there is to say of this end, and ends with its status.
-fn end_with(rt: &impl Eprint, ending: &Ending<'_>) -> ExitCode {
-    let _ = eprint!(rt; "{ending}");
+/// Says on standard error what there is to say of this end, and ends with its status. Without
+/// memory for its text the end displays itself.
+fn end_with(rt: &HostRuntime, ending: &Ending<'_>) -> ExitCode {
+    let _ = match ending.text(rt.alloc()) {
+        Ok(text) => rt.stderr().write_all(&text),
+        Err(_) => eprint!(rt; "{ending}"),
+    };
     ExitCode::from(ending.status())
 }
 
 /// The same of the end of a comparison.
-fn end_comparison(rt: &impl Eprint, ending: &ComparisonEnding<'_>) -> ExitCode {
-    let _ = eprint!(rt; "{ending}");
+fn end_comparison(rt: &HostRuntime, ending: &ComparisonEnding<'_>) -> ExitCode {
+    let _ = match ending.text(rt.alloc()) {
+        Ok(text) => rt.stderr().write_all(&text),
+        Err(_) => eprint!(rt; "{ending}"),
+    };
     ExitCode::from(ending.status())
+}
+
+/// Standard input as it was before a file was opened. One that could not be read then fails in each
+/// read: a file that was opened later may have the number of a closed standard input.
+#[derive(Drop)]
+struct Given {
+    stdin: Stdin,
+    is_open: bool,
+}
+
+impl Given {
+    /// Asks standard input for no bytes.
+    fn new(mut stdin: Stdin) -> Given {
+        let is_open = stdin.read(&mut []).is_ok();
+        Given { stdin, is_open }
+    }
+}
+
+impl Read for Given {
+    fn read(&mut self, buf: &mut [u8]) -> io::Result<usize> {
+        if self.is_open {
+            self.stdin.read(buf)
+        } else {
+            Err(io::Error::from(ErrorKind::Other))
+        }
+    }
 }
 
 /// Opens a trace's file, or tells that it was not opened.
@@ -63,7 +96,8 @@ fn compare_readers<M: Read + Drop, R: Read + Drop>(
     end_comparison(rt, &ComparisonEnding::of(ended, &names))
 }
 
-/// Compares two traces; both files are opened before either is read.
+/// Compares two traces; both files are opened before either is read, and standard input is looked
+/// at before a file is opened.
 fn compare(rt: &HostRuntime, comparison: &Comparison) -> Result<ExitCode, ExitCode> {
     match (&comparison.model, &comparison.recorded) {
         (Source::File(model), Source::File(recorded)) => {
@@ -71,12 +105,14 @@ fn compare(rt: &HostRuntime, comparison: &Comparison) -> Result<ExitCode, ExitCo
             Ok(compare_readers(rt, model, open_trace(rt, recorded)?, comparison))
         }
         (Source::File(model), Source::Stdin) => {
+            let recorded = Given::new(rt.stdin());
             let model = open_trace(rt, model)?;
-            Ok(compare_readers(rt, model, rt.stdin(), comparison))
+            Ok(compare_readers(rt, model, recorded, comparison))
         }
         (Source::Stdin, Source::File(recorded)) => {
+            let model = Given::new(rt.stdin());
             let recorded = open_trace(rt, recorded)?;
-            Ok(compare_readers(rt, rt.stdin(), recorded, comparison))
+            Ok(compare_readers(rt, model, recorded, comparison))
         }
         (Source::Stdin, Source::Stdin) => { Ok(end_comparison(rt, &ComparisonEnding::BothStdin)) }
     }
@@ -84,11 +120,11 @@ fn compare(rt: &HostRuntime, comparison: &Comparison) -> Result<ExitCode, ExitCo
 
 /// Tells what is wrong with the words. What clap has to say of `--help` goes to standard output,
 /// with status 0.
-fn refuse(rt: &(impl Print + Eprint), wrong: &Wrong) -> ExitCode {
+fn refuse(rt: &HostRuntime, wrong: &Wrong) -> ExitCode {
     match wrong {
         Wrong::Options(fault) => end_with(rt, &Ending::Words(*fault)),
         Wrong::BothStdin => end_comparison(rt, &ComparisonEnding::BothStdin),
-        Wrong::Clap(error) if error.kind() == ErrorKind::OutOfMemory => {
+        Wrong::Clap(error) if error.kind() == ClapKind::OutOfMemory => {
             end_with(rt, &Ending::Words(WordsFault::Memory))
         }
         Wrong::Clap(error) => {

@@ -5,8 +5,8 @@ use Rattle.std.proofs.lemmas.Iterator.{YieldsList-from_chars}
 use Rattle.std.proofs.lemmas.Iterator.Consumers.{YieldsList-end}
 use Rattle.std.proofs.lemmas.List.{flat_map_more, map-id}
 use Rattle.std.proofs.lemmas.Grind.{put_two}
-use Rattle.dl_session.specs.Lines.{shown_character}
-use Rattle.dl_session.proofs.fault.write_one_line.Goals as goal
+use Rattle.one_line.specs.Shown.{shown_character}
+use Rattle.one_line.proofs.shown.write_shown.Goals as goal
 
 pub returns : goal.returns
 returns g c = λ plain _.
@@ -15,4 +15,4 @@ returns g c = λ plain _.
 
 pub loop-c-preserved : goal.loop-c-preserved
 loop-c-preserved g c = λ plain.
-    put_two _ _ _ _ _ _ _ (c.loop-c.invariant plain) (c.in_ok-write_shown.ensures (search rules) refl) (flat_map_more shown_character [] c.loop-c.yielded _)
+    put_two _ _ _ _ _ _ _ (c.loop-c.invariant plain) (c.in_ok-write_character.ensures (search rules) refl) (flat_map_more shown_character [] c.loop-c.yielded _)

@@ -1,7 +1,7 @@
 use Rattle.std.specs.Fmt.{HasWritten, IsPlainFormatter}
-use Rattle.std.specs.List.{flat_map}
-use Rattle.dl_session.specs.Lines.{shown_character}
-use Rattle.dl_session.proofs.fault.write_one_line.Given as goal
+use Rattle.std.specs.Prelude.{flat_map}
+use Rattle.one_line.specs.Shown.{shown_character}
+use Rattle.one_line.proofs.shown.write_shown.Given as goal
 
 -- the characters so far were written
 abbrev pub invariant-loop-c : goal.invariant-loop-c
