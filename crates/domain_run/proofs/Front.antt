@@ -1,56 +1,21 @@
--- The tasks before a place that stay where those behind it go.
-use Rattle.std.proofs.Common.{◌≡◌, ℕ, zero, suc, ◌+◌, ◌<◌, ◌≤◌, true, false, Bool, cond, not, ◌≢◌, List, [], ◌∷◌, ◌++◌, length, map, get_or, take, drop, refl, sym, ap, ◌∙◌, subst, arith}
-use Rattle.std.specs.Prelude.{AllPairs, filter}
+-- Tasks that go off the list, and those that stay.
+use Rattle.std.proofs.Common.{◌≡◌, ℕ, zero, suc, ◌+◌, ◌<◌, ◌≤◌, true, false, Bool, cond, not, ◌&&◌, ◌≢◌, List, [], ◌∷◌, ◌++◌, length, map, get_or, take, drop, refl, sym, ap, ◌∙◌, subst, arith, inl, inr}
+use Rattle.std.specs.Prelude.{All, AllPairs, filter, is_none}
 use Rattle.std.specs.List.{remove}
-use Rattle.std.proofs.lemmas.Bool.{ne_eqb}
-use Rattle.std.proofs.lemmas.List.{length-map, length-take, map-append, take-map, drop-map, get_or-map}
-use Rattle.std.proofs.lemmas.List.Filters.{length-filter_both}
+use Rattle.std.proofs.lemmas.Bool.{ne_eqb, cases_eq, cases_lt}
+use Rattle.std.proofs.lemmas.List.{map-append, take-map, drop-map}
+use Rattle.std.proofs.lemmas.List.Edits.{length-remove, get_or-remove_below}
 use Rattle.domain_run.specs.declared.task.Task.{Task}
+use Rattle.domain_run.specs.declared.task.Condition.{Condition}
+use Rattle.domain_run.specs.declared.task.Condition.TheVariants.{Ready, Throttled, Blocked, Waiting, Leaving}
 use Rattle.domain_run.specs.Calls.{is_other}
+use Rattle.domain_run.specs.Conditions.{is_ready, is_leaving}
 use Rattle.domain_run.specs.Parts.{is_listed}
 use Rattle.domain_run.specs.private.Index.{IsListedAt, IsUnlisted}
 use Rattle.due_times.specs.Timers.{AreLater}
-use Rattle.domain_run.specs.private.Timers.{due_of}
-use Rattle.domain_run.proofs.Due.{still_at}
+use Rattle.domain_run.specs.private.Timers.{due_of, HasParted}
+use Rattle.domain_run.proofs.Due.{still_at, none_due_at}
 use Rattle.domain_run.proofs.Jumping.{filter_whole}
-
-front_stays : {X : Type 0} (p : X → Bool) (xs : List X) (n : ℕ) → ((k : ℕ) (d : X) → k < n → k < length xs → p (get_or xs k d) ≡ true) → take n (filter p xs) ≡ take n xs
-front_stays p [] n each = refl
-front_stays p (x ∷ xs) zero each = refl
-front_stays p (x ∷ xs) (suc n) each =
-    ap (λ b. take (suc n) (cond b (x ∷ filter p xs) (filter p xs))) (each zero x (omega arith) (omega arith))
-    ∙ ap (λ ys. x ∷ ys) (front_stays p xs n (λ k d before within. each (suc k) d (omega (arith, before)) (omega (arith, within))))
-
-front_many : {X : Type 0} (p : X → Bool) (xs : List X) (n : ℕ) → n ≤ length xs → take n (filter p xs) ≡ take n xs → n ≤ length (filter p xs)
-front_many p xs n within front =
-    let same = ap (λ ys. length ys) front in
-    omega (arith, within, same, length-take n xs, length-take n (filter p xs))
-
--- those before the first that is due are listed, so they stay
-pub front_listed : (tasks : List Task) (n : ℕ) → AreLater (map due_of tasks) 0 0 n → take n (filter is_listed tasks) ≡ take n tasks
-front_listed tasks n later = front_stays is_listed tasks n (λ k d before within. (still_at 0 (get_or tasks k d) (later_at k d before within)).listed)
-  where
-    later_at : (k : ℕ) (d : Task) → k < n → k < length tasks → 0 < due_of (get_or tasks k d)
-    later_at k d before within =
-        let many : length (map due_of tasks) ≡ length tasks = simp length-map in
-        subst (λ m. 0 < m) (get_or-map due_of tasks k d 0 within) (later k (omega arith) before (omega (arith, within, many)))
-
--- as many are left
-pub front_long : (tasks : List Task) (n : ℕ) → n ≤ length tasks → AreLater (map due_of tasks) 0 0 n → n ≤ length (filter is_listed tasks)
-front_long tasks n within later = front_many is_listed tasks n within (front_listed tasks n later)
-
--- what is known of those before it
-pub front_known : (tasks : List Task) (n : ℕ) → AreLater (map due_of tasks) 0 0 n → take n (map due_of tasks) ≡ map due_of (take n (filter is_listed tasks))
-front_known tasks n later = take-map due_of n tasks ∙ ap (map due_of) (sym (front_listed tasks n later))
-
--- those before the task of a number have other numbers, so they stay where that goes
-others_front : (tasks : List Task) (number p : ℕ) → AllPairs (λ a b. a.number ≢ b.number) tasks → IsListedAt tasks number p → take p (filter (is_other number) tasks) ≡ take p tasks
-others_front tasks number p numbered at = front_stays (is_other number) tasks p (λ k d before within. ap not (ne_eqb (get_or tasks k d).number number (λ e. numbered k p d before at.within (e ∙ sym (at.is d)))))
-
-pub others_long : (tasks : List Task) (number p : ℕ) → AllPairs (λ a b. a.number ≢ b.number) tasks → IsListedAt tasks number p → p ≤ length (filter (is_other number) tasks)
-others_long tasks number p numbered at =
-    let within : p < length tasks = at.within in
-    front_many (is_other number) tasks p (omega (arith, within)) (others_front tasks number p numbered at)
 
 -- where the number is not listed, all of them stay
 pub others_all : (tasks : List Task) (number : ℕ) → IsUnlisted tasks number → filter (is_other number) tasks ≡ tasks
@@ -68,42 +33,61 @@ remove_map f xs i =
     ap (λ ys. ys ++ drop (suc i) (map f xs)) (take-map f i xs) ∙ ap (λ ys. map f (take i xs) ++ ys) (drop-map f (suc i) xs)
     ∙ sym (map-append f (take i xs) (drop (suc i) xs))
 
-pub remove_before : {X : Type 0} (xs : List X) (i : ℕ) → take i (remove xs i) ≡ take i xs
-remove_before xs zero = refl
-remove_before [] (suc i) = refl
-remove_before (x ∷ xs) (suc i) = ap (λ ys. x ∷ ys) (remove_before xs i)
+-- one that was not counted goes
+pub removed_other : {X : Type 0} (f : X → Bool) (xs : List X) (p : ℕ) → p < length xs → ((d : X) → f (get_or xs p d) ≡ false) → filter f (remove xs p) ≡ filter f xs
+removed_other f [] p h gone = absurd (omega (arith, h))
+removed_other f (x ∷ xs) zero h gone = sym (ap (λ b. cond b (x ∷ filter f xs) (filter f xs)) (gone x))
+removed_other f (x ∷ xs) (suc p) h gone = ap (λ ys. cond (f x) (x ∷ ys) ys) (removed_other f xs p (omega (arith, h)) gone)
 
--- those that stay are not more
-pub filter_short : {X : Type 0} (f : X → Bool) (xs : List X) → length (filter f xs) ≤ length xs
-filter_short f xs = let both = length-filter_both f (λ x. not (f x)) (λ x. refl) xs in omega (arith, both)
+-- THE LISTED TASKS, from one that is due at once to the next
 
--- A LIST FILTERED FROM ITS END: `q` items are not looked at yet, and the next is at `p`
+-- up to a time that has come they are listed
+pub listed_before : (times : List ℕ) (tasks : List Task) (from to : ℕ) → times ≡ map due_of tasks → AreLater times 0 from to → (k : ℕ) (d : Task) → from ≤ k → k < to → k < length tasks → is_listed (get_or tasks k d) ≡ true
+listed_before times tasks from to is later k d a b within = (still_at 0 (get_or tasks k d) (none_due_at 0 from to times tasks is later k d a b within)).listed
 
--- the next does not stay
-pub filter_gone : {X : Type 0} (f : X → Bool) (xs : List X) (p : ℕ) (d : X) → p < length xs → f (get_or xs p d) ≡ false → remove (take (suc p) xs ++ filter f (drop (suc p) xs)) p ≡ take p xs ++ filter f (drop p xs)
-filter_gone f [] p d h gone = absurd (omega (arith, h))
-filter_gone f (x ∷ xs) zero d h gone = sym (ap (λ b. cond b (x ∷ filter f xs) (filter f xs)) gone)
-filter_gone f (x ∷ xs) (suc p) d h gone = ap (λ ys. x ∷ ys) (filter_gone f xs p d (omega (arith, h)) gone)
+-- a task that has left is not ready
+pub left_idle : (t : Task) → is_listed t ≡ false → is_ready t.condition ≡ false
+left_idle t left = by_condition t.condition left
+  where
+    by_condition : (k : Condition) → not (is_leaving k && is_none t.zero_lag) ≡ false → is_ready k ≡ false
+    by_condition Ready h = absurd cc
+    by_condition Throttled h = refl
+    by_condition (Blocked u) h = refl
+    by_condition Waiting h = refl
+    by_condition Leaving h = refl
 
--- it stays
-pub filter_stays : {X : Type 0} (f : X → Bool) (xs : List X) (p : ℕ) (d : X) → p < length xs → f (get_or xs p d) ≡ true → take (suc p) xs ++ filter f (drop (suc p) xs) ≡ take p xs ++ filter f (drop p xs)
-filter_stays f [] p d h stays = absurd (omega (arith, h))
-filter_stays f (x ∷ xs) zero d h stays = sym (ap (λ b. cond b (x ∷ filter f xs) (filter f xs)) stays)
-filter_stays f (x ∷ xs) (suc p) d h stays = ap (λ ys. x ∷ ys) (filter_stays f xs p d (omega (arith, h)) stays)
+-- the task of a number is the one at its place
+pub idle_at : (tasks : List Task) (number place : ℕ) → AllPairs (λ a b. a.number ≢ b.number) tasks → IsListedAt tasks number place → ((d : Task) → is_ready (get_or tasks place d).condition ≡ false) → All (λ t. t.number ≡ number → is_ready t.condition ≡ false) tasks
+idle_at tasks number place numbered at idle k d within same = elim (cases_eq k place) [
+  | inl here ↦ ap (λ n. is_ready (get_or tasks n d).condition) here ∙ idle d
+  | inr other ↦ elim (cases_lt k place) [
+    | inl before ↦ absurd (numbered k place d before at.within (same ∙ sym (at.is d)))
+    | inr past ↦ absurd (numbered place k d (omega (arith, past, other)) within (at.is d ∙ sym same))
+  ]
+]
 
--- which one it is
-pub filter_next : {X : Type 0} (f : X → Bool) (xs : List X) (p : ℕ) (d : X) → p < length xs → get_or (take (suc p) xs ++ filter f (drop (suc p) xs)) p d ≡ get_or xs p d
-filter_next f [] p d h = absurd (omega (arith, h))
-filter_next f (x ∷ xs) zero d h = refl
-filter_next f (x ∷ xs) (suc p) d h = filter_next f xs p d (omega (arith, h))
+-- PARTED
+pub parted_none : (tasks : List Task) (place : ℕ) → ((d : Task) → is_listed (get_or tasks place d) ≡ true) → HasParted place tasks tasks (place + 1)
+parted_none tasks place listed = record {
+  listed = refl;
+  few = omega arith;
+  front = λ k before d. refl;
+  done = λ k from before d. let here : place ≡ k = omega (arith, from, before) in subst (λ n. is_listed (get_or tasks n d) ≡ true) here (listed d);
+  rest = omega arith;
+  most = omega arith;
+  least = omega arith;
+}
 
--- it is there
-pub filter_there : {X : Type 0} (f : X → Bool) (xs : List X) (p : ℕ) → p < length xs → p < length (take (suc p) xs ++ filter f (drop (suc p) xs))
-filter_there f [] p h = absurd (omega (arith, h))
-filter_there f (x ∷ xs) zero h = omega arith
-filter_there f (x ∷ xs) (suc p) h = let more = filter_there f xs p (omega (arith, h)) in omega (arith, more)
-
--- none is looked at
-pub filter_all : {X : Type 0} (f : X → Bool) (xs : List X) → xs ≡ take (length xs) xs ++ filter f (drop (length xs) xs)
-filter_all f [] = refl
-filter_all f (x ∷ xs) = ap (λ ys. x ∷ ys) (filter_all f xs)
+pub parted_one : (old new : List Task) (place : ℕ) → place < length old → new ≡ remove old place → ((d : Task) → is_listed (get_or old place d) ≡ false) → HasParted place old new place
+parted_one old new place there is left =
+    let fewer = length-remove old place there in
+    let long = ap (λ (ts : List Task). length ts) is in
+    record {
+      listed = ap (filter is_listed) is ∙ removed_other is_listed old place there left;
+      few = omega (arith, fewer, long);
+      front = λ k before d. ap (λ ts. get_or ts k d) is ∙ get_or-remove_below old place d k before there;
+      done = λ k from before d. absurd (omega (arith, from, before));
+      rest = omega (arith, fewer, long);
+      most = omega arith;
+      least = omega arith;
+    }

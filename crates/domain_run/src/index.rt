@@ -1,6 +1,6 @@
-//! Where in the list of tasks a number is. A domain keeps for each number the place at which it was
-//! last noted, and looks there first; a place that is not right any more costs a walk, and nothing
-//! else.
+//! Where in the list of tasks a number is. A listed number has an entry, and the entry has its
+//! place. A removal lowers the later places by one, 32 at a step. The place is a hint: a lookup
+//! checks it first, and searches the list if it is wrong.
 
 ghost use Rattle.std.specs.Prelude.{◌≡◌, IfOk, IfSome, IfNone, vec_capacity, vec_len};
 ghost use Rattle.domain_run.specs.private.Index.{IsListedAt, IsUnlisted};
@@ -11,13 +11,20 @@ use slot_list::SlotList;
 use std::alloc::{AllocError, Global};
 use std::marker::Model;
 
+/// So many numbers.
 const COUNT: usize = 65536;
 
-/// For each number below 65536 the place at which it was last noted. An index of more or fewer
-/// numbers, or with room for them, cannot be built.
+/// The most tasks that are listed at once.
+const MOST: usize = 256;
+
+/// For each number below 65536 its entry, and the place of each entry. An index of more or fewer
+/// numbers or entries, or with room for them, cannot be built.
 #[derive(Drop)]
 pub(crate) struct Index {
-    noted: Vec<u16>,
+    entries: Vec<u8>,
+    places: Vec<u8>,
+    // Entries that no listed number has.
+    free: Vec<u8>,
 }
 
 impl Model for Index {
@@ -26,42 +33,82 @@ impl Model for Index {
 
     ghost Value = { List ℕ };
 
-    ghost view = { λ i. i.noted.items };
+    ghost view = { λ i. i.entries.items };
 
-    ghost invariant = { λ i. IsNumberIndex i.noted.items (vec_capacity i.noted) };
+    ghost invariant = { λ i. IsNumberIndex i.entries.items i.places.items i.free.items
+        (vec_capacity i.entries) (vec_capacity i.places) (vec_capacity i.free) };
 }
 
-// A place for each number, with room for no more.
-fn first_places(alloc: Global) -> Result<Vec<u16>, AllocError>
-    ensures len { IfOk result (λ places. vec_len places ≡ 65536) }
-    ensures room { IfOk result (λ places. vec_capacity places ≡ 65536) }
+// So many zeros, with room for no more.
+fn zeros(alloc: Global, count: usize) -> Result<Vec<u8>, AllocError>
+    ensures len { IfOk result (λ made. vec_len made ≡ count) }
+    ensures room { IfOk result (λ made. vec_capacity made ≡ count) }
 {
-    let mut places = Vec::with_capacity(alloc, COUNT)?;
-    for _ in 0..COUNT {
-        places.push_reserved(0);
+    let mut made = Vec::with_capacity(alloc, count)?;
+    for _ in 0..count {
+        made.push_reserved(0);
     }
-    Ok(places)
+    Ok(made)
+}
+
+// All entries, with room for no more.
+fn all_entries(alloc: Global) -> Result<Vec<u8>, AllocError>
+    ensures len { IfOk result (λ made. vec_len made ≡ 256) }
+    ensures room { IfOk result (λ made. vec_capacity made ≡ 256) }
+{
+    let mut made = Vec::with_capacity(alloc, MOST)?;
+    for entry in 0..MOST {
+        made.push_reserved(entry as u8);
+    }
+    Ok(made)
+}
+
+// Lowers the places after one by one. There is no branch, so the compiler makes vector steps of it.
+fn close_up(places: &mut Vec<u8>, gone: u8)
+    ensures len { vec_len places.new ≡ vec_len places.old }
+    ensures room { vec_capacity places.new ≡ vec_capacity places.old }
+{
+    for place in places.iter_mut() {
+        *place -= u8::from(*place > gone);
+    }
 }
 
 impl Index {
-    /// Nothing is noted. No other call takes memory.
+    /// Of no tasks. No other call takes memory.
     pub(crate) fn open(alloc: Global) -> Result<Index, NoMemory> {
         Ok(Index {
-            noted: first_places(alloc)?,
+            entries: zeros(alloc, COUNT)?,
+            places: zeros(alloc, MOST)?,
+            free: all_entries(alloc)?,
         })
     }
 
-    /// A number is at a place now.
+    // No task has a number from 65536 on, and any entry will do for it.
+    fn entry(&self, number: u32) -> u8 {
+        self.entries[number as usize % COUNT]
+    }
+
+    /// The task of a number has come to a place.
     pub(crate) fn note(&mut self, number: u32, place: usize) {
-        let at = number as usize;
-        if at < self.noted.len() {
-            self.noted[at] = place.min(65535) as u16;
+        let at = number as usize % COUNT;
+        if let Some(entry) = self.free.pop() {
+            self.entries[at] = entry;
+            self.places[usize::from(entry)] = place.min(255) as u8;
         }
     }
 
-    // No task has a number from 65536 on, and any place will do for it.
+    /// The task of a number has gone from a place.
+    pub(crate) fn unlist(&mut self, number: u32, place: usize) {
+        let entry = self.entry(number);
+        if self.free.len() < MOST {
+            self.free.push_reserved(entry);
+        }
+        close_up(&mut self.places, place.min(255) as u8);
+    }
+
+    // The place of a number that is listed.
     fn noted_place(&self, number: u32) -> usize {
-        usize::from(self.noted[number as usize % COUNT])
+        usize::from(self.places[usize::from(self.entry(number))])
     }
 
     /// The place of the task of a number, where it is listed.

@@ -88,31 +88,43 @@ pub some_four : (n : ℕ) → IsSize n → 4 ≤ n
 some_four n (inl e) = omega (arith, e)
 some_four n (inr (inl e)) = omega (arith, e)
 some_four n (inr (inr (inl e))) = omega (arith, e)
-some_four n (inr (inr (inr e))) = omega (arith, e)
+some_four n (inr (inr (inr (inl e)))) = omega (arith, e)
+some_four n (inr (inr (inr (inr e)))) = omega (arith, e)
 
-pub most_256 : (n : ℕ) → IsSize n → n ≤ 256
-most_256 n (inl e) = omega (arith, e)
-most_256 n (inr (inl e)) = omega (arith, e)
-most_256 n (inr (inr (inl e))) = omega (arith, e)
-most_256 n (inr (inr (inr e))) = omega (arith, e)
+pub most_1024 : (n : ℕ) → IsSize n → n ≤ 1024
+most_1024 n (inl e) = omega (arith, e)
+most_1024 n (inr (inl e)) = omega (arith, e)
+most_1024 n (inr (inr (inl e))) = omega (arith, e)
+most_1024 n (inr (inr (inr (inl e)))) = omega (arith, e)
+most_1024 n (inr (inr (inr (inr e)))) = omega (arith, e)
 
 pub not_four : (n : ℕ) → IsSize n → (n ≡ 4 → ⊥) → 16 ≤ n
 not_four n (inl e) other = absurd (other e)
 not_four n (inr (inl e)) other = omega (arith, e)
 not_four n (inr (inr (inl e))) other = omega (arith, e)
-not_four n (inr (inr (inr e))) other = omega (arith, e)
+not_four n (inr (inr (inr (inl e)))) other = omega (arith, e)
+not_four n (inr (inr (inr (inr e)))) other = omega (arith, e)
 
 pub not_16 : (n : ℕ) → IsSize n → 16 ≤ n → (n ≡ 16 → ⊥) → 64 ≤ n
 not_16 n (inl e) more other = absurd (omega (arith, e, more))
 not_16 n (inr (inl e)) more other = absurd (other e)
 not_16 n (inr (inr (inl e))) more other = omega (arith, e)
-not_16 n (inr (inr (inr e))) more other = omega (arith, e)
+not_16 n (inr (inr (inr (inl e)))) more other = omega (arith, e)
+not_16 n (inr (inr (inr (inr e)))) more other = omega (arith, e)
 
-pub not_64 : (n : ℕ) → IsSize n → 64 ≤ n → (n ≡ 64 → ⊥) → n ≡ 256
+pub not_64 : (n : ℕ) → IsSize n → 64 ≤ n → (n ≡ 64 → ⊥) → 256 ≤ n
 not_64 n (inl e) more other = absurd (omega (arith, e, more))
 not_64 n (inr (inl e)) more other = absurd (omega (arith, e, more))
 not_64 n (inr (inr (inl e))) more other = absurd (other e)
-not_64 n (inr (inr (inr e))) more other = e
+not_64 n (inr (inr (inr (inl e)))) more other = omega (arith, e)
+not_64 n (inr (inr (inr (inr e)))) more other = omega (arith, e)
+
+pub not_256 : (n : ℕ) → IsSize n → 256 ≤ n → (n ≡ 256 → ⊥) → n ≡ 1024
+not_256 n (inl e) more other = absurd (omega (arith, e, more))
+not_256 n (inr (inl e)) more other = absurd (omega (arith, e, more))
+not_256 n (inr (inr (inl e))) more other = absurd (omega (arith, e, more))
+not_256 n (inr (inr (inr (inl e)))) more other = absurd (other e)
+not_256 n (inr (inr (inr (inr e)))) more other = e
 
 -- what the end of the way says of the leaves
 pub leaves_ahead : (nodes : List ℕ) (time at : ℕ) → IsOnWay nodes time at 1 → AreLater (leaves nodes) time 0 (at - length nodes / 2)

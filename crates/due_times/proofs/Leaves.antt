@@ -1,11 +1,9 @@
--- The leaves of a tournament that becomes wider, and the times of a list as its first leaves.
-use Rattle.std.proofs.Common.{◌≡◌, ℕ, zero, suc, ◌+◌, ◌-◌, ◌*◌, ◌^◌, ◌<◌, ◌≤◌, List, [], ◌∷◌, ◌++◌, length, get_or, take, drop, replicate, refl, sym, ap, ◌∙◌, arith, inl, inr}
+-- The leaves of a tournament that becomes wider.
+use Rattle.std.proofs.Common.{◌≡◌, ℕ, zero, suc, ◌+◌, ◌-◌, ◌*◌, ◌^◌, ◌<◌, ◌≤◌, List, [], ◌∷◌, ◌++◌, length, get_or, drop, replicate, refl, sym, ap, ◌∙◌, arith, inl, inr}
 use Rattle.std.proofs.lemmas.Bool.{cases_lt}
 use Rattle.std.proofs.lemmas.Grind.{same_number_lists}
-use Rattle.std.specs.List.{remove}
-use Rattle.std.proofs.lemmas.List.Edits.{length-remove, get_or-remove_above}
-use Rattle.std.proofs.lemmas.List.{length-append, length-drop, length-replicate, take-append-le, get_or_append_left, get_or-append_right, get_or-drop, get_or-replicate}
-use Rattle.due_times.specs.Timers.{least, AreLater, AreNever}
+use Rattle.std.proofs.lemmas.List.{length-append, length-drop, length-replicate, get_or_append_left, get_or-append_right, get_or-drop, get_or-replicate}
+use Rattle.due_times.specs.Timers.{least}
 use Rattle.due_times.specs.private.Tournament.{AreCopied}
 
 -- behind a list that was made longer there are times that never come
@@ -40,72 +38,3 @@ pub least_later : (time : ℕ) (due : List ℕ) (place : ℕ) → time < least d
 least_later time [] place h within = absurd (omega (arith, within))
 least_later time (t ∷ due) zero h within = omega (arith, h)
 least_later time (t ∷ due) (suc place) h within = least_later time due place (omega (arith, h)) (omega (arith, within))
-
--- times that never come change no first one
-least_never : (times : List ℕ) → AreNever times 0 → least times ≡ 2 ^ 64 - 1
-least_never [] never = refl
-least_never (t ∷ times) never =
-    let first : t ≡ 2 ^ 64 - 1 = never 0 (omega arith) (omega arith) in
-    let rest = least_never times (λ q from h. never (suc q) (omega arith) (omega (arith, h))) in
-    omega (arith, first, rest)
-
-pub least_first : (times : List ℕ) (count : ℕ) → AreNever times count → least times ≡ least (take count times)
-least_first times zero never = least_never times never
-least_first [] (suc n) never = refl
-least_first (t ∷ times) (suc n) never =
-    let rest = least_first times n (λ q from h. never (suc q) (omega (arith, from)) (omega (arith, h))) in
-    omega (arith, rest)
-
--- the first time that has come is not behind those that may come
-pub first_within : (times : List ℕ) (count time first : ℕ) → AreNever times count → AreLater times time 0 first → first < length times → get_or times first 0 ≤ time → first ≤ count
-first_within times count time first never later within come = elim (cases_lt count first) [
-  | inl past ↦
-      let here = later count (omega arith) past (omega (arith, past, within)) in
-      let none = never count (omega arith) (omega (arith, past, within)) in
-      let none_there = never first (omega (arith, past)) within in
-      absurd (omega (arith, here, none, none_there, come))
-  | inr done ↦ done
-]
-
--- what is left of a list without one of its items
-remove_none : {X : Type 0} (i : ℕ) → remove {X = X} [] i ≡ []
-remove_none zero = refl
-remove_none (suc i) = refl
-
-pub remove_behind : {X : Type 0} (xs : List X) (first at i : ℕ) → at ≡ first + i → drop first (remove xs at) ≡ remove (drop first xs) i
-remove_behind xs zero at i is = ap (remove xs) (omega (arith, is))
-remove_behind [] (suc first) at i is =
-    let next : at ≡ suc (first + i) = omega (arith, is) in
-    ap (λ n. drop (suc first) (remove [] n)) next ∙ sym (remove_none i)
-remove_behind (x ∷ xs) (suc first) at i is =
-    let next : at ≡ suc (first + i) = omega (arith, is) in
-    ap (λ n. drop (suc first) (remove (x ∷ xs) n)) next ∙ remove_behind xs first (first + i) i refl
-
-remove_within : {X : Type 0} (xs : List X) (count i : ℕ) → i < suc count → suc count ≤ length xs → take count (remove xs i) ≡ remove (take (suc count) xs) i
-remove_within [] count i less most = absurd (omega (arith, most))
-remove_within (x ∷ xs) count zero less most = refl
-remove_within (x ∷ xs) zero (suc i) less most = absurd (omega (arith, less))
-remove_within (x ∷ xs) (suc count) (suc i) less most = ap (λ ys. x ∷ ys) (remove_within xs count i (omega (arith, less)) (omega (arith, most)))
-
-pub remove_first : {X : Type 0} (xs more : List X) (count i : ℕ) → i < count → count ≤ length xs → take (count - 1) (remove xs i ++ more) ≡ remove (take count xs) i
-remove_first xs more zero i less most = absurd (omega (arith, less))
-remove_first xs more (suc count) i less most =
-    let fewer : suc count - 1 ≡ count = omega arith in
-    ap (λ n. take n (remove xs i ++ more)) fewer
-    ∙ take-append-le count (remove xs i) more (omega (arith, length-remove xs i (omega (arith, less, most)), most))
-    ∙ remove_within xs count i less most
-
--- times that never come stay so, where one before them goes
-pub removed_never : (times : List ℕ) (count place : ℕ) → place < count → count ≤ length times → AreNever times count → (k : ℕ) → count - 1 ≤ k → k < length times → get_or (remove times place ++ (2 ^ 64 - 1) ∷ []) k 0 ≡ 2 ^ 64 - 1
-removed_never times count place there fits never k from within =
-    let fewer = length-remove times place (omega (arith, there, fits)) in
-    elim (cases_lt (suc k) (length times)) [
-      | inl less ↦
-          get_or_append_left (remove times place) ((2 ^ 64 - 1) ∷ []) 0 k (omega (arith, less, fewer))
-          ∙ get_or-remove_above times place 0 k (omega (arith, there, from)) (omega (arith, there, fits))
-          ∙ never (k + 1) (omega (arith, from)) (omega (arith, less))
-      | inr last ↦
-          let here : k - length (remove times place) ≡ 0 = omega (arith, fewer, last, within) in
-          get_or-append_right (remove times place) ((2 ^ 64 - 1) ∷ []) (length (remove times place)) k 0 refl (omega (arith, last, fewer))
-          ∙ ap (λ n. get_or ((2 ^ 64 - 1) ∷ []) n 0) here
-    ]

@@ -3,6 +3,6 @@ pub mod Carrying
 pub mod Rooted
 pub mod Descending
 pub mod Leaves
-pub mod Renewing
 pub mod SeatTimes
 pub mod CallerLemmas
+pub mod Orders

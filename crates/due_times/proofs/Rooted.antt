@@ -75,4 +75,5 @@ pub rooted : (nodes : List ℕ) → IsTournamentTree nodes → IsSize (length no
 rooted nodes is (inl e) top = rooted_at nodes 1 is e top
 rooted nodes is (inr (inl e)) top = rooted_at nodes 2 is e top
 rooted nodes is (inr (inr (inl e))) top = rooted_at nodes 3 is e top
-rooted nodes is (inr (inr (inr e))) top = rooted_at nodes 4 is e top
+rooted nodes is (inr (inr (inr (inl e)))) top = rooted_at nodes 4 is e top
+rooted nodes is (inr (inr (inr (inr e)))) top = rooted_at nodes 5 is e top

@@ -1,1 +1,2 @@
 pub mod Tournament
+pub mod Leaves

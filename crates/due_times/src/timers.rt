@@ -1,9 +1,10 @@
 //! When something is next to be done to each listed task before the choice. So a tick looks only at
 //! the tasks that are due.
 
-ghost use Rattle.std.specs.Prelude.{◌≡◌, ◌<◌, ◌≤◌, ◌-◌, ◌^◌, ◌∷◌, ◌++◌, [], length, min, false, take, slice_index_or, slice_set, IfOk, IsTrue};
-ghost use Rattle.std.specs.List.{remove};
+ghost use Rattle.std.specs.Prelude.{◌≡◌, ◌<◌, ◌≤◌, ◌+◌, ◌-◌, ◌^◌, ◌∷◌, ◌++◌, [], ℕ, All, length, min, false, slice_index_or, slice_set, IfOk, IsTrue, vec_capacity};
+ghost use Rattle.std.specs.List.{AllPairs, remove};
 ghost use Rattle.due_times.specs.Timers as spec;
+ghost use Rattle.due_times.specs.private.Leaves as leaf_spec;
 
 pub use crate::tournament::NEVER;
 use crate::tournament::Tournament;
@@ -11,23 +12,157 @@ use no_memory::NoMemory;
 use std::alloc::Global;
 use std::marker::Model;
 
-/// For each place of the list of tasks the time at which its task is due, in microseconds.
+/// The most times of a list.
+const MOST: usize = 256;
+
+/// For each place of the list of tasks the time at which its task is due, in microseconds. A time
+/// keeps its leaf while other tasks go, and the leaves rise with the places.
 #[derive(Drop)]
 pub struct Timers {
-    // These times, and behind them some that never come: 4, 16, 64 or 256.
+    // The other leaves hold a time that never comes.
     tournament: Tournament,
-    count: usize,
+    // The leaf of each time.
+    order: Vec<u16>,
 }
 
 impl Model for Timers {
-    ghost use Rattle.std.specs.Prelude.{ℕ, List, take};
-    ghost use Rattle.due_times.specs.Timers.{AreTimers};
+    ghost use Rattle.std.specs.Prelude.{ℕ, List, vec_capacity};
+    ghost use Rattle.due_times.specs.Timers.{AreTimers, times_by_place};
 
     ghost Value = { List ℕ };
 
-    ghost view = { λ t. take t.count t.tournament };
+    ghost view = { λ t. times_by_place t.tournament t.order.items };
 
-    ghost invariant = { λ t. AreTimers t.tournament t.count };
+    ghost invariant = { λ t. AreTimers t.tournament t.order.items (vec_capacity t.order) };
+}
+
+// The first place whose leaf is not before this one, by binary search. The place is lower than the
+// leaf's number, by at most the number of leaves without a time.
+#[inline(never)]
+fn searched(order: &[u16], leaf: usize) -> usize
+    requires rising { AllPairs (λ a b. a < b) order.now }
+    requires few { length order.now ≤ 256 }
+    ensures { leaf_spec.IsFirstFrom order.now leaf result }
+{
+    let count = order.len();
+    if count == 0 {
+        return 0;
+    }
+    let gone = usize::from(order[count - 1]).saturating_sub(count - 1);
+    let mut low = leaf.saturating_sub(gone).min(count);
+    let mut high = leaf.min(count);
+    if low < high && usize::from(order[low]) >= leaf {
+        return low;
+    }
+    while low < high {
+        let middle = (low + high) / 2;
+        if usize::from(order[middle]) < leaf {
+            low = middle + 1;
+        } else {
+            high = middle;
+        }
+    }
+    low
+}
+
+// The same. Until an earlier task has gone, the place and the leaf have the same number.
+#[inline(always)]
+fn first_from(order: &[u16], leaf: usize) -> usize
+    requires rising { AllPairs (λ a b. a < b) order.now }
+    requires few { length order.now ≤ 256 }
+    ensures { leaf_spec.IsFirstFrom order.now leaf result }
+{
+    if leaf < order.len() && usize::from(order[leaf]) == leaf {
+        return leaf;
+    }
+    searched(order, leaf)
+}
+
+// The leaf after those of all times.
+fn next_leaf(order: &[u16]) -> usize
+    requires rising { AllPairs (λ a b. a < b) order.now }
+    ensures behind { All (λ leaf. leaf < result) order.now }
+    ensures near { (bound : ℕ) → All (λ leaf. leaf < bound) order.now → result ≤ bound }
+{
+    let count = order.len();
+    if count == 0 {
+        return 0;
+    }
+    usize::from(order[count - 1]) + 1
+}
+
+// Moves the time at a place to the leaf of that number. The times before it have been moved.
+fn pack_at(tournament: &mut Tournament, order: &mut Vec<u16>, place: usize)
+    requires kept { spec.AreTimers tournament.old order.old.items (vec_capacity order.old) }
+    requires there { place < length order.old.items }
+    requires packed { leaf_spec.ArePacked order.old.items place }
+    ensures kept { spec.AreTimers tournament.new order.new.items (vec_capacity order.new) }
+    ensures packed { leaf_spec.ArePacked order.new.items (place + 1) }
+    ensures times { spec.times_by_place tournament.new order.new.items
+        ≡ spec.times_by_place tournament.old order.old.items }
+    ensures count { length order.new.items ≡ length order.old.items }
+    ensures leaves { length tournament.new ≡ length tournament.old }
+{
+    let leaf = usize::from(order[place]);
+    if leaf == place {
+        return;
+    }
+    let time = tournament.get(leaf);
+    tournament.set(leaf, NEVER);
+    tournament.set(place, time);
+    order[place] = place as u16;
+}
+
+// Moves each time to the leaf of its place.
+fn pack(tournament: &mut Tournament, order: &mut Vec<u16>)
+    requires { spec.AreTimers tournament.old order.old.items (vec_capacity order.old) }
+    ensures kept { spec.AreTimers tournament.new order.new.items (vec_capacity order.new) }
+    ensures packed { leaf_spec.ArePacked order.new.items (length order.new.items) }
+    ensures times { spec.times_by_place tournament.new order.new.items
+        ≡ spec.times_by_place tournament.old order.old.items }
+    ensures count { length order.new.items ≡ length order.old.items }
+    ensures leaves { length tournament.new ≡ length tournament.old }
+{
+    for place in 0..order.len() {
+        pack_at(tournament, order, place);
+    }
+}
+
+// Makes room after the leaves of all times. If the list fills more than half of the tree, the tree
+// gets four times as many leaves. Else the times are packed, and many removals share that cost.
+fn make_room(tournament: &mut Tournament, order: &mut Vec<u16>)
+    requires kept { spec.AreTimers tournament.old order.old.items (vec_capacity order.old) }
+    requires few { length order.old.items < 256 }
+    ensures kept { spec.AreTimers tournament.new order.new.items (vec_capacity order.new) }
+    ensures room { All (λ leaf. leaf + 1 < length tournament.new) order.new.items }
+    ensures times { spec.times_by_place tournament.new order.new.items
+        ≡ spec.times_by_place tournament.old order.old.items }
+    ensures count { length order.new.items ≡ length order.old.items }
+{
+    if order.len() > tournament.len() / 2 {
+        tournament.widen();
+    } else {
+        pack(tournament, order);
+    }
+}
+
+// A leaf after those of all times.
+fn free_leaf(tournament: &mut Tournament, order: &mut Vec<u16>) -> usize
+    requires kept { spec.AreTimers tournament.old order.old.items (vec_capacity order.old) }
+    requires few { length order.old.items < 256 }
+    ensures kept { spec.AreTimers tournament.new order.new.items (vec_capacity order.new) }
+    ensures behind { All (λ leaf. leaf < result) order.new.items }
+    ensures there { result < length tournament.new }
+    ensures times { spec.times_by_place tournament.new order.new.items
+        ≡ spec.times_by_place tournament.old order.old.items }
+    ensures count { length order.new.items ≡ length order.old.items }
+{
+    let leaf = next_leaf(order);
+    if leaf < tournament.len() {
+        return leaf;
+    }
+    make_room(tournament, order);
+    next_leaf(order)
 }
 
 impl Timers {
@@ -37,8 +172,30 @@ impl Timers {
     {
         Ok(Timers {
             tournament: Tournament::open(alloc)?,
-            count: 0,
+            order: Vec::with_capacity(alloc, MOST)?,
         })
+    }
+
+    // The time at a place.
+    #[inline(always)]
+    fn get(&self, place: usize) -> u64
+        requires { place < length self.now }
+        ensures { result ≡ slice_index_or self.now place 0 }
+    {
+        self.tournament.get(usize::from(self.order[place]))
+    }
+
+    // A later place. No task from this one up to it is due.
+    #[inline(always)]
+    fn next_after(&self, place: usize, time: u64) -> usize
+        requires there { place < length self.now }
+        requires later { time < slice_index_or self.now place 0 }
+        ensures next { place < result }
+        ensures most { result ≤ length self.now }
+        ensures others { spec.AreLater self.now time place result }
+    {
+        let leaf = self.tournament.behind(usize::from(self.order[place]), time);
+        first_from(&self.order, leaf)
     }
 
     /// As `next_due`, by a walk from this place on.
@@ -50,12 +207,22 @@ impl Timers {
         ensures others { spec.AreLater self.now time from result }
         ensures due { result < length self.now → slice_index_or self.now result 0 ≤ time }
     {
-        let count = self.count;
         let mut place = from;
-        while place < count && self.tournament.get(place) > time {
-            place = self.tournament.behind(place, time);
+        while place < self.order.len() && self.get(place) > time {
+            place = self.next_after(place, time);
         }
-        place.min(count)
+        place
+    }
+
+    // The first place whose task is due. The first time has come.
+    #[inline(always)]
+    fn first_due(&self, time: u64) -> usize
+        requires { spec.least self.now ≤ time }
+        ensures most { result ≤ length self.now }
+        ensures others { spec.AreLater self.now time 0 result }
+        ensures due { result < length self.now → slice_index_or self.now result 0 ≤ time }
+    {
+        first_from(&self.order, self.tournament.first_come(time))
     }
 
     /// The first place, from this one on, whose task is due at a time; where there is none, how
@@ -70,9 +237,9 @@ impl Timers {
         ensures due { result < length self.now → slice_index_or self.now result 0 ≤ time }
     {
         if self.least() > time {
-            return self.count;
+            return self.order.len();
         }
-        let first = self.tournament.first_come(time);
+        let first = self.first_due(time);
         if first >= from {
             return first;
         }
@@ -84,7 +251,7 @@ impl Timers {
         requires { place < length self.old }
         ensures { self.new ≡ slice_set self.old place due }
     {
-        self.tournament.set(place, due);
+        self.tournament.set(usize::from(self.order[place]), due);
     }
 
     /// One task more at the end of the list.
@@ -92,46 +259,18 @@ impl Timers {
         requires { length self.old < 256 }
         ensures { self.new ≡ self.old ++ due ∷ [] }
     {
-        if self.count == self.tournament.len() {
-            self.tournament.widen();
-        }
-        self.tournament.set(self.count, due);
-        self.count += 1;
+        let leaf = free_leaf(&mut self.tournament, &mut self.order);
+        self.tournament.set(leaf, due);
+        self.order.push_reserved(leaf as u16);
     }
 
-    // How many tasks there are.
-    fn len(&self) -> usize
-        ensures { result ≡ length self.now }
-    {
-        self.count
-    }
-
-    // Without the last task.
-    fn pop(&mut self)
-        requires { 0 < length self.old }
-        ensures { self.new ≡ take (length self.old - 1) self.old }
-    {
-        self.count -= 1;
-        self.tournament.set(self.count, NEVER);
-    }
-
-    /// Only the first so many tasks.
-    pub fn keep(&mut self, count: usize)
-        requires { count ≤ length self.old }
-        ensures { self.new ≡ take count self.old }
-    {
-        while self.len() > count {
-            self.pop();
-        }
-    }
-
-    /// The task at a place goes off the list.
+    /// The task at a place goes off the list. The other times keep their leaves.
     pub fn remove(&mut self, place: usize)
         requires { place < length self.old }
         ensures { self.new ≡ remove self.old place }
     {
-        self.tournament.remove(place, self.count);
-        self.count -= 1;
+        let leaf = self.order.remove(place);
+        self.tournament.set(usize::from(leaf), NEVER);
     }
 
     /// Whether a task may be due at a time: the first time has come. Where it says no, none is due.

@@ -1,21 +1,20 @@
 //! A tournament of times: the first of them is known, where one changes at a time.
 
-ghost use Rattle.std.specs.Prelude.{ℕ, ◌≡◌, ◌<◌, ◌≤◌, ◌+◌, ◌*◌, ◌/◌, ◌^◌, ◌-◌, ◌++◌, ◌∷◌, [], length, slice_index_or, slice_set, replicate, IfNone, IfOk, IfSome, vec_len, vec_capacity};
-ghost use Rattle.std.specs.List.{remove};
-ghost use Rattle.due_times.specs.Timers.{least, AreLater, AreNever, IsSize};
+ghost use Rattle.std.specs.Prelude.{ℕ, All, ◌≡◌, ◌<◌, ◌≤◌, ◌+◌, ◌*◌, ◌/◌, ◌^◌, ◌-◌, ◌++◌, length, slice_index_or, slice_set, replicate, IfNone, IfOk, IfSome, vec_len, vec_capacity};
+ghost use Rattle.due_times.specs.Timers.{least, AreLater, IsSize};
 ghost use Rattle.due_times.specs.private.Tournament as spec;
 
 use no_memory::NoMemory;
 use std::alloc::Global;
 use std::marker::Model;
 
-/// So many nodes at most: 256 times, and as many for those above them.
-const ROOM: usize = 512;
+/// So many nodes at most: 1024 times, and as many for those above them.
+const ROOM: usize = 2048;
 
 /// A time that never comes.
 pub const NEVER: u64 = u64::MAX;
 
-/// 4, 16, 64 or 256 times, and above each four of them the least.
+/// 4, 16, 64, 256 or 1024 times, and above each four of them the least.
 #[derive(Drop)]
 pub(crate) struct Tournament {
     nodes: Vec<u64>,
@@ -36,7 +35,7 @@ impl Model for Tournament {
 #[inline(always)]
 fn least_below(nodes: &[u64], at: usize) -> u64
     requires within { 4 * at + 3 < length nodes.now }
-    requires few { length nodes.now ≤ 512 }
+    requires few { length nodes.now ≤ 2048 }
     ensures { result ≡ spec.least_below nodes.now at }
 {
     let left = nodes[4 * at].min(nodes[4 * at + 1]);
@@ -98,6 +97,30 @@ fn carry_on(nodes: &mut Vec<u64>, at: usize, time: u64) -> Option<u64>
 
 // From a node with this time, two or three levels below the root, up to that.
 #[inline(always)]
+fn climb_256(nodes: &mut Vec<u64>, half: usize, at: usize, time: u64)
+    requires tree { spec.IsTreeBut (at / 4) nodes.old.items }
+    requires half { length nodes.old.items ≡ 2 * half }
+    requires size { IsSize half }
+    requires wide { 256 ≤ half }
+    requires low { half ≤ 64 * at }
+    requires high { 32 * at < half }
+    requires time { slice_index_or nodes.old.items at 0 ≡ time }
+    ensures tree { spec.IsTournamentTree nodes.new.items }
+    ensures length { length nodes.new.items ≡ length nodes.old.items }
+    ensures leaves { spec.leaves nodes.new.items ≡ spec.leaves nodes.old.items }
+    ensures room { vec_capacity nodes.new ≡ vec_capacity nodes.old }
+{
+    let Some(of_256) = carry_on(nodes, at, time) else {
+        return;
+    };
+    if half == 256 {
+        return;
+    }
+    carry(nodes, at / 4, of_256);
+}
+
+// The same from a level further down.
+#[inline(always)]
 fn climb_64(nodes: &mut Vec<u64>, half: usize, at: usize, time: u64)
     requires tree { spec.IsTreeBut (at / 4) nodes.old.items }
     requires half { length nodes.old.items ≡ 2 * half }
@@ -117,10 +140,10 @@ fn climb_64(nodes: &mut Vec<u64>, half: usize, at: usize, time: u64)
     if half == 64 {
         return;
     }
-    carry(nodes, at / 4, of_64);
+    climb_256(nodes, half, at / 4, of_64);
 }
 
-// The same from a level further down.
+// The same from two levels further down.
 #[inline(always)]
 fn climb_16(nodes: &mut Vec<u64>, half: usize, at: usize, time: u64)
     requires tree { spec.IsTreeBut (at / 4) nodes.old.items }
@@ -208,7 +231,7 @@ fn copy_leaves(nodes: &mut Vec<u64>, half: usize)
 // Each inner node is made the least of the four below it.
 fn build(nodes: &mut Vec<u64>)
     requires fours { length nodes.old.items ≡ 4 * (length nodes.old.items / 4) }
-    requires few { length nodes.old.items ≤ 512 }
+    requires few { length nodes.old.items ≤ 2048 }
     ensures tree { spec.IsTournamentTree nodes.new.items }
     ensures length { length nodes.new.items ≡ length nodes.old.items }
     ensures leaves { spec.leaves nodes.new.items ≡ spec.leaves nodes.old.items }
@@ -224,8 +247,8 @@ fn build(nodes: &mut Vec<u64>)
 // Four times as many leaves; those that are new never come.
 fn widen(nodes: &mut Vec<u64>)
     requires tree { spec.IsTournamentTree nodes.old.items }
-    requires few { length nodes.old.items ≤ 128 }
-    requires room { vec_capacity nodes.old ≡ 512 }
+    requires few { length nodes.old.items ≤ 512 }
+    requires room { vec_capacity nodes.old ≡ 2048 }
     ensures tree { spec.IsTournamentTree nodes.new.items }
     ensures length { length nodes.new.items ≡ 4 * length nodes.old.items }
     ensures leaves { spec.leaves nodes.new.items
@@ -239,77 +262,13 @@ fn widen(nodes: &mut Vec<u64>)
     build(nodes);
 }
 
-// Of the nodes from one up to another each is made the least of the four below it, which are none
-// of them. Then those above them may not be right.
-fn renew(nodes: &mut Vec<u64>, first: usize, end: usize)
-    requires others { spec.IsTreeOutside first end nodes.old.items }
-    requires some { 0 < first }
-    requires ordered { first ≤ end }
-    requires apart { end ≤ 4 * first }
-    requires inner { end ≤ length nodes.old.items / 4 }
-    requires few { length nodes.old.items ≤ 512 }
-    ensures others { spec.IsTreeOutside (first / 4) ((end + 3) / 4) nodes.new.items }
-    ensures length { length nodes.new.items ≡ length nodes.old.items }
-    ensures leaves { spec.leaves nodes.new.items ≡ spec.leaves nodes.old.items }
-    ensures room { vec_capacity nodes.new ≡ vec_capacity nodes.old }
-{
-    for at in first..end {
-        nodes[at] = least_below(nodes, at);
-    }
-}
-
-// The nodes above the leaves from one up to another are made anew, level by level.
-fn renew_above(nodes: &mut Vec<u64>, from: usize, end: usize)
-    requires others { spec.IsTreeOutside (from / 4) ((end + 3) / 4) nodes.old.items }
-    requires size { IsSize (length nodes.old.items / 2) }
-    requires low { length nodes.old.items / 2 ≤ from }
-    requires ordered { from ≤ end }
-    requires high { end ≤ length nodes.old.items }
-    ensures tree { spec.IsTournamentTree nodes.new.items }
-    ensures length { length nodes.new.items ≡ length nodes.old.items }
-    ensures leaves { spec.leaves nodes.new.items ≡ spec.leaves nodes.old.items }
-    ensures room { vec_capacity nodes.new ≡ vec_capacity nodes.old }
-{
-    // The first node of a level; none above the root.
-    let mut level = nodes.len() / 8;
-    let mut first = from / 4;
-    let mut last = (end + 3) / 4;
-    while level > 0 {
-        renew(nodes, first, last);
-        level /= 4;
-        first /= 4;
-        last = (last + 3) / 4;
-    }
-}
-
-// The time of a leaf goes, where those from `count` on never come: those behind it come one place
-// nearer, and the last never comes. No node but those above the leaves that have moved changes.
-fn remove_leaf(nodes: &mut Vec<u64>, leaf: usize, count: usize)
-    requires tree { spec.IsTournamentTree nodes.old.items }
-    requires size { IsSize (length nodes.old.items / 2) }
-    requires leaf { leaf < count }
-    requires fits { count ≤ length (spec.leaves nodes.old.items) }
-    requires never { AreNever (spec.leaves nodes.old.items) count }
-    requires room { vec_capacity nodes.old ≡ 512 }
-    ensures tree { spec.IsTournamentTree nodes.new.items }
-    ensures length { length nodes.new.items ≡ length nodes.old.items }
-    ensures leaves { spec.leaves nodes.new.items
-        ≡ remove (spec.leaves nodes.old.items) leaf ++ (2 ^ 64 - 1) ∷ [] }
-    ensures room { vec_capacity nodes.new ≡ vec_capacity nodes.old }
-{
-    let half = nodes.len() / 2;
-    nodes.remove(half + leaf);
-    nodes.push_reserved(NEVER);
-    renew_above(nodes, half + leaf, half + count);
-}
-
 // The first leaf behind the highest node above this one, or itself, that has not come; up to there
 // no leaf has.
 fn behind(nodes: &[u64], from: usize, time: u64) -> usize
     requires tree { spec.IsTournamentTree nodes.now }
     requires some { 0 < from }
     requires there { from < length nodes.now }
-    requires few { length nodes.now ≤ 512 }
+    requires few { length nodes.now ≤ 2048 }
     requires later { time < slice_index_or nodes.now from 0 }
     ensures next { from < result }
     ensures others { spec.AreAhead nodes.now time from result }
@@ -339,7 +298,7 @@ fn passed(first: u64, second: u64, third: u64, time: u64) -> usize
 fn below(nodes: &[u64], at: usize, time: u64) -> usize
     requires tree { spec.IsTournamentTree nodes.now }
     requires within { 4 * at + 3 < length nodes.now }
-    requires few { length nodes.now ≤ 512 }
+    requires few { length nodes.now ≤ 2048 }
     ensures high { result ≤ 4 * at + 3 }
     ensures down { (level : ℕ) → spec.IsOnWay nodes.now time at (4 ^ (level + 1))
         → spec.IsOnWay nodes.now time result (4 ^ level) }
@@ -354,7 +313,8 @@ fn first_come(nodes: &[u64], time: u64) -> usize
     requires tree { spec.IsTournamentTree nodes.now }
     requires size { IsSize (length nodes.now / 2) }
     requires come { least (spec.leaves nodes.now) ≤ time }
-    ensures { spec.IsOnWay nodes.now time result 1 }
+    ensures way { spec.IsOnWay nodes.now time result 1 }
+    ensures high { (node : ℕ) → slice_index_or nodes.now node 0 ≤ 2 ^ 64 - 1 }
 {
     let half = nodes.len() / 2;
     let of_four = below(nodes, 1, time);
@@ -369,7 +329,11 @@ fn first_come(nodes: &[u64], time: u64) -> usize
     if half == 64 {
         return of_64;
     }
-    below(nodes, of_64, time)
+    let of_256 = below(nodes, of_64, time);
+    if half == 256 {
+        return of_256;
+    }
+    below(nodes, of_256, time)
 }
 
 impl Tournament {
@@ -384,7 +348,7 @@ impl Tournament {
 
     /// Four times as many; those that are new never come.
     pub(crate) fn widen(&mut self)
-        requires { length self.old ≤ 64 }
+        requires { length self.old ≤ 256 }
         ensures { self.new ≡ self.old ++ replicate (3 * length self.old) (2 ^ 64 - 1) }
     {
         widen(&mut self.nodes);
@@ -413,17 +377,6 @@ impl Tournament {
         set_leaf(&mut self.nodes, place, time);
     }
 
-    /// The time at a place goes, where those from `count` on never come: those behind it come one
-    /// place nearer, and the last never comes.
-    pub(crate) fn remove(&mut self, place: usize, count: usize)
-        requires there { place < count }
-        requires fits { count ≤ length self.old }
-        requires never { AreNever self.old count }
-        ensures { self.new ≡ remove self.old place ++ (2 ^ 64 - 1) ∷ [] }
-    {
-        remove_leaf(&mut self.nodes, place, count);
-    }
-
     /// The first of the times.
     pub(crate) fn least(&self) -> u64
         requires { 0 < length self.now }
@@ -440,6 +393,7 @@ impl Tournament {
         ensures within { result < length self.now }
         ensures others { AreLater self.now time 0 result }
         ensures come { slice_index_or self.now result 0 ≤ time }
+        ensures high { All (λ t. t ≤ 2 ^ 64 - 1) self.now }
     {
         let half = self.nodes.len() / 2;
         first_come(&self.nodes, time) - half

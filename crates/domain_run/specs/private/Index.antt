@@ -1,12 +1,17 @@
 -- Where in a list of tasks a number is, for the code's own contracts.
-use Rattle.std.specs.Prelude.{ℕ, ◌<◌, ◌≡◌, ◌≢◌, List, length, All, slice_index_or}
+use Rattle.std.specs.Prelude.{ℕ, ◌<◌, ◌≤◌, ◌≡◌, ◌≢◌, List, length, All, slice_index_or}
 use Rattle.domain_run.specs.declared.task.Task.{Task}
 
--- what an index keeps: a place for each number, and the room that it was opened with, so it takes
--- no more
-pub record IsNumberIndex (noted : List ℕ) (capacity : ℕ) : Type 0 where
-  pub all : length noted ≡ 65536
-  pub room : capacity ≡ 65536
+-- what an index keeps: an entry for each number, a place for each entry, and the room that it was
+-- opened with, so it takes no more
+pub record IsNumberIndex (entries places free : List ℕ) (of_entries of_places of_free : ℕ)
+    : Type 0 where
+  pub all : length entries ≡ 65536
+  pub each : length places ≡ 256
+  pub few : length free ≤ 256
+  pub room : of_entries ≡ 65536
+  pub room_of_places : of_places ≡ 256
+  pub room_of_free : of_free ≡ 256
 
 -- the task of a number is at a place
 pub record IsListedAt (tasks : List Task) (number place : ℕ) : Type 0 where

@@ -1,6 +1,7 @@
 -- When something is to be done to a task before the choice, for the code's own contracts.
-use Rattle.std.specs.Prelude.{ℕ, ◌≡◌, ◌-◌, ◌^◌, ◌<◌, ◌≤◌, min, List, length, slice_index_or, slice_set, Option, Some, None}
+use Rattle.std.specs.Prelude.{ℕ, ◌≡◌, ◌+◌, ◌-◌, ◌^◌, ◌<◌, ◌≤◌, min, true, List, length, filter, slice_index_or, slice_set, Option, Some, None}
 use Rattle.domain_run.specs.declared.task.Task.{Task}
+use Rattle.domain_run.specs.Parts.{is_listed}
 use Rattle.domain_run.specs.Jump.{replenished_at, asks_at, gone_at}
 
 -- a time that may come; the last number stands for none
@@ -23,3 +24,13 @@ abbrev pub AreNotDue : List Task → ℕ → ℕ → ℕ → Type 0
 AreNotDue tasks time from end =
     (place : ℕ) (d : Task) → from ≤ place → place < end → place < length tasks
     → time < due_of (slice_index_or tasks place d)
+
+-- the task at a place has gone if it had left, and no other; the place to go on from
+pub record HasParted (place : ℕ) (old new : List Task) (next : ℕ) : Type 0 where
+  pub listed : filter is_listed new ≡ filter is_listed old
+  pub few : length new ≤ length old
+  pub front : (k : ℕ) → k < place → (d : Task) → slice_index_or new k d ≡ slice_index_or old k d
+  pub done : (k : ℕ) → place ≤ k → k < next → (d : Task) → is_listed (slice_index_or new k d) ≡ true
+  pub rest : length new + (place + 1) ≡ next + length old
+  pub most : next ≤ place + 1
+  pub least : place ≤ next

@@ -1,23 +1,20 @@
 //! A task comes onto the list; tasks that have left go off it.
 
 ghost use Rattle.std.specs.List.{remove};
-ghost use Rattle.std.specs.Prelude.{◌≡◌, ◌<◌, ◌≤◌, ◌+◌, ◌^◌, ◌++◌, ◌∷◌, [], map, take, filter, false, All, length};
-ghost use Rattle.grub_rules.specs.Accounts.{AreAccounts};
+ghost use Rattle.std.specs.Prelude.{◌≡◌, ◌<◌, ◌≤◌, ◌^◌, ◌++◌, ◌∷◌, [], filter, false, All, length, slice_index_or};
 ghost use Rattle.domain_run.specs.Conditions.{is_ready};
 ghost use Rattle.domain_run.specs.Parts as parts_spec;
 ghost use Rattle.domain_run.specs.Calls.{is_other};
-ghost use Rattle.domain_run.specs.Tick as tick_spec;
-ghost use Rattle.domain_run.specs.private.Index.{IsUnlisted};
+ghost use Rattle.domain_run.specs.declared.task.Task.{Task};
+ghost use Rattle.domain_run.specs.private.Index.{IsListedAt, IsUnlisted};
 ghost use Rattle.domain_run.specs.private.RunQueue.{IsCounted};
-ghost use Rattle.domain_run.specs.private.Timers as timers_spec;
+ghost use Rattle.domain_run.specs.private.Timers.{HasParted};
 
 use crate::index::Index;
 use crate::parts;
 use crate::run_queue::RunQueue;
 use crate::standing::{due_of, share_of};
 use crate::task::Task;
-use due_times::Timers;
-use grub_rules::Accounts;
 use slot_list::SlotList;
 
 /// One task more, which is not ready.
@@ -38,64 +35,55 @@ pub(super) fn push_task(tasks: &mut SlotList<Task>, queue: &mut RunQueue, task: 
     tasks.push(task);
 }
 
-// Tasks that have left go off the list, and their bandwidth goes back.
-fn part_left(accounts: &mut Accounts, tasks: &mut SlotList<Task>)
-    requires { AreAccounts accounts.old (tick_spec.shares tasks.old) }
-    ensures tasks { tasks.new ≡ filter parts_spec.is_listed tasks.old }
-    ensures sums { AreAccounts accounts.new (tick_spec.shares tasks.new) }
-    ensures wide { length accounts.new.all ≡ length accounts.old.all }
+// Takes the task at a place, which is not ready, off the list. No other task moves, and no due
+// time.
+fn drop_at(
+    tasks: &mut SlotList<Task>,
+    queue: &mut RunQueue,
+    index: &mut Index,
+    number: u32,
+    place: usize,
+)
+    requires at { IsListedAt tasks.old number place }
+    requires idle { (d : Task) → is_ready (slice_index_or tasks.old place d).condition ≡ false }
+    requires counted { IsCounted (length queue.old.accounts.all) queue.old tasks.old }
+    ensures tasks { tasks.new ≡ remove tasks.old place }
+    ensures counted { IsCounted (length queue.old.accounts.all) queue.new tasks.new }
+    ensures schedule { queue.new.schedule ≡ queue.old.schedule }
+    ensures wide { length queue.new.accounts.all ≡ length queue.old.accounts.all }
 {
-    let mut place = tasks.len();
-    while place > 0 {
-        place -= 1;
-        let task = tasks.at(place);
-        if !parts::is_listed(task) {
-            accounts.part(&share_of(task));
-            tasks.remove(place);
-        }
-    }
+    queue.accounts.part(&share_of(tasks.at(place)));
+    tasks.remove(place);
+    queue.timers.remove(place);
+    index.unlist(number, place);
 }
 
-// Where the tasks of a list are, from a place on.
-fn note_left(index: &mut Index, tasks: &SlotList<Task>, from: usize) {
-    for place in from..tasks.len() {
-        index.note(tasks.at(place).number, place);
-    }
-}
-
-// When each task of a list is due, where that is known of those before a place, and there were as
-// many before, or more. So a time that stays at its place costs nothing but a look.
-fn set_timers(timers: &mut Timers, tasks: &SlotList<Task>, from: usize)
-    requires fewer { length tasks.now ≤ length timers.old }
-    requires there { from ≤ length tasks.now }
-    requires known { take from timers.old ≡ map timers_spec.due_of (take from tasks.now) }
-    ensures { timers.new ≡ map timers_spec.due_of tasks.now }
+// Takes the task at a place off the list if it has left. Returns the place to go on from.
+#[inline(always)]
+fn part_at(
+    tasks: &mut SlotList<Task>,
+    queue: &mut RunQueue,
+    index: &mut Index,
+    place: usize,
+) -> usize
+    requires there { place < length tasks.old }
+    requires counted { IsCounted (length queue.old.accounts.all) queue.old tasks.old }
+    ensures tasks { HasParted place tasks.old tasks.new result }
+    ensures counted { IsCounted (length queue.old.accounts.all) queue.new tasks.new }
+    ensures schedule { queue.new.schedule ≡ queue.old.schedule }
+    ensures wide { length queue.new.accounts.all ≡ length queue.old.accounts.all }
 {
-    timers.keep(tasks.len());
-    for place in from..tasks.len() {
-        timers.set(place, due_of(tasks.at(place)));
+    let task = tasks.at(place);
+    if parts::is_listed(task) {
+        return place + 1;
     }
+    let number = task.number;
+    drop_at(tasks, queue, index, number, place);
+    place
 }
 
-// Behind at most so many tasks each time is set anew, which is quicker there than the whole.
-const FEW: usize = 16;
-
-// When each task of a list is due, where it has lost the one at a place.
-fn remove_timer(timers: &mut Timers, tasks: &SlotList<Task>, place: usize)
-    requires one { length timers.old ≡ length tasks.now + 1 }
-    requires there { place ≤ length tasks.now }
-    requires known { remove timers.old place ≡ map timers_spec.due_of tasks.now }
-    ensures { timers.new ≡ map timers_spec.due_of tasks.now }
-{
-    if tasks.len() - place > FEW {
-        timers.remove(place);
-    } else {
-        set_timers(timers, tasks, place);
-    }
-}
-
-/// Tasks that have left go off the list. They are due at once, so where none is, it costs nothing
-/// but a look. Whether one may have gone.
+/// Takes all tasks that have left off the list, and returns whether one may have gone. They are due
+/// at once, so if none is due, it only reads the first due time.
 #[inline(always)]
 pub(super) fn drop_left(tasks: &mut SlotList<Task>, queue: &mut RunQueue, index: &mut Index) -> bool
     requires { IsCounted (length queue.old.accounts.all) queue.old tasks.old }
@@ -112,8 +100,7 @@ pub(super) fn drop_left(tasks: &mut SlotList<Task>, queue: &mut RunQueue, index:
     true
 }
 
-// Tasks that have left go off the list. Those before the first that is due at once stay as they
-// are.
+// The same, task by task. It skips the tasks that are not due at once.
 #[inline(never)]
 fn drop_due(tasks: &mut SlotList<Task>, queue: &mut RunQueue, index: &mut Index)
     requires { IsCounted (length queue.old.accounts.all) queue.old tasks.old }
@@ -122,13 +109,14 @@ fn drop_due(tasks: &mut SlotList<Task>, queue: &mut RunQueue, index: &mut Index)
     ensures schedule { queue.new.schedule ≡ queue.old.schedule }
     ensures few { length tasks.new ≤ length tasks.old }
 {
-    let first = queue.timers.next_due(0, 0);
-    part_left(&mut queue.accounts, tasks);
-    set_timers(&mut queue.timers, tasks, first);
-    note_left(index, tasks, first);
+    let mut place = queue.timers.next_due(0, 0);
+    while place < tasks.len() {
+        let next = part_at(tasks, queue, index, place);
+        place = queue.timers.next_due(next, 0);
+    }
 }
 
-/// The task of a number, which is not ready, goes off the list. Those before it stay as they are.
+/// Takes the task of a number, which is not ready, off the list.
 pub(super) fn drop_number(
     tasks: &mut SlotList<Task>,
     queue: &mut RunQueue,
@@ -144,8 +132,5 @@ pub(super) fn drop_number(
     let Some(place) = index.place(tasks, number) else {
         return;
     };
-    queue.accounts.part(&share_of(tasks.at(place)));
-    tasks.remove(place);
-    remove_timer(&mut queue.timers, tasks, place);
-    note_left(index, tasks, place);
+    drop_at(tasks, queue, index, number, place);
 }

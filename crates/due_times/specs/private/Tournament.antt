@@ -1,5 +1,5 @@
 -- A tournament of times, for the code's own contracts: each inner node is the least of the four
--- below it, and the leaves are the second half. So the nodes of a level are 4, 16, 64 or 256,
+-- below it, and the leaves are the second half. So the nodes of a level are 4, 16, 64, 256 or 1024,
 -- behind as many that it has no use for.
 use Rattle.std.specs.Prelude.{ℕ, ◌+◌, ◌*◌, ◌/◌, ◌<◌, ◌≤◌, ◌≡◌, ◌≢◌, min, List, length, drop, slice_index_or}
 use Rattle.due_times.specs.Timers.{IsSize}
@@ -21,21 +21,15 @@ pub record IsTreeBut (at : ℕ) (nodes : List ℕ) : Type 0 where
 abbrev pub IsTournamentTree : List ℕ → Type 0
 IsTournamentTree nodes = IsTreeBut 0 nodes
 
--- each inner node but those from one up to another
-pub record IsTreeOutside (from end : ℕ) (nodes : List ℕ) : Type 0 where
-  pub fours : length nodes ≡ 4 * (length nodes / 4)
-  pub before : (i : ℕ) → 1 ≤ i → i < length nodes / 4 → i < from → IsLeast nodes i
-  pub behind : (i : ℕ) → 1 ≤ i → i < length nodes / 4 → end ≤ i → IsLeast nodes i
-
 abbrev pub leaves : List ℕ → List ℕ
 leaves nodes = drop (length nodes / 2) nodes
 
--- what a tournament keeps: the room for 512 nodes that it was opened with, so it takes no more
+-- what a tournament keeps: the room for 2048 nodes that it was opened with, so it takes no more
 pub record IsTournament (nodes : List ℕ) (capacity : ℕ) : Type 0 where
   pub tree : IsTournamentTree nodes
   pub size : IsSize (length nodes / 2)
-  pub most : length nodes ≤ 512
-  pub room : capacity ≡ 512
+  pub most : length nodes ≤ 2048
+  pub room : capacity ≡ 2048
 
 -- so many of three times, from the first on, have not come, and the next of them has
 pub record ArePassed (first second third time count : ℕ) : Type 0 where

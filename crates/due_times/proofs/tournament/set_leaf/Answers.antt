@@ -3,7 +3,7 @@ use Rattle.std.proofs.lemmas.List.{length-set, get_or-set_same}
 use Rattle.std.proofs.lemmas.Grind.{common_steps}
 use Rattle.due_times.specs.Timers.{IsSize}
 use Rattle.due_times.proofs.Carrying.{leaf_changed, leaf_within, leaves_set, tree_above, tree_whole, low_16}
-use Rattle.due_times.proofs.Descending.{most_256, not_four, some_four}
+use Rattle.due_times.proofs.Descending.{most_1024, not_four, some_four}
 use Rattle.due_times.proofs.tournament.set_leaf.Goals as goal
 
 half_is : (c : goal.After-half_of-half) → c.half_of-half.result ≡ length c.args.nodes.now.items / 2
@@ -12,7 +12,7 @@ half_is c = c.half_of-half.ensures ∙ ap (λ (ns : List ℕ). length ns / 2) c.
 pub overflow_add-at : goal.overflow_add-at
 overflow_add-at c =
     let within = leaf_within c.args.nodes.now.items c.args.leaf c.requires.tree c.requires.leaf in
-    omega (arith, half_is c, within, most_256 (length c.args.nodes.now.items / 2) c.requires.size)
+    omega (arith, half_is c, within, most_1024 (length c.args.nodes.now.items / 2) c.requires.size)
 
 pub carry_on-requires-clause-tree : goal.carry_on-requires-clause-tree
 carry_on-requires-clause-tree c =

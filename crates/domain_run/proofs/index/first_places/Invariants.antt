@@ -1,9 +1,0 @@
-use Rattle.std.proofs.Common.{◌≡◌, vec_len}
-use Rattle.std.specs.Prelude.{vec_capacity}
-use Rattle.domain_run.proofs.index.first_places.Given as goal
-
-abbrev pub invariant-loop : goal.invariant-loop
-invariant-loop l = record {
-  len : vec_len l.places ≡ l.counter;
-  room : vec_capacity l.places ≡ 65536;
-}
