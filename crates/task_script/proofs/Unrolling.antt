@@ -11,7 +11,7 @@ use Rattle.task_script.specs.declared.phase.Event.TheVariants.{Run, Sleep, Timer
 use Rattle.task_script.specs.script.ScriptView.{PhaseView, ScriptView, CursorView, IsPhase, IsScript, IsPlace, script_of, phase_len, round_len}
 use Rattle.task_script.specs.script.Unrolled.{round_of, event_at}
 use Rattle.task_script.specs.private.Progress.{timer_passed}
-use Rattle.task_script.specs.script.Segments.{SegmentAndCursor, begun_at, at_next_event, given_by, given_at, is_timer_over, segment_at, first_place, kept_cursor, next_segment, segments, GivesAsWritten}
+use Rattle.task_script.specs.script.Segments.{SegmentAndCursor, begun_at, at_next_event, given_by, given_at, is_timer_over, segment_at, work_in, first_place, kept_cursor, next_segment, segments, GivesAsWritten}
 
 get_left : (xs ys : List Event) (i : ℕ) → i < length xs → slice_get (xs ++ ys) i ≡ slice_get xs i
 get_left [] ys i h = absurd (omega (arith, h))
@@ -231,3 +231,15 @@ answered_passed c time h =
       | true ↦ given_kept (at_next_event c time) time h
       | false ↦ record { segment = refl; cursor = refl }
     ]
+
+-- where it gives work it only goes behind its event
+pub record IsPassed (c : CursorView) (e : Option Event) (given : SegmentAndCursor) : Type 0 where
+  pub more : IsSome e
+  pub cursor : given.cursor ≡ at_next_event c c.reference
+
+pub given_work : (c : CursorView) (time : ℕ) (e : Option Event) → IsSome (work_in (given_by c time e).segment) → IsPassed c e (given_by c time e)
+given_work c time (Some (Run n)) h = record { more = refl; cursor = refl }
+given_work c time (Some (Sleep n)) h = absurd cc
+given_work c time (Some (Timer n)) h = absurd cc
+given_work c time (Some Wait) h = absurd cc
+given_work c time None h = absurd cc

@@ -1,10 +1,10 @@
 //! The cursor that goes through a script (own). It sees a script from outside, as what it may read.
 
-ghost use Rattle.std.specs.Prelude.{◌≡◌, ◌<◌, ◌≤◌, ◌^◌, IsSome, IfSome, Some};
+ghost use Rattle.std.specs.Prelude.{◌≡◌, ◌<◌, ◌≤◌, ◌+◌, ◌^◌, IsSome, IfSome, Some};
 ghost use Rattle.task_script.specs.script.ScriptView.{IsEvent, IsScript};
 ghost use Rattle.task_script.specs.script.Unrolled.{event_at};
-ghost use Rattle.task_script.specs.script.Segments.{begun_at, at_next_event, kept_cursor, given_by, given_at, is_timer_over, passes_late_timer, next_segment, GivesAsWritten, IsSegment, next_ask};
-ghost use Rattle.task_script.specs.private.Progress.{timer_passed, at_reference};
+ghost use Rattle.task_script.specs.script.Segments.{begun_at, at_next_event, kept_cursor, given_by, given_at, is_timer_over, passes_late_timer, next_segment, work_in, GivesAsWritten, IsSegment, next_ask};
+ghost use Rattle.task_script.specs.private.Progress.{timer_passed, at_reference, work_at};
 
 use crate::phase::Event;
 use crate::progress;
@@ -69,6 +69,19 @@ fn is_late_at(event: Option<Event>, reference: u64, time: u64) -> bool
     }
 }
 
+// The work of an event that is one of running.
+#[inline(always)]
+fn work_at(event: Option<Event>) -> Option<u64>
+    requires { IfSome event IsEvent }
+    ensures work { result ≡ work_at event }
+    ensures within { IfSome result (λ n. (0 < n) × (n ≤ 1000000000)) }
+{
+    match event {
+        Some(Event::Run(n)) => Some(n),
+        _ => None,
+    }
+}
+
 impl Cursor {
     /// The whole script, wherever the cursor stands.
     pub fn script(&self) -> &Script
@@ -93,6 +106,34 @@ impl Cursor {
         is_late_at(self.event(), self.reference, time)
     }
 
+    // The event after the one where it stands. Only a late timer asks for it, so it is apart.
+    #[inline(never)]
+    fn event_behind(&self) -> Option<Event>
+        requires { IsSome (event_at self.now.script self.now.place) }
+        ensures value { result ≡ event_at self.now.script (self.now.place + 1) }
+        ensures event { IfSome result IsEvent }
+    {
+        let mut progress = self.progress;
+        progress::advance(&self.script, &mut progress);
+        progress::event_of(&self.script, progress)
+    }
+
+    /// How much work [`Cursor::next`] would give, asked at this time, in microseconds; nothing if
+    /// it would give no work. It stays where it is.
+    #[inline(always)]
+    pub fn next_work(&self, time: u64) -> Option<u64>
+        requires early { time < 2 ^ 48 }
+        requires reference { self.now.reference < 2 ^ 48 }
+        ensures work { result ≡ work_in (next_segment self.now time).segment }
+        ensures within { IfSome result (λ n. (0 < n) × (n ≤ 1000000000)) }
+    {
+        match self.coming {
+            Some(Event::Run(n)) => Some(n),
+            Some(Event::Timer(n)) if self.reference + n <= time => work_at(self.event_behind()),
+            _ => None,
+        }
+    }
+
     #[inline(always)]
     fn step(&mut self)
         requires more { IsSome (event_at self.old.script self.old.place) }
@@ -113,6 +154,19 @@ impl Cursor {
         self.reference = time;
         self.step();
         self.event()
+    }
+
+    /// Goes behind the work that it gives next, asked at this time, as [`Cursor::next`] does.
+    #[inline(always)]
+    pub fn pass_work(&mut self, time: u64)
+        requires early { time < 2 ^ 48 }
+        requires reference { self.old.reference < 2 ^ 48 }
+        requires work { IsSome (work_in (next_segment self.old time).segment) }
+        ensures cursor { self.new ≡ (next_segment self.old time).cursor }
+        ensures in_order { self.old.reference ≤ time → self.new.reference ≤ time }
+    {
+        self.look(time);
+        self.step();
     }
 
     // The event that it gives: behind a timer that is late.

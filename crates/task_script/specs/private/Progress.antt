@@ -2,6 +2,7 @@
 use Rattle.std.specs.Prelude.{ℕ, zero, suc, ◌≡◌, ◌+◌, ◌*◌, ◌<◌, ◌≤◌, Bool, false, nat_le, if◌then◌else◌, List, [], ◌∷◌, length, slice_get, Option, Some, None, IfSome}
 use Rattle.task_script.specs.declared.progress.Progress.{Progress}
 use Rattle.task_script.specs.declared.phase.Event.{Event}
+use Rattle.task_script.specs.declared.phase.Event.TheVariants.{Run, Sleep, Timer, Wait}
 use Rattle.task_script.specs.script.ScriptView.{PhaseView, ScriptView, CursorView, IsScript, IsEvent, IsCursor, phase_len, round_len}
 use Rattle.task_script.specs.script.Unrolled.{event_at}
 use Rattle.task_script.specs.private.Steps.{laps_at, first_step_of}
@@ -77,3 +78,11 @@ abbrev pub timer_passed : CursorView → ℕ → CursorView
 timer_passed c time =
     if is_timer_over (event_at c.script c.place) c.reference time
     then kept_cursor (at_next_event c time) else c
+
+-- the work of an event of running
+abbrev pub work_at : Option Event → Option ℕ
+work_at (Some (Run n)) = Some n
+work_at (Some (Sleep n)) = None
+work_at (Some (Timer n)) = None
+work_at (Some Wait) = None
+work_at None = None

@@ -87,6 +87,13 @@ next_segment c time =
       cursor = kept_cursor (segment_at c time).cursor;
     }
 
+-- the work of a segment in which the task runs
+abbrev pub work_in : Segment → Option ℕ
+work_in (RunFor n) = Some n
+work_in (Until u) = None
+work_in WaitFor = None
+work_in End = None
+
 -- what a cursor gives, asked at one time after another
 abbrev pub segments : (CursorView → ℕ → SegmentAndCursor) → CursorView → List ℕ → List Segment
 segments ask c [] = []
