@@ -19,6 +19,10 @@ pub record IsAhead (upto : ℕ) (s : Seat) : Type 0 where
   pub soon : s.end ≤ 2 ^ 63
   pub slow : s.rate ≤ 2 ^ 27
 
+-- a seat that ends at another time
+abbrev pub ending_at : ℕ → Seat → Seat
+ending_at end s = record s { end = end }
+
 -- what seats keep: none has ended, the timers tell when each does, and there is room for a seat of
 -- each CPU and no more, so they take no more
 pub record AreSeats (upto : ℕ) (seats : List (Option Seat)) (ends : List ℕ) (capacity : ℕ)

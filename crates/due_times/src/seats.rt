@@ -216,6 +216,23 @@ impl Seats {
         self.ends.set(cpu, seat.end);
     }
 
+    /// The seat of a CPU, if somebody sits there, ends at another time.
+    #[inline(always)]
+    pub fn end_at(&mut self, cpu: usize, end: u64)
+        requires there { cpu < length self.old.seats }
+        requires ahead { IfSome (slice_index_or self.old.seats cpu None)
+            (λ s. spec.IsAhead self.old.upto (spec.ending_at end s)) }
+        ensures { self.new ≡ record self.old {
+          seats = slice_set self.old.seats cpu
+              (option_map (λ s. spec.ending_at end s) (slice_index_or self.old.seats cpu None));
+        } }
+    {
+        if let Some(seat) = &mut self.seats[cpu] {
+            seat.end = end;
+            self.ends.set(cpu, end);
+        }
+    }
+
     /// Nobody sits on a CPU any more.
     #[inline(always)]
     pub fn stand_up(&mut self, cpu: usize)
