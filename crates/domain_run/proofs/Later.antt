@@ -11,6 +11,7 @@ use Rattle.due_times.specs.declared.seats.Seat.{Seat}
 use Rattle.domain_run.specs.private.Paying.{ran_until}
 use Rattle.due_times.specs.Seats.{SeatsView, end_of, seat_by, left_if, IsAhead}
 use Rattle.domain_run.specs.private.Waiting.{seats_without, seat_of_task, slid_for, owed_by, owed, owed_all, Waits, AllWait, Lasts, passed_by, time_passed}
+use Rattle.domain_run.specs.private.Extending.{HasExpired}
 use Rattle.domain_run.specs.private.Index.{IsListedAt}
 use Rattle.due_times.specs.Timers.{AreLater, least}
 use Rattle.domain_run.specs.Sound.{IsSound}
@@ -176,38 +177,48 @@ left_none seats t none = ap (left_if t.cpu seats) none
 read_end : (seats : List (Option Seat)) (place : ℕ) → place < length (map end_of seats) → get_or (map end_of seats) place 0 ≡ end_of (get_or seats place None)
 read_end seats place h = let many : length (map end_of seats) ≡ length seats = simp length-map in get_or-map end_of seats place None 0 (omega (arith, h, many))
 
-pub later_next : (seats : List (Option Seat)) (time cpu next : ℕ) → time ≤ 2 ^ 62 → cpu < length seats → AreLater (map end_of seats) time 0 cpu → AreLater (map end_of (set seats cpu None)) time (cpu + 1) next → AreLater (map end_of (set seats cpu None)) time 0 next
-later_next seats time cpu next early inside before behind place from to within = by_order (cases_lt place cpu) (cases_eq place cpu)
+pub length_expired : (time cpu : ℕ) (seats new : List (Option Seat)) → HasExpired time cpu seats new → length new ≡ length seats
+length_expired time cpu seats new is = ap (λ (xs : List (Option Seat)). length xs) is.seats ∙ length-set seats cpu (get_or new cpu None)
+
+pub later_next : (seats new : List (Option Seat)) (time cpu next : ℕ) → time ≤ 2 ^ 62 → HasExpired time cpu seats new → AreLater (map end_of seats) time 0 cpu → AreLater (map end_of new) time (cpu + 1) next → AreLater (map end_of new) time 0 next
+later_next seats new time cpu next early expired before behind place from to within = by_order (cases_lt place cpu) (cases_eq place cpu)
   where
     many : length (map end_of seats) ≡ length seats
     many = simp length-map
 
-    after : length (map end_of (set seats cpu None)) ≡ length seats
-    after = (let l : length (map end_of (set seats cpu None)) ≡ length (set seats cpu None) = simp length-map in l) ∙ length-set seats cpu None
+    after : length (map end_of new) ≡ length seats
+    after = (let l : length (map end_of new) ≡ length new = simp length-map in l) ∙ length_expired time cpu seats new expired
 
-    is : get_or (map end_of (set seats cpu None)) place 0 ≡ end_of (get_or (set seats cpu None) place None)
-    is = read_end (set seats cpu None) place within
+    is : get_or (map end_of new) place 0 ≡ end_of (get_or new place None)
+    is = read_end new place within
 
     past : cpu ≤ place → (cpu < place) ⊎ (place ≤ cpu) → (place ≡ cpu → ⊥) → cpu + 1 ≤ place
     past more (inl less) other = omega (arith, less)
     past more (inr most) other = absurd (other (omega (arith, more, most)))
 
-    by_order : (place < cpu) ⊎ (cpu ≤ place) → (place ≡ cpu) ⊎ (place ≡ cpu → ⊥) → time < get_or (map end_of (set seats cpu None)) place 0
+    by_seat : (o : Option Seat) → IfSome o (λ s. time < s.end) → time < end_of o
+    by_seat None h = omega (arith, early)
+    by_seat (Some s) h = h
+
+    by_order : (place < cpu) ⊎ (cpu ≤ place) → (place ≡ cpu) ⊎ (place ≡ cpu → ⊥) → time < get_or (map end_of new) place 0
     by_order less (inl same) =
-        let none : get_or (set seats cpu None) place None ≡ None = ap (λ c. get_or (set seats cpu None) c None) same ∙ none_at seats cpu in
-        let never : end_of (get_or (set seats cpu None) place None) ≡ 2 ^ 64 - 1 = ap end_of none in
-        omega (arith, is, never, early)
+        let here : end_of (get_or new place None) ≡ end_of (get_or new cpu None) = ap (λ c. end_of (get_or new c None)) same in
+        subst (λ (n : ℕ). time < n) (sym (is ∙ here)) (by_seat (get_or new cpu None) expired.later)
     by_order (inl less) (inr other) =
         let there : place < length (map end_of seats) = omega (arith, within, after, many) in
-        let kept = is ∙ ap end_of (get_or-set_other seats cpu place None None other) ∙ sym (read_end seats place there) in
+        let kept = is ∙ ap end_of (ap (λ (xs : List (Option Seat)). get_or xs place None) expired.seats ∙ get_or-set_other seats cpu place (get_or new cpu None) None other) ∙ sym (read_end seats place there) in
         subst (λ (n : ℕ). time < n) (sym kept) (before place (omega arith) less there)
     by_order (inr more) (inr other) = behind place (past more (cases_lt cpu place) other) to within
 
-pub ends_next : (P : Seat → Type 0) (seats : List (Option Seat)) (cpu : ℕ) → ((c : ℕ) → IfSome (get_or seats c None) P) → (c : ℕ) → IfSome (get_or (set seats cpu None) c None) P
-ends_next P seats cpu all c = elim (cases_eq c cpu) [
-  | inl e ↦ subst (λ o. IfSome o P) (sym (ap (λ d. get_or (set seats cpu None) d None) e ∙ none_at seats cpu)) tt
-  | inr other ↦ subst (λ o. IfSome o P) (sym (get_or-set_other seats cpu c None None other)) (all c)
+pub ends_next : (time cpu : ℕ) (seats new : List (Option Seat)) → HasExpired time cpu seats new → ((c : ℕ) → IfSome (get_or seats c None) (λ s. time ≤ s.end)) → (c : ℕ) → IfSome (get_or new c None) (λ s. time ≤ s.end)
+ends_next time cpu seats new expired all c = elim (cases_eq c cpu) [
+  | inl e ↦ subst (λ n. IfSome (get_or new n None) (λ s. time ≤ s.end)) (sym e) (by_seat (get_or new cpu None) expired.later)
+  | inr other ↦ subst (λ o. IfSome o (λ s. time ≤ s.end)) (sym (ap (λ (xs : List (Option Seat)). get_or xs c None) expired.seats ∙ get_or-set_other seats cpu c (get_or new cpu None) None other)) (all c)
 ]
+  where
+    by_seat : (o : Option Seat) → IfSome o (λ s. time < s.end) → IfSome o (λ s. time ≤ s.end)
+    by_seat None h = tt
+    by_seat (Some s) h = omega (arith, h)
 
 -- where no seat ends up to a time
 pub strict_ends : (upto time : ℕ) (seats : List (Option Seat)) → All (λ o. IfSome o (IsAhead upto)) seats → AreLater (map end_of seats) time 0 (length seats) → (t : Task) → IfSome (seat_of_task seats t) (λ s. IsAhead upto s × (time < s.end))
@@ -357,6 +368,24 @@ facts_of old mid time k cpu p seat x n1 n2 s1 s2 items1 items2 vacated view1 wai
       number = ap (λ (t : Task). t.number) read ∙ at.is x;
       fin = finishing time k s1.upto cpu s1.seats items1 seat p x (sym sits) at1 read1 cpu_is waits ahead ends1 some early (subst (IsSound time) (sym read) (sound p x at.within));
     }
+
+-- the same, by what is seen of the seat
+pub facts_at : (old mid : RosterView) (time k cpu p : ℕ) (seat : Seat) (x : Task) (n1 n2 : RunQueue) (s1 s2 : SeatsView) (items1 items2 : List Task)
+    → mid ≡ record old { seats = set old.seats cpu None }
+    → roster_view n1 s1 items1 ≡ old → AllWait s1.seats items1
+    → roster_view n2 s2 items2 ≡ mid
+    → get_or old.seats cpu None ≡ Some seat → IsAhead old.clock seat
+    → IsListedAt old.tasks seat.number p → ((d : Task) → (get_or old.tasks p d).cpu ≡ cpu)
+    → x ≡ get_or items2 p x
+    → 0 < k → time < 2 ^ 43 → old.clock + k ≤ seat.end → All (IsSound time) old.tasks
+    → Facts old time k cpu p seat x
+facts_at old mid time k cpu p seat x n1 n2 s1 s2 items1 items2 vacated view1 waits view2 sits ahead at home read2 some early ends sound =
+    facts_of old mid time k cpu p seat x n1 n2 s1 s2 items1 items2 vacated view1 waits view2
+    (sym (ap (λ (r : RosterView). get_or r.seats cpu None) view1 ∙ sits))
+    (subst (λ (r : RosterView). IsAhead r.clock seat) (sym view1) ahead)
+    at home read2 some early
+    (subst (λ o. IfSome o (λ s. old.clock + k ≤ s.end)) (sym sits) ends)
+    sound
 
 -- where nobody sits any clock does
 pub nobody_view : (a b : ℕ) (seats : List (Option Seat)) (tasks : List Task) → ((cpu : ℕ) → get_or seats cpu None ≡ None) → map (owed a seats) tasks ≡ map (owed b seats) tasks

@@ -53,3 +53,4 @@ pub mod Leapt
 pub mod Dozing
 pub mod Aside
 pub mod ToldFew
+pub mod Extending

@@ -161,13 +161,15 @@ module _ (upto cpu : ℕ) (seats : List (Option Seat)) (s : Seat) (free : get_or
       by_number t false e sat = tt
 
 -- a seat that ends with the work or the budget of its task, whichever is first
-pub waits_until : (s : Seat) (t : Task) (spent left : ℕ) → MaySit t → pos left ≡ t.server.left → s.end - s.since ≡ min t.work spent → s.rate * (spent - 1) < left → IsRatedBy s.basis s.rate t → Waits s t
-waits_until s t spent left may is span lasted rated =
+pub waits_until : (s : Seat) (t : Task) (spent left : ℕ) → MaySit t → pos left ≡ t.server.left → s.end - s.since ≡ min t.work spent → s.rate * (spent - 1) < left → 0 < s.rate → IsRatedBy s.basis s.rate t → Waits s t
+waits_until s t spent left may is span lasted turns rated =
     let m : s.rate * (s.end - s.since - 1) ≤ s.rate * (spent - 1) = mul-le-mul_left s.rate (omega (arith, span)) in
     record {
       ready = may.ready;
       worked = omega (arith, span);
       lasted = omega (arith, ints, is, m, lasted);
+      high = may.high;
+      turns = turns;
       rated = rated;
     }
 

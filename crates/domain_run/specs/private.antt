@@ -10,3 +10,4 @@ pub mod Telling
 pub mod Waiting
 pub mod Dozing
 pub mod Choosing
+pub mod Extending

@@ -29,6 +29,7 @@ ghost use Rattle.grub_rules.specs.Sums as sums;
 
 mod choosing;
 mod dozing;
+mod extending;
 mod lending;
 mod listing;
 mod passing;

@@ -49,11 +49,13 @@ IsRatedBy None rate t = (b : Basis) → rate ≡ rate_by b t
 IsRatedBy (Some b) rate t = rate ≡ rate_by b t
 
 -- a seat's task: it is ready, the seat has its rate, and neither its work nor its budget ends
--- before the seat does
+-- before the seat does; its budget is in range
 pub record Waits (s : Seat) (t : Task) : Type 0 where
   pub ready : IsTrue (is_ready t.condition)
   pub worked : s.end - s.since ≤ t.work
   pub lasted : pos (s.rate * (s.end - s.since - 1)) <ℤ t.server.left
+  pub high : t.server.left ≤ℤ pos (2 ^ 52)
+  pub turns : 0 < s.rate
   pub rated : IsRatedBy s.basis s.rate t
 
 abbrev pub WaitsIf : List (Option Seat) → Task → Type 0

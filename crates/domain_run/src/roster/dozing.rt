@@ -3,10 +3,13 @@
 //! a long advance puts each aside when its task stops, and goes past it; at its end those that are
 //! still ahead come back.
 
-ghost use Rattle.std.specs.Prelude.{ℕ, ◌||◌, not, nat_le, ◌≡◌, ◌<◌, ◌≤◌, ◌+◌, ◌^◌, IsTrue, All, IfSome, None, map, length, slice_index_or, slice_set};
+ghost use Rattle.std.specs.Prelude.{ℕ, ◌||◌, not, nat_le, ◌≡◌, ◌<◌, ◌≤◌, ◌+◌, ◌^◌, IsTrue, All, IfSome, None, Some, map, length, slice_index_or, slice_set};
 ghost use Rattle.domain_run.specs.declared.task.Task.{Task};
 ghost use Rattle.domain_run.specs.Conditions.{is_contending};
 ghost use Rattle.domain_run.specs.Sound.{IsSound};
+ghost use Rattle.domain_run.specs.private.Extending as extending;
+ghost use Rattle.domain_run.specs.private.Index.{IsListedAt};
+ghost use Rattle.due_times.specs.Seats.{IsAhead};
 ghost use Rattle.domain_run.specs.private.Dozing.{with_lag, with_lags, IsBare, MayDoze, passed_bare};
 ghost use Rattle.domain_run.specs.private.Roster.{without_zero_lag};
 ghost use Rattle.domain_run.specs.private.Timers.{IsTimerStep};
@@ -16,6 +19,7 @@ use super::Roster;
 use super::passing::{left_after, used_in};
 use crate::change::Change;
 use crate::task::{Condition, Task};
+use due_times::Seat;
 
 /// The zero-lag times that are put aside, place by place, in microseconds.
 pub(crate) type Lags = [Option<u64>; 256];
@@ -122,10 +126,54 @@ impl Roster {
 
     /// As `finish_at`; the zero-lag time with which the task stops is put aside.
     #[inline(always)]
-    fn finish_aside_at(&mut self, cpu: usize, ticks: u64, time: u64, lags: &mut Lags)
+    fn finish_aside_at(
+        &mut self,
+        cpu: usize,
+        place: usize,
+        seat: Seat,
+        ticks: u64,
+        time: u64,
+        lags: &mut Lags,
+    )
+        requires there { cpu < self.old.cpus }
+        requires sits { slice_index_or self.old.seats cpu None ≡ Some seat }
+        requires at { IsListedAt self.old.tasks seat.number place }
+        requires home { (d : Task) → (slice_index_or self.old.tasks place d).cpu ≡ cpu }
+        requires ahead { IsAhead self.old.clock seat }
+        requires some { 0 < ticks }
+        requires early { time < 2 ^ 43 }
+        requires ends { self.old.clock + ticks ≤ seat.end }
+        requires sound { All (IsSound time) self.old.tasks }
+        requires bare { All IsBare self.old.tasks }
+        ensures cpus { self.new.cpus ≡ self.old.cpus }
+        ensures places { self.new.places ≡ self.old.places }
+        ensures clock { self.new.clock ≡ self.old.clock }
+        ensures seats { self.new.seats ≡ slice_set self.old.seats cpu None }
+        ensures tasks { map (passed_bare time ticks self.new.seats) self.new.tasks
+            ≡ map (passed_bare time ticks self.old.seats) self.old.tasks }
+        ensures lags { (past : ℕ) → past ≤ time
+            → map (spec.time_passed time ticks self.new.seats)
+            (with_lags past lags.new self.new.tasks)
+            ≡ map (spec.time_passed time ticks self.old.seats)
+            (with_lags past lags.old self.old.tasks) }
+        ensures sound { All (IsSound time) self.new.tasks }
+        ensures bare { All IsBare self.new.tasks }
+    {
+        // For the prover alone: a look at the seats brings what the type keeps.
+        let _ = self.seats.len();
+        self.vacate_at(cpu, place, seat);
+        let left = self.tasks.at(place).server.left;
+        let left = left_after(left, used_in(left, seat.rate, ticks));
+        lags[place] = self.turn_charged(place, time, &Change::RunAside { ticks, left });
+    }
+
+    /// As `expire_at`; the zero-lag time with which the task stops is put aside.
+    #[inline(always)]
+    fn expire_aside_at(&mut self, cpu: usize, ticks: u64, time: u64, lags: &mut Lags)
         requires there { cpu < self.old.cpus }
         requires some { 0 < ticks }
         requires early { time < 2 ^ 43 }
+        requires clock { self.old.clock + ticks ≤ 2 ^ 62 }
         requires ends { IfSome (slice_index_or self.old.seats cpu None)
             (λ s. self.old.clock + ticks ≤ s.end) }
         requires sound { All (IsSound time) self.old.tasks }
@@ -133,7 +181,8 @@ impl Roster {
         ensures cpus { self.new.cpus ≡ self.old.cpus }
         ensures places { self.new.places ≡ self.old.places }
         ensures clock { self.new.clock ≡ self.old.clock }
-        ensures seats { self.new.seats ≡ slice_set self.old.seats cpu None }
+        ensures seats { extending.HasExpired (self.old.clock + ticks) cpu self.old.seats
+            self.new.seats }
         ensures tasks { map (passed_bare time ticks self.new.seats) self.new.tasks
             ≡ map (passed_bare time ticks self.old.seats) self.old.tasks }
         ensures lags { (past : ℕ) → past ≤ time
@@ -152,10 +201,10 @@ impl Roster {
             self.vacate(cpu);
             return;
         };
-        self.vacate_at(cpu, place, seat);
-        let left = self.tasks.at(place).server.left;
-        let left = left_after(left, used_in(left, seat.rate, ticks));
-        lags[place] = self.turn_charged(place, time, &Change::RunAside { ticks, left });
+        if self.extend_at(cpu, place, seat, ticks, time) {
+            return;
+        }
+        self.finish_aside_at(cpu, place, seat, ticks, time, lags);
     }
 
     /// As `pass`; the zero-lag times with which tasks stop are put aside.
@@ -179,7 +228,7 @@ impl Roster {
         let end = self.seats.upto() + ticks;
         let mut cpu = self.seats.next_ended(0, end);
         while cpu < self.seats.len() {
-            self.finish_aside_at(cpu, ticks, time, lags);
+            self.expire_aside_at(cpu, ticks, time, lags);
             cpu = self.seats.next_ended(cpu + 1, end);
         }
         self.seats.pass(ticks);

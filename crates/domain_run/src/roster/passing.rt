@@ -1,13 +1,16 @@
 //! Time goes on for all who sit.
 
-ghost use Rattle.std.specs.Prelude.{◌≡◌, ◌<◌, ◌≤◌, ◌+◌, ◌^◌, ◌*◌, ◌-◌, ◌<ℤ◌, ◌≤ℤ◌, ◌-ℤ◌, pos, ℕ, All, IfSome, IfNone, None, map, slice_index_or, slice_set};
+ghost use Rattle.std.specs.Prelude.{◌≡◌, ◌<◌, ◌≤◌, ◌+◌, ◌^◌, ◌*◌, ◌-◌, ◌<ℤ◌, ◌≤ℤ◌, ◌-ℤ◌, pos, ℕ, All, IfSome, IfNone, None, Some, map, slice_index_or, slice_set};
 ghost use Rattle.domain_run.specs.Sound.{IsSound};
+ghost use Rattle.domain_run.specs.private.Extending as extending;
 ghost use Rattle.domain_run.specs.private.Index.{IsListedAt};
 ghost use Rattle.domain_run.specs.private.Waiting as spec;
 ghost use Rattle.domain_run.specs.declared.task.Task.{Task};
+ghost use Rattle.due_times.specs.Seats.{IsAhead};
 
 use super::Roster;
 use crate::change::Change;
+use due_times::Seat;
 
 /// What so many ticks at a rate take of a budget that lasts until the last of them.
 pub(super) fn used_in(left: i128, rate: u64, ticks: u64) -> u64
@@ -61,19 +64,50 @@ impl Roster {
         (self.seats.first_end() - self.seats.upto()).min(most)
     }
 
-    /// Who sits on a CPU has run for so many ticks, and sits no more.
+    /// Who sits on a CPU, the task at a place, has run for so many ticks, and sits no more.
     #[inline(always)]
-    fn finish_at(&mut self, cpu: usize, ticks: u64, time: u64)
+    fn finish_at(&mut self, cpu: usize, place: usize, seat: Seat, ticks: u64, time: u64)
+        requires there { cpu < self.old.cpus }
+        requires sits { slice_index_or self.old.seats cpu None ≡ Some seat }
+        requires at { IsListedAt self.old.tasks seat.number place }
+        requires home { (d : Task) → (slice_index_or self.old.tasks place d).cpu ≡ cpu }
+        requires ahead { IsAhead self.old.clock seat }
+        requires some { 0 < ticks }
+        requires early { time < 2 ^ 43 }
+        requires ends { self.old.clock + ticks ≤ seat.end }
+        requires sound { All (IsSound time) self.old.tasks }
+        ensures cpus { self.new.cpus ≡ self.old.cpus }
+        ensures places { self.new.places ≡ self.old.places }
+        ensures clock { self.new.clock ≡ self.old.clock }
+        ensures seats { self.new.seats ≡ slice_set self.old.seats cpu None }
+        ensures tasks { map (spec.time_passed time ticks self.new.seats) self.new.tasks
+            ≡ map (spec.time_passed time ticks self.old.seats) self.old.tasks }
+        ensures sound { All (IsSound time) self.new.tasks }
+    {
+        // For the prover alone: a look at the seats brings what the type keeps.
+        let _ = self.seats.len();
+        self.vacate_at(cpu, place, seat);
+        let left = self.tasks.at(place).server.left;
+        let left = left_after(left, used_in(left, seat.rate, ticks));
+        self.turn_charged(place, time, &Change::Run { ticks, left });
+    }
+
+    /// Who sits on a CPU, if anyone does, has run for so many ticks: it sits there for longer, or
+    /// no more.
+    #[inline(always)]
+    fn expire_at(&mut self, cpu: usize, ticks: u64, time: u64)
         requires there { cpu < self.old.cpus }
         requires some { 0 < ticks }
         requires early { time < 2 ^ 43 }
+        requires clock { self.old.clock + ticks ≤ 2 ^ 62 }
         requires ends { IfSome (slice_index_or self.old.seats cpu None)
             (λ s. self.old.clock + ticks ≤ s.end) }
         requires sound { All (IsSound time) self.old.tasks }
         ensures cpus { self.new.cpus ≡ self.old.cpus }
         ensures places { self.new.places ≡ self.old.places }
         ensures clock { self.new.clock ≡ self.old.clock }
-        ensures seats { self.new.seats ≡ slice_set self.old.seats cpu None }
+        ensures seats { extending.HasExpired (self.old.clock + ticks) cpu self.old.seats
+            self.new.seats }
         ensures tasks { map (spec.time_passed time ticks self.new.seats) self.new.tasks
             ≡ map (spec.time_passed time ticks self.old.seats) self.old.tasks }
         ensures sound { All (IsSound time) self.new.tasks }
@@ -86,10 +120,10 @@ impl Roster {
             self.vacate(cpu);
             return;
         };
-        self.vacate_at(cpu, place, seat);
-        let left = self.tasks.at(place).server.left;
-        let left = left_after(left, used_in(left, seat.rate, ticks));
-        self.turn_charged(place, time, &Change::Run { ticks, left });
+        if self.extend_at(cpu, place, seat, ticks, time) {
+            return;
+        }
+        self.finish_at(cpu, place, seat, ticks, time);
     }
 
     /// So many ticks pass, up to a time, and no seat ends before the last of them: who sits has run
@@ -110,7 +144,7 @@ impl Roster {
         let end = self.seats.upto() + ticks;
         let mut cpu = self.seats.next_ended(0, end);
         while cpu < self.seats.len() {
-            self.finish_at(cpu, ticks, time);
+            self.expire_at(cpu, ticks, time);
             cpu = self.seats.next_ended(cpu + 1, end);
         }
         self.seats.pass(ticks);

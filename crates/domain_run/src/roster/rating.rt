@@ -23,7 +23,7 @@ pub(super) fn charge_on(task: &mut Task, cpu: usize, seat: Seat, upto: u64)
 }
 
 /// What is left of the budget of a task, which is above 0.
-fn left_in(task: &Task) -> u64
+pub(super) fn left_in(task: &Task) -> u64
     requires { spec.MaySit task.now }
     ensures left { pos result ≡ task.now.server.left }
     ensures some { 0 < result }
@@ -49,7 +49,7 @@ fn lasting_at_one(left: u64) -> u64
 /// a rate of at most one it lasts as long as at one, which is a shift. That does where no more
 /// ticks are wanted, and where it lasts for long: the seat is made anew when they have passed.
 #[inline(always)]
-fn lasting(left: u64, rate: u64, wanted: u64) -> u64
+pub(super) fn lasting(left: u64, rate: u64, wanted: u64) -> u64
     requires left { 0 < left }
     requires high { left ≤ 2 ^ 52 }
     requires turns { 0 < rate }

@@ -11,35 +11,19 @@ use Rattle.domain_run.specs.private.Roster.{RosterView, MayRun, without_zero_lag
 use Rattle.domain_run.specs.private.Dozing.{with_lags, passed_bare, IsBare}
 use Rattle.domain_run.specs.Conditions.{is_contending}
 use Rattle.std.proofs.lemmas.List.Elements.{All-set}
-use Rattle.domain_run.proofs.Aside.{orphan_bare, orphan_lags, finished_bare, finished_lags}
+use Rattle.domain_run.proofs.Aside.{finished_bare, finished_lags}
 use Rattle.domain_run.specs.private.Waiting.{time_passed}
 use Rattle.domain_run.proofs.Paying.{same_ran_until, is_Ready}
 use Rattle.domain_run.proofs.Seatings.{none_at}
-use Rattle.domain_run.proofs.Later.{facts_of, times_one}
+use Rattle.domain_run.proofs.Later.{facts_at, times_one}
 use Rattle.domain_run.proofs.roster.Roster.finish_aside_at.Goals as goal
-
-pub returns-in_default-at-clause-tasks : goal.returns-in_default-at-clause-tasks
-returns-in_default-at-clause-tasks c =
-    let old = c.args.self.now in
-    let seat = c.in-Some.seat in
-    let sits : get_or old.seats c.args.cpu None ≡ Some seat = ap (λ (r : RosterView). get_or r.seats c.args.cpu None) (sym c.self.view_is) ∙ sym c.in-Some.ensures.seat in
-    ap (λ (r : RosterView). map (passed_bare c.args.time c.args.ticks r.seats) r.tasks) c.vacate.ensures
-    ∙ orphan_bare c.args.time c.args.ticks c.args.cpu old.seats old.tasks seat sits c.in_default-at.ensures.absent
-
-pub returns-in_default-at-clause-lags : goal.returns-in_default-at-clause-lags
-returns-in_default-at-clause-lags c past order =
-    let old = c.args.self.now in
-    let seat = c.in-Some.seat in
-    let sits : get_or old.seats c.args.cpu None ≡ Some seat = ap (λ (r : RosterView). get_or r.seats c.args.cpu None) (sym c.self.view_is) ∙ sym c.in-Some.ensures.seat in
-    ap (λ (r : RosterView). map (time_passed c.args.time c.args.ticks r.seats) (with_lags past c.args.lags.now r.tasks)) c.vacate.ensures
-    ∙ orphan_lags c.args.time c.args.ticks c.args.cpu old.seats old.tasks seat sits past c.args.lags.now c.in_default-at.ensures.absent
 
 pub used_in-requires-clause-high : goal.used_in-requires-clause-high
 used_in-requires-clause-high c =
     let left = c.at.result.now.server.left in
     let fits : SFits w128 left = search rules in
     let value : to_z w128 (of_z w128 left) ≡ left = to_z-of_z {w = w128} {z = left} fits in
-    let f = facts_of c.args.self.now c.vacate_at.new.self c.args.time c.args.ticks c.args.cpu c.in-Some-at.place c.in-Some.seat c.at.result.now c.self.inside.queue c.self-2.inside.queue c.self.inside.seats c.self-2.inside.seats c.self.inside.tasks c.self-2.inside.tasks c.vacate_at.ensures c.self.view_is c.self.invariant.waits c.self-2.view_is c.in-Some.ensures.seat c.in-Some.ensures.ahead c.in-Some-at.ensures.there c.in-Some-at.ensures.home c.at.ensures c.requires.some c.requires.early c.requires.ends c.requires.sound in
+    let f = facts_at c.args.self.now c.vacate_at.new.self c.args.time c.args.ticks c.args.cpu c.args.place c.args.seat c.at.result.now c.self.inside.queue c.self-2.inside.queue c.self.inside.seats c.self-2.inside.seats c.self.inside.tasks c.self-2.inside.tasks c.vacate_at.ensures c.self.view_is c.self.invariant.waits c.self-2.view_is c.requires.sits c.requires.ahead c.requires.at c.requires.home c.at.ensures c.requires.some c.requires.early c.requires.ends c.requires.sound in
     subst (λ (z : ℤ). z ≤ℤ pos (2 ^ 52)) (sym value) f.fin.high
 
 pub used_in-requires-clause-lasted : goal.used_in-requires-clause-lasted
@@ -47,15 +31,15 @@ used_in-requires-clause-lasted c =
     let left = c.at.result.now.server.left in
     let fits : SFits w128 left = search rules in
     let value : to_z w128 (of_z w128 left) ≡ left = to_z-of_z {w = w128} {z = left} fits in
-    let f = facts_of c.args.self.now c.vacate_at.new.self c.args.time c.args.ticks c.args.cpu c.in-Some-at.place c.in-Some.seat c.at.result.now c.self.inside.queue c.self-2.inside.queue c.self.inside.seats c.self-2.inside.seats c.self.inside.tasks c.self-2.inside.tasks c.vacate_at.ensures c.self.view_is c.self.invariant.waits c.self-2.view_is c.in-Some.ensures.seat c.in-Some.ensures.ahead c.in-Some-at.ensures.there c.in-Some-at.ensures.home c.at.ensures c.requires.some c.requires.early c.requires.ends c.requires.sound in
-    subst (λ (z : ℤ). pos (c.in-Some.seat.rate * (c.args.ticks - 1)) <ℤ z) (sym value) f.fin.lasts.lasted
+    let f = facts_at c.args.self.now c.vacate_at.new.self c.args.time c.args.ticks c.args.cpu c.args.place c.args.seat c.at.result.now c.self.inside.queue c.self-2.inside.queue c.self.inside.seats c.self-2.inside.seats c.self.inside.tasks c.self-2.inside.tasks c.vacate_at.ensures c.self.view_is c.self.invariant.waits c.self-2.view_is c.requires.sits c.requires.ahead c.requires.at c.requires.home c.at.ensures c.requires.some c.requires.early c.requires.ends c.requires.sound in
+    subst (λ (z : ℤ). pos (c.args.seat.rate * (c.args.ticks - 1)) <ℤ z) (sym value) f.fin.lasts.lasted
 
 pub left_after-left-requires-clause-lifted : goal.left_after-left-requires-clause-lifted
 left_after-left-requires-clause-lifted c =
     let left = c.at.result.now.server.left in
     let fits : SFits w128 left = search rules in
     let value : to_z w128 (of_z w128 left) ≡ left = to_z-of_z {w = w128} {z = left} fits in
-    let f = facts_of c.args.self.now c.vacate_at.new.self c.args.time c.args.ticks c.args.cpu c.in-Some-at.place c.in-Some.seat c.at.result.now c.self.inside.queue c.self-2.inside.queue c.self.inside.seats c.self-2.inside.seats c.self.inside.tasks c.self-2.inside.tasks c.vacate_at.ensures c.self.view_is c.self.invariant.waits c.self-2.view_is c.in-Some.ensures.seat c.in-Some.ensures.ahead c.in-Some-at.ensures.there c.in-Some-at.ensures.home c.at.ensures c.requires.some c.requires.early c.requires.ends c.requires.sound in
+    let f = facts_at c.args.self.now c.vacate_at.new.self c.args.time c.args.ticks c.args.cpu c.args.place c.args.seat c.at.result.now c.self.inside.queue c.self-2.inside.queue c.self.inside.seats c.self-2.inside.seats c.self.inside.tasks c.self-2.inside.tasks c.vacate_at.ensures c.self.view_is c.self.invariant.waits c.self-2.view_is c.requires.sits c.requires.ahead c.requires.at c.requires.home c.at.ensures c.requires.some c.requires.early c.requires.ends c.requires.sound in
     subst (λ (z : ℤ). pos 0 <ℤ z) (sym value) f.fin.lifted
 
 pub left_after-left-requires-clause-high : goal.left_after-left-requires-clause-high
@@ -63,7 +47,7 @@ left_after-left-requires-clause-high c =
     let left = c.at.result.now.server.left in
     let fits : SFits w128 left = search rules in
     let value : to_z w128 (of_z w128 left) ≡ left = to_z-of_z {w = w128} {z = left} fits in
-    let f = facts_of c.args.self.now c.vacate_at.new.self c.args.time c.args.ticks c.args.cpu c.in-Some-at.place c.in-Some.seat c.at.result.now c.self.inside.queue c.self-2.inside.queue c.self.inside.seats c.self-2.inside.seats c.self.inside.tasks c.self-2.inside.tasks c.vacate_at.ensures c.self.view_is c.self.invariant.waits c.self-2.view_is c.in-Some.ensures.seat c.in-Some.ensures.ahead c.in-Some-at.ensures.there c.in-Some-at.ensures.home c.at.ensures c.requires.some c.requires.early c.requires.ends c.requires.sound in
+    let f = facts_at c.args.self.now c.vacate_at.new.self c.args.time c.args.ticks c.args.cpu c.args.place c.args.seat c.at.result.now c.self.inside.queue c.self-2.inside.queue c.self.inside.seats c.self-2.inside.seats c.self.inside.tasks c.self-2.inside.tasks c.vacate_at.ensures c.self.view_is c.self.invariant.waits c.self-2.view_is c.requires.sits c.requires.ahead c.requires.at c.requires.home c.at.ensures c.requires.some c.requires.early c.requires.ends c.requires.sound in
     subst (λ (z : ℤ). z ≤ℤ pos (2 ^ 52)) (sym value) f.fin.high
 
 pub turn_charged-requires-clause-may : goal.turn_charged-requires-clause-may
@@ -74,20 +58,20 @@ turn_charged-requires-clause-may c d =
     let new = c.left_after-left.result in
     let fits2 : SFits w128 new = search rules in
     let value2 : to_z w128 (of_z w128 new) ≡ new = to_z-of_z {w = w128} {z = new} fits2 in
-    let used : c.used_in.result ≡ c.in-Some.seat.rate * c.args.ticks = c.used_in.ensures.used ∙ times_one c.in-Some.seat.rate c.args.ticks c.requires.some in
-    let left_is : to_z w128 (of_z w128 new) ≡ left -ℤ pos (c.in-Some.seat.rate * c.args.ticks) = value2 ∙ c.left_after-left.ensures ∙ (λ i. value i -ℤ pos (used i)) in
-    let f = facts_of c.args.self.now c.vacate_at.new.self c.args.time c.args.ticks c.args.cpu c.in-Some-at.place c.in-Some.seat c.at.result.now c.self.inside.queue c.self-2.inside.queue c.self.inside.seats c.self-2.inside.seats c.self.inside.tasks c.self-2.inside.tasks c.vacate_at.ensures c.self.view_is c.self.invariant.waits c.self-2.view_is c.in-Some.ensures.seat c.in-Some.ensures.ahead c.in-Some-at.ensures.there c.in-Some-at.ensures.home c.at.ensures c.requires.some c.requires.early c.requires.ends c.requires.sound in
+    let used : c.used_in.result ≡ c.args.seat.rate * c.args.ticks = c.used_in.ensures.used ∙ times_one c.args.seat.rate c.args.ticks c.requires.some in
+    let left_is : to_z w128 (of_z w128 new) ≡ left -ℤ pos (c.args.seat.rate * c.args.ticks) = value2 ∙ c.left_after-left.ensures ∙ (λ i. value i -ℤ pos (used i)) in
+    let f = facts_at c.args.self.now c.vacate_at.new.self c.args.time c.args.ticks c.args.cpu c.args.place c.args.seat c.at.result.now c.self.inside.queue c.self-2.inside.queue c.self.inside.seats c.self-2.inside.seats c.self.inside.tasks c.self-2.inside.tasks c.vacate_at.ensures c.self.view_is c.self.invariant.waits c.self-2.view_is c.requires.sits c.requires.ahead c.requires.at c.requires.home c.at.ensures c.requires.some c.requires.early c.requires.ends c.requires.sound in
     let x = c.at.result.now in
-    let p = c.in-Some-at.place in
-    let is : x ≡ get_or c.vacate_at.new.self.tasks p d = f.read ∙ get_or_default c.args.self.now.tasks p x d c.in-Some-at.ensures.there.within ∙ ap (λ (r : RosterView). get_or r.tasks p d) (sym c.vacate_at.ensures) in
+    let p = c.args.place in
+    let is : x ≡ get_or c.vacate_at.new.self.tasks p d = f.read ∙ get_or_default c.args.self.now.tasks p x d c.requires.at.within ∙ ap (λ (r : RosterView). get_or r.tasks p d) (sym c.vacate_at.ensures) in
     subst (MayRun c.args.time c.args.ticks (to_z w128 (of_z w128 new))) is (subst (λ (z : ℤ). MayRun c.args.time c.args.ticks z x) (sym left_is) f.fin.may)
 
 pub turn_charged-requires-clause-free : goal.turn_charged-requires-clause-free
 turn_charged-requires-clause-free c d =
     let old = c.args.self.now in
-    let p = c.in-Some-at.place in
+    let p = c.args.place in
     ap (λ (r : RosterView). get_or r.seats (get_or r.tasks p d).cpu None) c.vacate_at.ensures
-    ∙ ap (λ (n : ℕ). get_or (set old.seats c.args.cpu None) n None) (c.in-Some-at.ensures.home d)
+    ∙ ap (λ (n : ℕ). get_or (set old.seats c.args.cpu None) n None) (c.requires.home d)
     ∙ none_at old.seats c.args.cpu
 
 pub returns-clause-seats : goal.returns-clause-seats
@@ -95,15 +79,15 @@ returns-clause-seats c = c.turn_charged.ensures.seats ∙ ap (λ (r : RosterView
 
 -- what the task there becomes
 pub record IsFinished (c : goal.After-turn_charged) : Type 0 where
-  pub sits : get_or c.args.self.now.seats c.args.cpu None ≡ Some c.in-Some.seat
-  pub read : c.at.result.now ≡ get_or c.args.self.now.tasks c.in-Some-at.place c.at.result.now
+  pub sits : get_or c.args.self.now.seats c.args.cpu None ≡ Some c.args.seat
+  pub read : c.at.result.now ≡ get_or c.args.self.now.tasks c.args.place c.at.result.now
   pub home : c.at.result.now.cpu ≡ c.args.cpu
-  pub number : c.at.result.now.number ≡ c.in-Some.seat.number
+  pub number : c.at.result.now.number ≡ c.args.seat.number
   pub contends : is_contending c.at.result.now.condition ≡ true
   pub numbered : AllPairs (λ a b. a.number ≢ b.number) c.args.self.now.tasks
   pub seats : c.turn_charged.new.self.seats ≡ set c.args.self.now.seats c.args.cpu None
-  pub tasks : c.turn_charged.new.self.tasks ≡ set c.args.self.now.tasks c.in-Some-at.place (without_zero_lag (ran_until c.args.time c.args.ticks (c.at.result.now.server.left -ℤ pos (c.in-Some.seat.rate * c.args.ticks)) c.at.result.now))
-  pub aside : c.turn_charged.result ≡ (ran_until c.args.time c.args.ticks (c.at.result.now.server.left -ℤ pos (c.in-Some.seat.rate * c.args.ticks)) c.at.result.now).zero_lag
+  pub tasks : c.turn_charged.new.self.tasks ≡ set c.args.self.now.tasks c.args.place (without_zero_lag (ran_until c.args.time c.args.ticks (c.at.result.now.server.left -ℤ pos (c.args.seat.rate * c.args.ticks)) c.at.result.now))
+  pub aside : c.turn_charged.result ≡ (ran_until c.args.time c.args.ticks (c.at.result.now.server.left -ℤ pos (c.args.seat.rate * c.args.ticks)) c.at.result.now).zero_lag
 
 finished : (c : goal.After-turn_charged) → IsFinished c
 finished c =
@@ -113,12 +97,12 @@ finished c =
     let new = c.left_after-left.result in
     let fits2 : SFits w128 new = search rules in
     let value2 : to_z w128 (of_z w128 new) ≡ new = to_z-of_z {w = w128} {z = new} fits2 in
-    let used : c.used_in.result ≡ c.in-Some.seat.rate * c.args.ticks = c.used_in.ensures.used ∙ times_one c.in-Some.seat.rate c.args.ticks c.requires.some in
-    let left_is : to_z w128 (of_z w128 new) ≡ left -ℤ pos (c.in-Some.seat.rate * c.args.ticks) = value2 ∙ c.left_after-left.ensures ∙ (λ i. value i -ℤ pos (used i)) in
-    let f = facts_of c.args.self.now c.vacate_at.new.self c.args.time c.args.ticks c.args.cpu c.in-Some-at.place c.in-Some.seat c.at.result.now c.self.inside.queue c.self-2.inside.queue c.self.inside.seats c.self-2.inside.seats c.self.inside.tasks c.self-2.inside.tasks c.vacate_at.ensures c.self.view_is c.self.invariant.waits c.self-2.view_is c.in-Some.ensures.seat c.in-Some.ensures.ahead c.in-Some-at.ensures.there c.in-Some-at.ensures.home c.at.ensures c.requires.some c.requires.early c.requires.ends c.requires.sound in
+    let used : c.used_in.result ≡ c.args.seat.rate * c.args.ticks = c.used_in.ensures.used ∙ times_one c.args.seat.rate c.args.ticks c.requires.some in
+    let left_is : to_z w128 (of_z w128 new) ≡ left -ℤ pos (c.args.seat.rate * c.args.ticks) = value2 ∙ c.left_after-left.ensures ∙ (λ i. value i -ℤ pos (used i)) in
+    let f = facts_at c.args.self.now c.vacate_at.new.self c.args.time c.args.ticks c.args.cpu c.args.place c.args.seat c.at.result.now c.self.inside.queue c.self-2.inside.queue c.self.inside.seats c.self-2.inside.seats c.self.inside.tasks c.self-2.inside.tasks c.vacate_at.ensures c.self.view_is c.self.invariant.waits c.self-2.view_is c.requires.sits c.requires.ahead c.requires.at c.requires.home c.at.ensures c.requires.some c.requires.early c.requires.ends c.requires.sound in
     let mid = c.vacate_at.new.self in
     let x = c.at.result.now in
-    let p = c.in-Some-at.place in
+    let p = c.args.place in
     let k = c.args.ticks in
     let y : ℤ → Task = λ z. without_zero_lag (ran_until c.args.time k z x) in
     let is : get_or mid.tasks p x ≡ x = sym (f.read ∙ ap (λ (r : RosterView). get_or r.tasks p x) (sym c.vacate_at.ensures)) in
@@ -140,9 +124,9 @@ returns-clause-tasks c =
     let old = c.args.self.now in
     let x = c.at.result.now in
     let k = c.args.ticks in
-    let z = x.server.left -ℤ pos (c.in-Some.seat.rate * k) in
+    let z = x.server.left -ℤ pos (c.args.seat.rate * k) in
     (λ i. map (passed_bare c.args.time k (f.seats i)) (f.tasks i))
-    ∙ finished_bare c.args.time k c.args.cpu old.seats old.tasks c.in-Some.seat f.sits c.in-Some-at.place x c.in-Some-at.ensures.there.within f.read f.number f.home f.numbered (ran_until c.args.time k z x) (same_ran_until c.args.time k z x).cpu refl
+    ∙ finished_bare c.args.time k c.args.cpu old.seats old.tasks c.args.seat f.sits c.args.place x c.requires.at.within f.read f.number f.home f.numbered (ran_until c.args.time k z x) (same_ran_until c.args.time k z x).cpu refl
 
 pub returns-clause-lags : goal.returns-clause-lags
 returns-clause-lags c past order =
@@ -150,63 +134,21 @@ returns-clause-lags c past order =
     let old = c.args.self.now in
     let x = c.at.result.now in
     let k = c.args.ticks in
-    let p = c.in-Some-at.place in
-    let z = x.server.left -ℤ pos (c.in-Some.seat.rate * k) in
-    let bare : x.zero_lag ≡ None = ap (λ (t : Task). t.zero_lag) f.read ∙ (c.requires.bare p x c.in-Some-at.ensures.there.within).lag in
+    let p = c.args.place in
+    let z = x.server.left -ℤ pos (c.args.seat.rate * k) in
+    let bare : x.zero_lag ≡ None = ap (λ (t : Task). t.zero_lag) f.read ∙ (c.requires.bare p x c.requires.at.within).lag in
     (λ i. map (time_passed c.args.time k (f.seats i)) (with_lags past (set c.args.lags.now p (f.aside i)) (f.tasks i)))
-    ∙ finished_lags c.args.time k c.args.cpu old.seats old.tasks c.in-Some.seat f.sits p x c.in-Some-at.ensures.there.within f.read f.number f.home f.numbered past c.args.lags.now (ran_until c.args.time k z x) order (omega (arith, c.in-Some-at.ensures.there.within, c.self.invariant.counted.roster.few, ap (λ (r : RosterView). length r.tasks) c.self.view_is)) bare f.contends (same_ran_until c.args.time k z x).cpu refl
+    ∙ finished_lags c.args.time k c.args.cpu old.seats old.tasks c.args.seat f.sits p x c.requires.at.within f.read f.number f.home f.numbered past c.args.lags.now (ran_until c.args.time k z x) order (omega (arith, c.requires.at.within, c.self.invariant.counted.roster.few, ap (λ (r : RosterView). length r.tasks) c.self.view_is)) bare f.contends (same_ran_until c.args.time k z x).cpu refl
 
 pub returns-clause-bare : goal.returns-clause-bare
 returns-clause-bare c =
     let f = finished c in
     let x = c.at.result.now in
     let k = c.args.ticks in
-    let p = c.in-Some-at.place in
-    let z = x.server.left -ℤ pos (c.in-Some.seat.rate * k) in
-    let fixed : x.params.reclaim ≡ false = ap (λ (t : Task). t.params.reclaim) f.read ∙ (c.requires.bare p x c.in-Some-at.ensures.there.within).fixed in
+    let p = c.args.place in
+    let z = x.server.left -ℤ pos (c.args.seat.rate * k) in
+    let fixed : x.params.reclaim ≡ false = ap (λ (t : Task). t.params.reclaim) f.read ∙ (c.requires.bare p x c.requires.at.within).fixed in
     subst (λ ts. All IsBare ts) (sym f.tasks) (All-set IsBare c.args.self.now.tasks p (without_zero_lag (ran_until c.args.time k z x)) (record { lag = refl; fixed = ap (λ q. q.reclaim) (same_ran_until c.args.time k z x).params ∙ fixed }) c.requires.bare)
-
-pub returns-in_default-clause-cpus : goal.returns-in_default-clause-cpus
-returns-in_default-clause-cpus c = grind (arith, common_steps)
-
-pub returns-in_default-clause-places : goal.returns-in_default-clause-places
-returns-in_default-clause-places c = grind (arith, common_steps)
-
-pub returns-in_default-clause-clock : goal.returns-in_default-clause-clock
-returns-in_default-clause-clock c = grind (arith, common_steps)
-
-pub returns-in_default-clause-seats : goal.returns-in_default-clause-seats
-returns-in_default-clause-seats c = grind (arith, common_steps)
-
-pub returns-in_default-clause-tasks : goal.returns-in_default-clause-tasks
-returns-in_default-clause-tasks c = grind (arith, common_steps)
-
-pub returns-in_default-clause-lags : goal.returns-in_default-clause-lags
-returns-in_default-clause-lags c = grind (arith, common_steps)
-
-pub returns-in_default-clause-sound : goal.returns-in_default-clause-sound
-returns-in_default-clause-sound c = grind (arith, common_steps)
-
-pub returns-in_default-clause-bare : goal.returns-in_default-clause-bare
-returns-in_default-clause-bare c = grind (arith, common_steps)
-
-pub returns-in_default-at-clause-cpus : goal.returns-in_default-at-clause-cpus
-returns-in_default-at-clause-cpus c = grind (arith, common_steps)
-
-pub returns-in_default-at-clause-places : goal.returns-in_default-at-clause-places
-returns-in_default-at-clause-places c = grind (arith, common_steps)
-
-pub returns-in_default-at-clause-clock : goal.returns-in_default-at-clause-clock
-returns-in_default-at-clause-clock c = grind (arith, common_steps)
-
-pub returns-in_default-at-clause-seats : goal.returns-in_default-at-clause-seats
-returns-in_default-at-clause-seats c = grind (arith, common_steps)
-
-pub returns-in_default-at-clause-sound : goal.returns-in_default-at-clause-sound
-returns-in_default-at-clause-sound c = grind (arith, common_steps)
-
-pub returns-in_default-at-clause-bare : goal.returns-in_default-at-clause-bare
-returns-in_default-at-clause-bare c = grind (arith, common_steps)
 
 pub vacate_at-requires-clause-there : goal.vacate_at-requires-clause-there
 vacate_at-requires-clause-there c = grind (arith, common_steps)
@@ -249,12 +191,6 @@ returns-clause-clock c = grind (arith, common_steps)
 
 pub returns-clause-sound : goal.returns-clause-sound
 returns-clause-sound c = grind (arith, common_steps)
-
-pub get-requires : goal.get-requires
-get-requires c = grind (arith, common_steps)
-
-pub place_on-at-requires : goal.place_on-at-requires
-place_on-at-requires c = grind (arith, common_steps)
 
 pub at-requires : goal.at-requires
 at-requires c = grind (arith, common_steps)

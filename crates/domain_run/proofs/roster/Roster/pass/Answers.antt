@@ -1,6 +1,5 @@
-use Rattle.std.proofs.Common.{◌≡◌, ◌<◌, ◌≤◌, ◌+◌, ◌^◌, ℕ, Option, None, List, length, map, get_or, set, sym, ap, subst, ◌∙◌, arith}
+use Rattle.std.proofs.Common.{◌≡◌, ◌<◌, ◌≤◌, ◌+◌, ◌^◌, ℕ, Option, None, List, length, map, get_or, sym, ap, subst, ◌∙◌, arith}
 use Rattle.std.specs.Prelude.{All, IfSome}
-use Rattle.std.proofs.lemmas.List.{length-set}
 use Rattle.std.proofs.lemmas.Grind.{common_steps}
 use Rattle.domain_run.specs.declared.task.Task.{Task}
 use Rattle.due_times.specs.declared.seats.Seat.{Seat}
@@ -8,35 +7,37 @@ use Rattle.domain_run.specs.Sound.{IsSound}
 use Rattle.domain_run.specs.private.Roster.{RosterView}
 use Rattle.due_times.specs.Seats.{SeatsView, IsAhead, end_of}
 use Rattle.due_times.specs.Timers.{AreLater}
+use Rattle.domain_run.specs.private.Extending.{HasExpired}
 use Rattle.domain_run.specs.private.Waiting.{owed, owed_all, seat_of_task, AllWait, time_passed}
 use Rattle.domain_run.proofs.Waiting.{alike_owed, counted_like, counted_unlike}
-use Rattle.domain_run.proofs.Later.{later_next, ends_next, strict_ends, pass_view, pass_sound}
+use Rattle.domain_run.proofs.Later.{length_expired, later_next, ends_next, strict_ends, pass_view, pass_sound}
 use Rattle.domain_run.proofs.Doubting.{clock_settled}
 use Rattle.domain_run.proofs.roster.Roster.pass.Goals as goal
 
 pub loop-cpu-preserved : goal.loop-cpu-preserved
 loop-cpu-preserved c =
     let l = c.loop-cpu in
-    let new = c.finish_at.new.self in
-    let seats : new.seats ≡ set l.self.seats l.cpu None = c.finish_at.ensures.seats in
+    let new = c.expire_at.new.self in
+    let end : l.self.clock + c.args.ticks ≡ c.upto.result + c.args.ticks = omega (arith, l.invariant.end, l.invariant.clock) in
+    let expired = subst (λ (n : ℕ). HasExpired n l.cpu l.self.seats new.seats) end c.expire_at.ensures.seats in
     let s = c.self-in-loop-cpu-2.inside in
     let next = c.next_ended-cpu-in-loop-cpu in
     let view : s.seats.seats ≡ new.seats = ap (λ (r : RosterView). r.seats) c.self-in-loop-cpu-2.view_is in
-    let many : length new.seats ≡ length l.self.seats = ap (λ (xs : List (Option Seat)). length xs) seats ∙ length-set l.self.seats l.cpu None in
+    let many : length new.seats ≡ length l.self.seats = length_expired (c.upto.result + c.args.ticks) l.cpu l.self.seats new.seats expired in
     let inside : l.cpu < length l.self.seats = omega (arith, c.loop-cpu-test.true, c.len.ensures.len, ap (λ (r : RosterView). length r.seats) c.self-in-loop-cpu.view_is) in
     let early : c.upto.result + c.args.ticks ≤ 2 ^ 62 = omega (arith, l.invariant.end, c.requires.clock) in
-    let behind = subst (λ (xs : List (Option Seat)). AreLater (map end_of xs) (c.upto.result + c.args.ticks) (l.cpu + 1) next.result) (view ∙ seats) next.ensures.others in
+    let behind = subst (λ (xs : List (Option Seat)). AreLater (map end_of xs) (c.upto.result + c.args.ticks) (l.cpu + 1) next.result) view next.ensures.others in
     record {
-      cpus = c.finish_at.ensures.cpus ∙ l.invariant.cpus;
-      places = c.finish_at.ensures.places ∙ l.invariant.places;
-      clock = c.finish_at.ensures.clock ∙ l.invariant.clock;
+      cpus = c.expire_at.ensures.cpus ∙ l.invariant.cpus;
+      places = c.expire_at.ensures.places ∙ l.invariant.places;
+      clock = c.expire_at.ensures.clock ∙ l.invariant.clock;
       end = l.invariant.end;
       within = let most = next.ensures.most in omega (arith, most, ap (λ (xs : List (Option Seat)). length xs) view);
       long = many ∙ l.invariant.long;
-      later = subst (λ (xs : List (Option Seat)). AreLater (map end_of xs) (c.upto.result + c.args.ticks) 0 next.result) (sym seats) (later_next l.self.seats (c.upto.result + c.args.ticks) l.cpu next.result early inside l.invariant.later behind);
-      ends = subst (λ (xs : List (Option Seat)). (cpu : ℕ) → IfSome (get_or xs cpu None) (λ s. c.args.self.now.clock + c.args.ticks ≤ s.end)) (sym seats) (ends_next (λ s. c.args.self.now.clock + c.args.ticks ≤ s.end) l.self.seats l.cpu l.invariant.ends);
-      left = c.finish_at.ensures.tasks ∙ l.invariant.left;
-      sound = c.finish_at.ensures.sound;
+      later = later_next l.self.seats new.seats (c.upto.result + c.args.ticks) l.cpu next.result early expired l.invariant.later behind;
+      ends = subst (λ (n : ℕ). (cpu : ℕ) → IfSome (get_or new.seats cpu None) (λ s. n ≤ s.end)) l.invariant.end (ends_next (c.upto.result + c.args.ticks) l.cpu l.self.seats new.seats expired (subst (λ (n : ℕ). (cpu : ℕ) → IfSome (get_or l.self.seats cpu None) (λ s. n ≤ s.end)) (sym l.invariant.end) l.invariant.ends));
+      left = c.expire_at.ensures.tasks ∙ l.invariant.left;
+      sound = c.expire_at.ensures.sound;
     }
 
 -- no seat ends up to then
@@ -84,20 +85,20 @@ returns-clause-sound c =
 pub loop-cpu-init : goal.loop-cpu-init
 loop-cpu-init c = grind (arith, common_steps)
 
-pub finish_at-requires-clause-there : goal.finish_at-requires-clause-there
-finish_at-requires-clause-there c = grind (arith, common_steps)
+pub expire_at-requires-clause-there : goal.expire_at-requires-clause-there
+expire_at-requires-clause-there c = grind (arith, common_steps)
 
-pub finish_at-requires-clause-some : goal.finish_at-requires-clause-some
-finish_at-requires-clause-some c = grind (arith, common_steps)
+pub expire_at-requires-clause-some : goal.expire_at-requires-clause-some
+expire_at-requires-clause-some c = grind (arith, common_steps)
 
-pub finish_at-requires-clause-early : goal.finish_at-requires-clause-early
-finish_at-requires-clause-early c = grind (arith, common_steps)
+pub expire_at-requires-clause-early : goal.expire_at-requires-clause-early
+expire_at-requires-clause-early c = grind (arith, common_steps)
 
-pub finish_at-requires-clause-ends : goal.finish_at-requires-clause-ends
-finish_at-requires-clause-ends c = grind (arith, common_steps)
+pub expire_at-requires-clause-ends : goal.expire_at-requires-clause-ends
+expire_at-requires-clause-ends c = grind (arith, common_steps)
 
-pub finish_at-requires-clause-sound : goal.finish_at-requires-clause-sound
-finish_at-requires-clause-sound c = grind (arith, common_steps)
+pub expire_at-requires-clause-sound : goal.expire_at-requires-clause-sound
+expire_at-requires-clause-sound c = grind (arith, common_steps)
 
 pub pass-requires-clause-early : goal.pass-requires-clause-early
 pass-requires-clause-early c = grind (arith, common_steps)

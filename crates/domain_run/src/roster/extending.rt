@@ -1,0 +1,119 @@
+//! A running task that has work again where its work ends keeps its seat, which ends later. Neither
+//! the sums nor the choice nor the timers see it, so nothing else changes.
+
+ghost use Rattle.std.specs.Prelude.{◌≡◌, ◌<◌, ◌≤◌, ◌+◌, ◌-◌, ◌^◌, All, IfSome, IsTrue, None, Some, false, slice_index_or};
+ghost use Rattle.task_script.specs.script.Segments.{next_segment, work_in};
+ghost use Rattle.due_times.specs.Seats.{IsAhead};
+ghost use Rattle.domain_run.specs.declared.task.Task.{Task};
+ghost use Rattle.domain_run.specs.Sound.{IsSound};
+ghost use Rattle.domain_run.specs.private.Extending as spec;
+ghost use Rattle.domain_run.specs.private.Index.{IsListedAt};
+ghost use Rattle.domain_run.specs.private.Waiting.{Waits};
+
+use super::Roster;
+use super::rating::{lasting, left_in};
+use crate::task::Task;
+use due_times::Seat;
+
+/// How much work a running task has again where its work ends, and when its seat ends then.
+#[derive(Clone, Copy)]
+pub(super) struct More {
+    /// In microseconds.
+    work: u64,
+    /// By the clock of the seats, in microseconds.
+    end: u64,
+}
+
+/// The work that a task has again, if its work ends when the clock of the seats comes to `upto`.
+#[inline(always)]
+fn work_again(task: &Task, seat: Seat, upto: u64, time: u64) -> Option<u64>
+    requires since { seat.since ≤ upto }
+    requires early { time < 2 ^ 43 }
+    requires timed { task.now.cursor.reference ≤ time }
+    ensures worked { IfSome result (λ n. task.now.work ≡ upto - seat.since) }
+    ensures asked { IfSome result
+        (λ n. work_in (next_segment task.now.cursor time).segment ≡ Some n) }
+    ensures within { IfSome result (λ n. (0 < n) × (n ≤ 1000000000)) }
+{
+    if task.work != upto - seat.since {
+        return None;
+    }
+    task.cursor.next_work(time)
+}
+
+/// What a task has again whose work ends when the clock of the seats comes to `upto`, if its budget
+/// does not end there too.
+#[inline(always)]
+fn more_of(task: &Task, seat: Seat, upto: u64, time: u64) -> Option<More>
+    requires early { time < 2 ^ 43 }
+    requires timed { task.now.cursor.reference ≤ time }
+    requires since { seat.since < upto }
+    requires soon { upto ≤ 2 ^ 62 }
+    requires end { upto ≤ seat.end }
+    requires waits { Waits seat task.now }
+    ensures { IfSome result (λ m. spec.MayExtend upto time seat m task.now) }
+{
+    let Some(work) = work_again(task, seat, upto, time) else {
+        return None;
+    };
+    let wanted = task.work + work;
+    let spent = lasting(left_in(task), seat.rate, wanted);
+    let end = seat.since + wanted.min(spent);
+    if end <= upto {
+        return None;
+    }
+    Some(More { work, end })
+}
+
+/// A task has so much work more, which its script has it do next.
+#[inline(always)]
+fn add_work(task: &mut Task, work: u64, time: u64)
+    requires early { time < 2 ^ 43 }
+    requires timed { task.old.cursor.reference ≤ time }
+    requires short { task.old.work + work < 2 ^ 64 }
+    requires asked { work_in (next_segment task.old.cursor time).segment ≡ Some work }
+    ensures task { task.new ≡ spec.with_more time work task.old }
+    ensures timed { task.new.cursor.reference ≤ time }
+{
+    task.work += work;
+    task.cursor.pass_work(time);
+}
+
+impl Roster {
+    /// Who sits on a CPU, the task at a place, sits on after so many ticks, if its work ends with
+    /// them, its script has it run on, and its budget lasts. Whether it does; else nothing changes.
+    #[inline(always)]
+    pub(super) fn extend_at(
+        &mut self,
+        cpu: usize,
+        place: usize,
+        seat: Seat,
+        ticks: u64,
+        time: u64,
+    ) -> bool
+        requires there { cpu < self.old.cpus }
+        requires sits { slice_index_or self.old.seats cpu None ≡ Some seat }
+        requires at { IsListedAt self.old.tasks seat.number place }
+        requires home { (d : Task) → (slice_index_or self.old.tasks place d).cpu ≡ cpu }
+        requires ahead { IsAhead self.old.clock seat }
+        requires some { 0 < ticks }
+        requires early { time < 2 ^ 43 }
+        requires clock { self.old.clock + ticks ≤ 2 ^ 62 }
+        requires ends { self.old.clock + ticks ≤ seat.end }
+        requires sound { All (IsSound time) self.old.tasks }
+        ensures cpus { self.new.cpus ≡ self.old.cpus }
+        ensures places { self.new.places ≡ self.old.places }
+        ensures clock { self.new.clock ≡ self.old.clock }
+        ensures same { result ≡ false → self.new ≡ self.old }
+        ensures on { IsTrue result → spec.HasGoneOn time ticks cpu place seat self.old self.new }
+        ensures sound { All (IsSound time) self.new.tasks }
+    {
+        let upto = self.seats.upto() + ticks;
+        let Some(more) = more_of(self.tasks.at(place), seat, upto, time) else {
+            return false;
+        };
+        add_work(self.tasks.at_mut(place), more.work, time);
+        self.seats.end_at(cpu, more.end);
+        true
+    }
+}
