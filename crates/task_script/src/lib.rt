@@ -9,6 +9,7 @@
 #![tactic(auto)]
 
 mod cursor;
+mod laid;
 mod name;
 mod phase;
 mod progress;

@@ -1,13 +1,14 @@
 //! Scripts: what a task does, as phases of events (own; rt-app's phases and loops).
 
-ghost use Rattle.std.specs.Prelude.{◌≡◌, ◌↔◌, IsTrue, IsOk, MatchResult, IsSome, IfSome, All};
+ghost use Rattle.std.specs.Prelude.{◌≡◌, ◌↔◌, IsTrue, IsOk, IfOk, MatchResult, IsSome, IfSome, All};
 ghost use Rattle.task_script.specs.script.ScriptView.{IsEvent, IsPhase, IsScript, script_of};
 ghost use Rattle.task_script.specs.script.Segments.{IsLoops, rounds_of, loops_of};
 ghost use Rattle.task_script.specs.private.Steps.{IsSteps};
 
+use crate::laid::{Body, Laid};
 use crate::phase::{Event, Phase};
-use crate::steps;
 use crate::steps::Step;
+use no_memory::NoMemory;
 use std::alloc::Global;
 use std::fmt;
 use std::marker::Model;
@@ -17,17 +18,15 @@ use std::marker::Model;
 #[derive(Drop)]
 pub struct Script {
     rounds: Option<u32>,
-    phases: Vec<Phase>,
-    // The events of all phases once more, or none.
-    steps: Vec<Step>,
+    body: Body,
 }
 
-// The steps are left out: they follow from the rest.
+// As if the phases were its own. The steps are left out: they follow from the rest.
 impl fmt::Debug for Script {
     fn fmt<W: fmt::Write>(&self, f: &mut fmt::Formatter<W>) -> fmt::Result {
         f.debug_struct("Script")
             .field("rounds", &self.rounds)
-            .field("phases", &self.phases)
+            .field("phases", &self.body.laid().phases())
             .finish()
     }
 }
@@ -35,13 +34,14 @@ impl fmt::Debug for Script {
 impl Model for Script {
     ghost use Rattle.task_script.specs.script.ScriptView.{ScriptView};
     ghost use Rattle.task_script.specs.private.Steps.{IsLaid};
+    ghost use Rattle.task_script.specs.private.Bodies.{laid_of};
 
     ghost Value = { ScriptView };
 
-    ghost view = { λ s. record { rounds = s.rounds; phases = s.phases.items } };
+    ghost view = { λ s. record { rounds = s.rounds; phases = (laid_of s.body).phases } };
 
     ghost invariant = { λ s. IsLaid
-        (record { rounds = s.rounds; phases = s.phases.items }) s.steps.items };
+        (record { rounds = s.rounds; phases = (laid_of s.body).phases }) (laid_of s.body).steps };
 }
 
 /// What a script answers when it is asked.
@@ -113,11 +113,9 @@ impl Script {
     {
         match rounds_within(loops) {
             Some(rounds) if !phases.is_empty() && phases.len() <= 64 && are_phases(&phases) => {
-                let steps = Vec::new(*phases.allocator());
                 Ok(Script {
                     rounds,
-                    phases,
-                    steps,
+                    body: Body::Own(Laid::bare(phases)),
                 })
             }
             _ => Err(phases),
@@ -129,7 +127,35 @@ impl Script {
     pub fn lay_out(&mut self)
         ensures { self.new ≡ self.old }
     {
-        self.steps = steps::of(self.allocator(), self.phases());
+        if let Body::Own(laid) = &mut self.body {
+            laid.lay_out();
+        }
+    }
+
+    /// Lays the events out, as [`Script::lay_out`] does, and puts the script into a block that its
+    /// copies share: from then on [`Script::copy`] takes no memory. Takes memory for the block, and
+    /// does without where that is refused.
+    pub fn share(self, alloc: Global) -> Script
+        ensures { result ≡ self }
+    {
+        let Script { rounds, body } = self;
+        Script {
+            rounds,
+            body: body.shared(alloc),
+        }
+    }
+
+    /// A copy of the script. Takes no memory where it is shared, else for all phases.
+    ///
+    /// # Errors
+    /// 12 [`NoMemory`]: a growth was refused.
+    pub fn copy(&self, alloc: Global) -> Result<Script, NoMemory>
+        ensures { IfOk result (λ s. s ≡ self.now) }
+    {
+        Ok(Script {
+            rounds: self.rounds,
+            body: self.body.copy(alloc)?,
+        })
     }
 
     /// The number of rounds, -1 for no end.
@@ -149,17 +175,12 @@ impl Script {
         self.rounds
     }
 
-    /// Where the phases have their memory from.
-    pub(crate) fn allocator(&self) -> Global {
-        *self.phases.allocator()
-    }
-
     /// The steps of a round, in order, or none.
     #[inline(always)]
     pub(crate) fn steps(&self) -> &[Step]
         ensures { IsSteps self.now result.now }
     {
-        &self.steps
+        self.body.laid().steps()
     }
 
     /// The phases of a round, in order.
@@ -167,6 +188,6 @@ impl Script {
         ensures phases { result.now ≡ self.now.phases }
         ensures within { IsScript self.now }
     {
-        &self.phases
+        self.body.laid().phases()
     }
 }

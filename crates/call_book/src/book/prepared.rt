@@ -10,7 +10,7 @@ ghost use Rattle.call_book.specs.private.Listing.{IsListing};
 
 use crate::book::same::{same_name, same_params, same_script};
 use attr_check::Params;
-use domain_run::{Call, Name, NoMemory, Phase, Refused, Reply, Script, State};
+use domain_run::{Call, Name, NoMemory, Refused, Reply, Script, State};
 use std::alloc::Global;
 use std::marker::Model;
 
@@ -58,9 +58,10 @@ pub(crate) enum Listing {
     Twice { prepared: Prepared },
 }
 
-/// All growths of an admission: copies of the name and the script, for the domain and for the
-/// history. The admission starts a task of a number from 1 to 65535 after a delay of at most 10^9
-/// us. [`NoMemory`] (ENOMEM 12) where a growth was refused: nothing stands.
+/// All growths of an admission: copies of the name, for the domain and for the history, and a copy
+/// of the script, which both share. A script that is shared already takes no memory. The admission
+/// starts a task of a number from 1 to 65535 after a delay of at most 10^9 us. [`NoMemory`] (ENOMEM
+/// 12) where a growth was refused: nothing stands.
 pub fn prepare(
     alloc: Global,
     number: u32,
@@ -79,15 +80,15 @@ pub fn prepare(
           script = script.now;
         }) }
 {
-    let (own_name, mut own_script) = copies_of(alloc, name, script)?;
+    let (own_name, copy) = copies_of(alloc, name, script)?;
+    // Laid out here, as the admission itself is made under a lock.
+    let own_script = copy.share(alloc);
     // Each is let go of by one call, not written out with all that is inside.
-    let Ok((entry_name, entry_script)) = copies_of(alloc, name, script) else {
+    let Ok((entry_name, entry_script)) = copies_of(alloc, name, &own_script) else {
         drop(own_name);
         drop(own_script);
         return Err(NoMemory);
     };
-    // Here, as the admission itself is made under a lock.
-    own_script.lay_out();
     Ok(Prepared {
         number,
         params,
@@ -105,7 +106,7 @@ fn copies_of(alloc: Global, name: &Name, script: &Script) -> Result<(Name, Scrip
     ensures script { IfOk result (λ p. p.1 ≡ script.now) }
 {
     let name = copy_of_name(alloc, name)?;
-    match copy_of_script(alloc, script) {
+    match script.copy(alloc) {
         Ok(script) => Ok((name, script)),
         Err(NoMemory) => {
             drop(name);
@@ -120,29 +121,6 @@ fn copy_of_name(alloc: Global, name: &Name) -> Result<Name, NoMemory>
     let text = String::from_str(alloc, name.as_str())?;
     match Name::new(text) {
         Ok(name) => Ok(name),
-        Err(_) => unreachable!(),
-    }
-}
-
-fn copies_of_phases(alloc: Global, phases: &[Phase]) -> Result<Vec<Phase>, NoMemory>
-    ensures { IfOk result (λ v. v.items ≡ phases.now) }
-{
-    let mut copies = Vec::with_capacity(alloc, phases.len())?;
-    for phase in phases {
-        copies.push_reserved(Phase {
-            count: phase.count,
-            events: Vec::from_slice(alloc, &phase.events)?,
-        });
-    }
-    Ok(copies)
-}
-
-fn copy_of_script(alloc: Global, script: &Script) -> Result<Script, NoMemory>
-    ensures { IfOk result (λ s. s ≡ script.now) }
-{
-    let phases = copies_of_phases(alloc, script.phases())?;
-    match Script::new(script.loops(), phases) {
-        Ok(script) => Ok(script),
         Err(_) => unreachable!(),
     }
 }

@@ -56,3 +56,8 @@ IsSteps s steps = AreSteps s.phases steps
 pub record IsLaid (s : ScriptView) (laid : List StepView) : Type 0 where
   pub script : IsScript s
   pub steps : IsSteps s laid
+
+-- phases, and their steps or none
+pub record LaidView : Type 0 where
+  pub phases : List PhaseView
+  pub steps : List StepView
