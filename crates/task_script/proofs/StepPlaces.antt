@@ -2,7 +2,9 @@
 use Rattle.std.proofs.Common.{slice_index_or, ◌≡◌, ℕ, zero, suc, ◌+◌, ◌*◌, ◌<◌, ◌≤◌, List, [], ◌∷◌, ◌++◌, length, Some, refl, sym, ap, ◌∙◌, arith, inl, inr, length-append}
 use Rattle.std.proofs.lemmas.List.{append_assoc}
 use Rattle.std.specs.Prelude.{slice_get}
-use Rattle.std.proofs.lemmas.Bool.{cases_lt}
+use Rattle.std.proofs.lemmas.Bool.{cases_lt, le-leb, lt-leb}
+use Rattle.task_script.specs.declared.phase.Event.{Event}
+use Rattle.task_script.specs.declared.phase.Event.TheVariants.{Wait}
 use Rattle.std.proofs.lemmas.Option.{slice_get_read, slice_get_within, get_or_from_slice_get}
 use Rattle.task_script.specs.script.ScriptView.{PhaseView, ScriptView, IsScript}
 use Rattle.task_script.specs.private.Steps.{StepView, step_in_phase, steps_of_phase, steps_of_phases, all_of_phase, no_phase, first_step_of, IsSteps}
@@ -40,6 +42,31 @@ pub more_of_phase : (q : PhaseView) (n : ℕ) (before : List StepView) → (befo
 more_of_phase q n before =
     let next : suc n ≡ n + 1 = omega arith in
     append_assoc before (steps_of_phase q n) (step_in_phase q n ∷ []) ∙ ap (λ k. before ++ steps_of_phase q k) next
+
+-- an event as a loop reads it
+same_at : (events : List Event) (n : ℕ) (event : Event) → n < length events → event ≡ slice_index_or events n event → slice_index_or events n Wait ≡ event
+same_at [] n event h is = absurd (omega (arith, h))
+same_at (e ∷ es) zero event h is = sym is
+same_at (e ∷ es) (suc n) event h is = same_at es n event (omega (arith, h)) is
+
+early_step : (q : PhaseView) (n : ℕ) (event : Event) → n + 1 < length q.events → event ≡ slice_index_or q.events n event → record { event = event; laps = 0 } ≡ step_in_phase q n
+early_step q n event h is =
+    let more = lt-leb (length q.events) (n + 1) h in
+    rw (same_at q.events n event (omega (arith, h)) is, more) refl
+
+last_step : (q : PhaseView) (n : ℕ) (event : Event) → n + 1 ≡ length q.events → event ≡ slice_index_or q.events n event → record { event = event; laps = q.count } ≡ step_in_phase q n
+last_step q n event h is =
+    let none = le-leb (length q.events) (n + 1) (omega (arith, h)) in
+    rw (same_at q.events n event (omega (arith, h)) is, none) refl
+
+one_more : (q : PhaseView) (n : ℕ) (before so_far after : List StepView) (step : StepView) → so_far ≡ before ++ steps_of_phase q n → step ≡ step_in_phase q n → after ≡ so_far ++ step ∷ [] → after ≡ before ++ steps_of_phase q (n + 1)
+one_more q n before so_far after step is made push = push ∙ ap (λ xs. xs ++ step ∷ []) is ∙ ap (λ t. (before ++ steps_of_phase q n) ++ t ∷ []) made ∙ more_of_phase q n before
+
+pub early_added : (q : PhaseView) (n : ℕ) (event : Event) (before so_far after : List StepView) → n + 1 < length q.events → event ≡ slice_index_or q.events n event → so_far ≡ before ++ steps_of_phase q n → after ≡ so_far ++ record { event = event; laps = 0 } ∷ [] → after ≡ before ++ steps_of_phase q (n + 1)
+early_added q n event before so_far after h is invariant push = one_more q n before so_far after (record { event = event; laps = 0 }) invariant (early_step q n event h is) push
+
+pub last_added : (q : PhaseView) (n : ℕ) (event : Event) (before so_far after : List StepView) → n + 1 ≡ length q.events → event ≡ slice_index_or q.events n event → so_far ≡ before ++ steps_of_phase q n → after ≡ so_far ++ record { event = event; laps = q.count } ∷ [] → after ≡ before ++ steps_of_phase q (length q.events)
+last_added q n event before so_far after h is invariant push = one_more q n before so_far after (record { event = event; laps = q.count }) invariant (last_step q n event h is) push ∙ ap (λ k. before ++ steps_of_phase q k) h
 
 -- IN A SCRIPT
 

@@ -4,8 +4,8 @@
 //! Meets the definitions "Name" (`specs/NameView.antt`) and "Script" (`specs/script/`). To the
 //! crates above it promises that a [`Name`] and a [`Script`] are within their limits, and that a
 //! [`Cursor`], asked at any times, gives what the script gives written out, event by event. Takes
-//! memory only to lay a script of more than one phase out, to read it faster, and does without
-//! where that is refused.
+//! memory only to copy a script, to share it, and to lay one of more than one phase out, so that it
+//! is read faster. It does without the last two where memory is refused.
 #![tactic(auto)]
 
 mod cursor;

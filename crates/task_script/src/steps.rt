@@ -3,46 +3,59 @@
 
 ghost use Rattle.std.specs.Prelude.{◌≡◌, ◌<◌, ◌++◌, IfOk, All, length};
 ghost use Rattle.task_script.specs.script.ScriptView.{IsEvent, IsPhase};
-ghost use Rattle.task_script.specs.private.Steps.{AreSteps, laps_at, full, step_in_phase, steps_of_phase};
+ghost use Rattle.task_script.specs.private.Steps.{AreSteps, laps_at, deed_of, micros_of, steps_of_phase};
 
 use crate::phase::{Event, Phase};
 use no_memory::NoMemory;
 use std::alloc::Global;
 use std::marker::Model;
 
-// An event in half the bytes.
+// What an event does. Apart from its microseconds it takes half the bytes.
 #[derive(Clone, Copy)]
-enum Brief {
-    Run(u32),
-    Sleep(u32),
-    Timer(u32),
+enum Deed {
+    Run,
+    Sleep,
+    Timer,
     Wait,
 }
 
 /// An event of a script, and how many laps its phase has where it is the last of them, else 0.
 #[derive(Drop)]
 pub(crate) struct Step {
-    event: Brief,
+    deed: Deed,
+    micros: u32,
     laps: u32,
 }
 
 impl Model for Step {
-    ghost use Rattle.task_script.specs.private.Steps.{StepView, full};
+    ghost use Rattle.task_script.specs.private.Steps.{StepView, event_of};
 
     ghost Value = { StepView };
 
-    ghost view = { λ s. record { event = full s.event; laps = s.laps } };
+    ghost view = { λ s. record { event = event_of s.deed s.micros; laps = s.laps } };
 }
 
-fn shorten(event: Event) -> Brief
-    requires { IsEvent event }
-    ensures { full result ≡ event }
+#[inline(always)]
+fn deed_of(event: &Event) -> Deed
+    ensures { result ≡ deed_of event.now }
 {
     match event {
-        Event::Run(n) => Brief::Run(n as u32),
-        Event::Sleep(n) => Brief::Sleep(n as u32),
-        Event::Timer(n) => Brief::Timer(n as u32),
-        Event::Wait => Brief::Wait,
+        Event::Run(_) => Deed::Run,
+        Event::Sleep(_) => Deed::Sleep,
+        Event::Timer(_) => Deed::Timer,
+        Event::Wait => Deed::Wait,
+    }
+}
+
+// None of a wait.
+#[inline(always)]
+fn micros_of(event: &Event) -> u32
+    requires { IsEvent event.now }
+    ensures { result ≡ micros_of event.now }
+{
+    match event {
+        Event::Run(n) | Event::Sleep(n) | Event::Timer(n) => *n as u32,
+        Event::Wait => 0,
     }
 }
 
@@ -51,11 +64,12 @@ fn shorten(event: Event) -> Brief
 pub(crate) fn event_of_step(step: &Step) -> Event
     ensures { result ≡ step.now.event }
 {
-    match step.event {
-        Brief::Run(n) => Event::Run(n as u64),
-        Brief::Sleep(n) => Event::Sleep(n as u64),
-        Brief::Timer(n) => Event::Timer(n as u64),
-        Brief::Wait => Event::Wait,
+    let micros = step.micros as u64;
+    match step.deed {
+        Deed::Run => Event::Run(micros),
+        Deed::Sleep => Event::Sleep(micros),
+        Deed::Timer => Event::Timer(micros),
+        Deed::Wait => Event::Wait,
     }
 }
 
@@ -81,14 +95,15 @@ pub(crate) fn laps_of(phase: &Phase, event: usize) -> u32
     }
 }
 
-fn make_step(phase: &Phase, event: usize) -> Step
-    requires phase { IsPhase phase.now }
-    requires within { event < length phase.now.events }
-    ensures { result ≡ step_in_phase phase.now event }
+#[inline(always)]
+fn make_step(event: &Event, laps: u32) -> Step
+    requires { IsEvent event.now }
+    ensures { result ≡ record { event = event.now; laps = laps } }
 {
     Step {
-        event: shorten(phase.events[event]),
-        laps: laps_of(phase, event),
+        deed: deed_of(event),
+        micros: micros_of(event),
+        laps,
     }
 }
 
@@ -97,9 +112,11 @@ fn add_phase(steps: &mut Vec<Step>, phase: &Phase) -> Result<(), NoMemory>
     ensures { IfOk result (λ _. steps.new.items ≡ steps.old.items
         ++ steps_of_phase phase.now (length phase.now.events)) }
 {
-    for event in 0..phase.events.len() {
-        steps.push(make_step(phase, event))?;
+    let last = phase.events.len() - 1;
+    for event in 0..last {
+        steps.push(make_step(&phase.events[event], 0))?;
     }
+    steps.push(make_step(&phase.events[last], phase.count as u32))?;
     Ok(())
 }
 

@@ -2,8 +2,8 @@
 use Rattle.std.specs.Prelude.{ℕ, zero, suc, ◌≡◌, ◌+◌, ◌<◌, nat_le, if◌then◌else◌, List, [], ◌∷◌, ◌++◌, length, slice_index_or}
 use Rattle.task_script.specs.declared.phase.Event.{Event}
 use Rattle.task_script.specs.declared.phase.Event.TheVariants.{Run, Sleep, Timer, Wait}
-use Rattle.task_script.specs.declared.steps.Brief.{Brief}
-use Rattle.task_script.specs.declared.steps.Brief.TheVariants.{Run as BriefRun, Sleep as BriefSleep, Timer as BriefTimer, Wait as BriefWait}
+use Rattle.task_script.specs.declared.steps.Deed.{Deed}
+use Rattle.task_script.specs.declared.steps.Deed.TheVariants.{Run as ToRun, Sleep as ToSleep, Timer as ToTimer, Wait as ToWait}
 use Rattle.task_script.specs.script.ScriptView.{PhaseView, ScriptView, IsScript}
 
 -- an event, and how many laps its phase has where it is the last of them, else 0
@@ -11,11 +11,24 @@ pub record StepView : Type 0 where
   pub event : Event
   pub laps : ℕ
 
-abbrev pub full : Brief → Event
-full (BriefRun n) = Run n
-full (BriefSleep n) = Sleep n
-full (BriefTimer n) = Timer n
-full BriefWait = Wait
+-- an event by what it does, and by its microseconds
+abbrev pub event_of : Deed → ℕ → Event
+event_of ToRun n = Run n
+event_of ToSleep n = Sleep n
+event_of ToTimer n = Timer n
+event_of ToWait n = Wait
+
+abbrev pub deed_of : Event → Deed
+deed_of (Run n) = ToRun
+deed_of (Sleep n) = ToSleep
+deed_of (Timer n) = ToTimer
+deed_of Wait = ToWait
+
+abbrev pub micros_of : Event → ℕ
+micros_of (Run n) = n
+micros_of (Sleep n) = n
+micros_of (Timer n) = n
+micros_of Wait = 0
 
 abbrev pub laps_at : PhaseView → ℕ → ℕ
 laps_at q event = if nat_le (length q.events) (event + 1) then q.count else 0
