@@ -7,3 +7,4 @@ mod Counted
 mod Limits
 mod Named
 mod Numbered
+mod Seen

@@ -32,7 +32,7 @@ not_true false h = refl
 not_true true h = absurd cc
 
 -- `phases` is no event's key
-phases_kind : (key : List ℕ) → bytes_eq key (codes "phases") ≡ true → kind_of key ≡ None
+pub phases_kind : (key : List ℕ) → bytes_eq key (codes "phases") ≡ true → kind_of key ≡ None
 unfolding kind_of
 phases_kind key h = let same : key ≡ codes "phases" = (bytes_eq-Decides key (codes "phases")).0 h in rw same refl
 

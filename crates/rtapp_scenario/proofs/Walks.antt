@@ -83,7 +83,7 @@ order_end test ms i h so_far = sym (at_drop_all (λ xs. first_fault_in test (mem
 pub before_more : (ms : List (String Global × Tree)) (i : ℕ) (m : String Global × Tree) → i < length ms → m ≡ get_or ms i m → members_of (take (i + 1) ms) ≡ members_of (take i ms) ++ member_of m ∷ []
 before_more ms i m h e = ap (λ xs. members_of xs) (take_more ms i m h) ∙ map-append member_of (take i ms) (get_or ms i m ∷ []) ∙ ap (λ x. members_of (take i ms) ++ member_of x ∷ []) (sym e)
 
-first_none : {X : Type 0} (o : Option X) → first (o ∷ []) ≡ o
+pub first_none : {X : Type 0} (o : Option X) → first (o ∷ []) ≡ o
 first_none None = refl
 first_none (Some x) = refl
 

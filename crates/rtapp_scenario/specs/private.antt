@@ -1,1 +1,3 @@
 pub mod Marks
+pub mod Before
+pub mod Shapes

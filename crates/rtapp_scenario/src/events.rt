@@ -1,5 +1,5 @@
-ghost use Rattle.std.specs.Prelude.{◌≡◌, [], count_by, Some};
-ghost use Rattle.rtapp_scenario.specs.Values.{member_of, members_of, object_of};
+ghost use Rattle.std.specs.Prelude.{◌≡◌, ◌<◌, List, [], count_by, Some, OnOk};
+ghost use Rattle.rtapp_scenario.specs.Values.{Member, member_of, members_of, object_of};
 ghost use Rattle.rtapp_scenario.specs.Faults.{first_fault_in};
 ghost use Rattle.rtapp_scenario.specs.Keys.{kind_of, is_event};
 ghost use Rattle.rtapp_scenario.specs.Tests.{other_ref, timer_member_fault, timer_fault, event_value_fault, event_fault};
@@ -7,8 +7,7 @@ ghost use Rattle.rtapp_scenario.specs.Told.{flaw_of, ref_seen};
 
 use crate::flaw::Flaw;
 use crate::key::{
-    EventKind, MOST, check_timer_key, check_timer_missing, is_event, is_text, is_whole, kind,
-    unless,
+    EventKind, MOST, check_timer_key, check_timer_missing, is_text, is_whole, unless,
 };
 use crate::value::{is, object};
 use json_order::Tree;
@@ -55,6 +54,8 @@ fn check_timer_members<'a>(
     Ok(())
 }
 
+// Apart, as timers are rare beside other events.
+#[inline(never)]
 fn check_timer<'a>(first_ref: Option<&str>, member: &'a (String, Tree)) -> Result<(), Flaw<'a>>
     ensures { flaw_of result ≡ timer_fault (ref_seen first_ref.entry)
         (object_of (member_of member.now).value) (member_of member.now) }
@@ -67,6 +68,7 @@ fn check_timer<'a>(first_ref: Option<&str>, member: &'a (String, Tree)) -> Resul
 }
 
 /// The value of an event of this kind.
+#[inline(always)]
 #[tactic(auto, unfolding(crate::specs::Tests::event_value_fault, crate::specs::Keys::takes))]
 fn check_event_value<'a>(
     first_ref: Option<&str>,
@@ -85,26 +87,22 @@ fn check_event_value<'a>(
     }
 }
 
-/// How many events these members are, those of 0 us too.
-pub(crate) fn events_in(members: &[(String, Tree)]) -> usize
-    ensures { result ≡ count_by is_event (members_of members.now) }
-{
-    members.iter().filter(|m| is_event(m)).count()
-}
-
-/// An event behind these members of its phase or thread.
+/// An event behind so many of its phase or thread, those of 0 us too.
+#[inline(always)]
 #[tactic(auto, unfolding(crate::specs::Tests::event_fault))]
 pub(crate) fn check_event<'a>(
     first_ref: Option<&str>,
-    before: &[(String, Tree)],
+    events: usize,
     kind: EventKind,
     member: &'a (String, Tree),
 ) -> Result<(), Flaw<'a>>
     requires { kind_of (member_of member.now).key ≡ Some kind }
-    ensures { flaw_of result
-        ≡ event_fault (ref_seen first_ref.entry) (members_of before.now) (member_of member.now) }
+    ensures fault { (before : List Member) → count_by is_event before ≡ events
+        → flaw_of result
+        ≡ event_fault (ref_seen first_ref.entry) before (member_of member.now) }
+    ensures few { OnOk result (events < 64) }
 {
-    if events_in(before) >= MOST_ITEMS {
+    if events >= MOST_ITEMS {
         return Err(Flaw::TooMany);
     }
     check_event_value(first_ref, kind, member)

@@ -1,7 +1,8 @@
-ghost use Rattle.std.specs.Prelude.{◌≡◌, [], map};
+ghost use Rattle.std.specs.Prelude.{◌≡◌, Some, None, if◌then◌else◌, [], map};
 ghost use Rattle.json_order.specs.Seen.{json_of};
 ghost use Rattle.rtapp_scenario.specs.Values.{member_of, members_of, has};
-ghost use Rattle.rtapp_scenario.specs.Keys.{takes, whole, loops, this_text, any_text, cpu_list, are_cpus, thread_keys, phase_keys, timer_keys, key_fault, missing_fault, kind_of, is_event, begins_with};
+ghost use Rattle.rtapp_scenario.specs.Keys.{takes, whole, loops, this_text, any_text, cpu_list, are_cpus, thread_keys, phase_keys, timer_keys, key_fault, missing_fault, kind_of, begins_with};
+ghost use Rattle.rtapp_scenario.specs.Threads.{is_timer};
 ghost use Rattle.rtapp_scenario.specs.Keys.{cpus_after};
 ghost use Rattle.rtapp_scenario.specs.private.Marks.{AreMarks};
 ghost use Rattle.rtapp_scenario.specs.Told.{flaw_of, flaw_seen};
@@ -38,28 +39,37 @@ fn begins(word: &str, key: &str) -> bool
     }
 }
 
+// The kind, where the key begins with its word.
+#[inline(always)]
+fn begun(word: &str, kind: EventKind, key: &str) -> Option<EventKind>
+    ensures { result ≡ (if begins_with word.now key.now then Some kind else None) }
+{
+    if begins(word, key) { Some(kind) } else { None }
+}
+
 /// Which event a key is of; none where it is another key.
+#[inline(always)]
 #[tactic(auto, unfolding(crate::specs::Keys::kind_of))]
 pub(crate) fn kind(key: &str) -> Option<EventKind>
     ensures { result ≡ kind_of key.now }
 {
-    if begins("run", key) {
-        return Some(EventKind::Run);
+    match key.as_bytes().first() {
+        Some(b'r') => begun("run", EventKind::Run, key),
+        Some(b's') => begun("sleep", EventKind::Sleep, key),
+        Some(b't') => begun("timer", EventKind::Timer, key),
+        _ => None,
     }
-    if begins("sleep", key) {
-        return Some(EventKind::Sleep);
-    }
-    if begins("timer", key) {
-        return Some(EventKind::Timer);
-    }
-    None
 }
 
-/// The member is an event.
-pub(crate) fn is_event(member: &(String, Tree)) -> bool
-    ensures { result ≡ is_event (member_of member.now) }
+/// The key is of a timer.
+#[tactic(auto, unfolding(crate::specs::Keys::kind_of))]
+pub(crate) fn is_timer(key: &str) -> bool
+    ensures { result ≡ is_timer (kind_of key.now) }
 {
-    kind(&member.0).is_some()
+    match key.as_bytes().first() {
+        Some(b't') => begins("timer", key),
+        _ => false,
+    }
 }
 
 pub(crate) fn has(key: &str, members: &[(String, Tree)]) -> bool

@@ -1,6 +1,7 @@
 ghost use Rattle.std.specs.Prelude.{◌≡◌, ◌≤◌, IfSome};
 ghost use Rattle.rtapp_scenario.specs.Values.{members_of};
-ghost use Rattle.rtapp_scenario.specs.Threads.{number_at, instances, delay, runtime, period, deadline, rounds, count};
+ghost use Rattle.rtapp_scenario.specs.Threads.{number_at, instances, delay, runtime, rounds, count};
+ghost use Rattle.rtapp_scenario.specs.Threads as of;
 
 use crate::key::{MOST, MOST_TASKS, MOST_TIME};
 use crate::value::{at, natural_within};
@@ -49,20 +50,24 @@ pub(crate) fn runtime(members: &[(String, Tree)]) -> u64
     number_at("dl-runtime", 0, MOST_TIME, 0, members)
 }
 
-/// Microseconds; by default the runtime.
-pub(crate) fn period(members: &[(String, Tree)]) -> u64
-    ensures value { result ≡ period (members_of members.now) }
+/// Microseconds; by default the runtime, which is given.
+pub(crate) fn period(runtime: u64, members: &[(String, Tree)]) -> u64
+    requires runtime { runtime ≡ of.runtime (members_of members.now) }
+    requires most { runtime ≤ 9000000000000000 }
+    ensures value { result ≡ of.period (members_of members.now) }
     ensures most { result ≤ 9000000000000000 }
 {
-    number_at("dl-period", 0, MOST_TIME, runtime(members), members)
+    number_at("dl-period", 0, MOST_TIME, runtime, members)
 }
 
-/// Microseconds; by default the period.
-pub(crate) fn deadline(members: &[(String, Tree)]) -> u64
-    ensures value { result ≡ deadline (members_of members.now) }
+/// Microseconds; by default the period, which is given.
+pub(crate) fn deadline(period: u64, members: &[(String, Tree)]) -> u64
+    requires period { period ≡ of.period (members_of members.now) }
+    requires most { period ≤ 9000000000000000 }
+    ensures value { result ≡ of.deadline (members_of members.now) }
     ensures most { result ≤ 9000000000000000 }
 {
-    number_at("dl-deadline", 0, MOST_TIME, period(members), members)
+    number_at("dl-deadline", 0, MOST_TIME, period, members)
 }
 
 /// Rounds over the phases; none for no end.

@@ -1,6 +1,7 @@
-ghost use Rattle.std.specs.Prelude.{◌≡◌, [], map};
-ghost use Rattle.rtapp_scenario.specs.Values.{member_of, members_of};
+ghost use Rattle.std.specs.Prelude.{◌≡◌, ◌≤◌, ◌+◌, List, [], ◌∷◌, map, count_by, IfOk};
+ghost use Rattle.rtapp_scenario.specs.Values.{Member, member_of, members_of};
 ghost use Rattle.rtapp_scenario.specs.Faults.{first_fault_in, first};
+ghost use Rattle.rtapp_scenario.specs.Keys.{is_event};
 ghost use Rattle.rtapp_scenario.specs.Tests.{phase_member_fault, phase_fault, phases_fault};
 ghost use Rattle.rtapp_scenario.specs.Told.{flaw_of, ref_seen};
 
@@ -10,19 +11,26 @@ use crate::key::{check_phase_key, kind};
 use crate::value::object;
 use json_order::Tree;
 
+/// A member of a phase behind so many events; how many there are with it.
 #[tactic(auto, unfolding(crate::specs::Tests::phase_member_fault))]
 fn check_phase_member<'a>(
     first_ref: Option<&str>,
-    before: &[(String, Tree)],
+    events: usize,
     member: &'a (String, Tree),
-) -> Result<(), Flaw<'a>>
-    ensures { flaw_of result ≡ phase_member_fault (ref_seen first_ref.entry)
-        (members_of before.now) (member_of member.now) }
+) -> Result<usize, Flaw<'a>>
+    requires { events ≤ 64 }
+    ensures fault { (before : List Member) → count_by is_event before ≡ events
+        → flaw_of result
+        ≡ phase_member_fault (ref_seen first_ref.entry) before (member_of member.now) }
+    ensures count { IfOk result (λ n. n ≡ events + count_by is_event (member_of member.now ∷ [])) }
+    ensures few { IfOk result (λ n. n ≤ 64) }
 {
-    match kind(&member.0) {
-        Some(kind) => check_event(first_ref, before, kind, member),
-        None => check_phase_key(member),
-    }
+    let Some(kind) = kind(&member.0) else {
+        check_phase_key(member)?;
+        return Ok(events);
+    };
+    check_event(first_ref, events, kind, member)?;
+    Ok(events + 1)
 }
 
 fn check_phase_members<'a>(
@@ -33,8 +41,9 @@ fn check_phase_members<'a>(
         ≡ first_fault_in (phase_member_fault (ref_seen first_ref.entry)) []
         (members_of members.now) }
 {
-    for (i, member) in members.iter().enumerate() {
-        check_phase_member(first_ref, &members[..i], member)?;
+    let mut events = 0;
+    for member in members {
+        events = check_phase_member(first_ref, events, member)?;
     }
     Ok(())
 }

@@ -1,6 +1,6 @@
 use attr_check::SchedAttr;
-use domain_run::{Name, Script};
 use std::marker::Model;
+use task_script::{Name, Script};
 
 /// One task of a scenario.
 #[derive(Debug, Drop)]

@@ -7,18 +7,17 @@ ghost use Rattle.rtapp_scenario.specs.Threads.{event_of_member};
 ghost use Rattle.rtapp_scenario.specs.Tests.{members_fault};
 ghost use Rattle.rtapp_scenario.specs.Scenario.{phase_of, member_phase, phases, script};
 
-use crate::events::events_in;
 use crate::numbers::{count, rounds};
 use crate::threads::event_at;
 use crate::value::{at, members};
-use domain_run::{Event, Phase, Script};
 use json_order::Tree;
 use std::alloc::{AllocError, Global};
+use task_script::{Event, Phase, Script};
 
 fn events_of(alloc: Global, members: &[(String, Tree)]) -> Result<Vec<Event>, AllocError>
     ensures { IfOk result (λ v. v.items ≡ filter_map event_of_member (members_of members.now)) }
 {
-    let mut events = Vec::with_capacity(alloc, events_in(members))?;
+    let mut events = Vec::with_capacity(alloc, members.len())?;
     for member in members {
         if let Some(event) = event_at(member) {
             events.push(event)?;
@@ -81,7 +80,7 @@ fn made(loops: i64, phases: Vec<Phase>) -> Script
     }
 }
 
-/// The script of a thread that passed its tests.
+/// The script of a thread that passed its tests, to share.
 #[tactic(auto, unfolding(crate::specs::Scenario::script))]
 pub(crate) fn script_of(alloc: Global, members: &[(String, Tree)]) -> Result<Script, AllocError>
     requires { members_fault (members_of members.now) ≡ None }
@@ -89,5 +88,5 @@ pub(crate) fn script_of(alloc: Global, members: &[(String, Tree)]) -> Result<Scr
     ensures within { IfOk result IsScript }
 {
     let phases = phases_of(alloc, members)?;
-    Ok(made(loops(rounds(members)), phases))
+    Ok(made(loops(rounds(members)), phases).share(alloc))
 }

@@ -1,12 +1,14 @@
-ghost use Rattle.std.specs.Prelude.{◌≡◌, ◌==◌, ◌≤◌, ◌<◌, ◌+◌, ◌++◌, take, [], map, length, if◌then◌else◌, true, None, codes, decimal, All, IfOk, IfErr, OnOk, string_bytes, unwrap_or};
+ghost use Rattle.std.specs.Prelude.{◌≡◌, ◌==◌, ◌≤◌, ◌<◌, ◌+◌, ◌++◌, ℕ, List, take, [], map, length, if◌then◌else◌, true, None, codes, decimal, All, IfOk, IfErr, OnOk, string_bytes, unwrap_or};
 ghost use Rattle.json_order.specs.Seen.{json_of};
 ghost use Rattle.std.specs.Option.{option_map};
 ghost use Rattle.task_script.specs.NameView.{IsName, IsNameByte};
-ghost use Rattle.rtapp_scenario.specs.Values.{natural_within, member_of, members_of, members};
+ghost use Rattle.rtapp_scenario.specs.Values.{Member, natural_within, member_of, members_of, members};
 ghost use Rattle.rtapp_scenario.specs.Faults.{first_fault_in};
 ghost use Rattle.rtapp_scenario.specs.Keys.{numbers_in};
-ghost use Rattle.rtapp_scenario.specs.Threads.{cpus, instances};
-ghost use Rattle.rtapp_scenario.specs.Tests.{is_name, own_fault, thread_fault};
+ghost use Rattle.rtapp_scenario.specs.Threads.{cpus};
+ghost use Rattle.rtapp_scenario.specs.Threads as of;
+ghost use Rattle.rtapp_scenario.specs.private.Shapes.{IsShape, FitsTask};
+ghost use Rattle.rtapp_scenario.specs.Tests.{is_name, own_fault, members_fault, thread_fault};
 ghost use Rattle.rtapp_scenario.specs.Scenario.{task_name, attr, task_at, thread_tasks, tasks_from};
 ghost use Rattle.rtapp_scenario.specs.ScenarioView.{IsTaskSpec, AreCpus};
 ghost use Rattle.rtapp_scenario.specs.Told.{IsFaultTold};
@@ -18,10 +20,10 @@ use crate::script::script_of;
 use crate::threads::{check_beside, check_thread, thread_ref};
 use crate::value::{at, list, members, natural_within};
 use attr_check::SchedAttr;
-use domain_run::Name;
 use json_order::Tree;
 use std::alloc::{AllocError, Global};
 use std::fmt::Write;
+use task_script::{Name, Script};
 
 /// The most bytes of a task's name.
 const MOST_NAME: usize = 15;
@@ -97,33 +99,32 @@ fn cpus_of(alloc: Global, members: &[(String, Tree)]) -> Result<Option<Vec<u32>>
 fn attr_of(members: &[(String, Tree)]) -> SchedAttr
     ensures { result ≡ attr (members_of members.now) }
 {
+    let runtime = runtime(members);
+    let period = period(runtime, members);
     SchedAttr {
         policy: 6,
         flags: 0,
-        runtime: runtime(members) * 1000,
-        deadline: deadline(members) * 1000,
-        period: period(members) * 1000,
+        runtime: runtime * 1000,
+        deadline: deadline(period, members) * 1000,
+        period: period * 1000,
     }
 }
 
-/// The k-th task of a thread that passed its tests.
-#[tactic(auto, unfolding(crate::specs::Scenario::task_at))]
-fn task_of(
-    alloc: Global,
-    thread: &(String, Tree),
-    number: u64,
-    k: u64,
-) -> Result<TaskSpec, AllocError>
-    requires passed { own_fault (member_of thread.now) ≡ None }
-    requires some { 1 ≤ number }
-    requires most { number ≤ 256 }
-    ensures value { IfOk result (λ t. t ≡ task_at (member_of thread.now) number k) }
-    ensures limits { IfOk result IsTaskSpec }
+/// What all tasks of a thread have alike, read once. Their scripts share one block.
+#[derive(Drop)]
+struct Shape {
+    attr: SchedAttr,
+    cpus: Option<Vec<u32>>,
+    delay: u64,
+    script: Script,
+}
+
+fn shape_of(alloc: Global, members: &[(String, Tree)]) -> Result<Shape, AllocError>
+    requires { members_fault (members_of members.now) ≡ None }
+    ensures is { IfOk result (IsShape (members_of members.now)) }
+    ensures fits { IfOk result FitsTask }
 {
-    let members = members(&thread.1);
-    Ok(TaskSpec {
-        number: number as u32,
-        name: task_name(alloc, &thread.0, instances(members), k)?,
+    Ok(Shape {
         attr: attr_of(members),
         cpus: cpus_of(alloc, members)?,
         delay: delay(members),
@@ -131,23 +132,67 @@ fn task_of(
     })
 }
 
-/// The tasks of a thread, behind so many others.
+fn copy_of_cpus(alloc: Global, cpus: &Option<Vec<u32>>) -> Result<Option<Vec<u32>>, AllocError>
+    ensures { IfOk result (λ o. option_map (λ v. v.items) o
+        ≡ option_map (λ v. v.items) cpus.now) }
+{
+    match cpus {
+        Some(cpus) => Ok(Some(Vec::from_slice(alloc, cpus)?)),
+        None => Ok(None),
+    }
+}
+
+fn copy_of_script(alloc: Global, script: &Script) -> Result<Script, AllocError>
+    ensures { IfOk result (λ s. s ≡ script.now) }
+{
+    match script.copy(alloc) {
+        Ok(script) => Ok(script),
+        Err(_) => Err(AllocError),
+    }
+}
+
+/// A task of a thread.
+#[tactic(auto, unfolding(crate::specs::Scenario::task_at))]
+fn task_of(alloc: Global, shape: &Shape, name: Name, number: u64) -> Result<TaskSpec, AllocError>
+    requires fits { FitsTask shape.now }
+    requires named { IsName name }
+    requires some { 1 ≤ number }
+    requires most { number ≤ 256 }
+    ensures value { (thread : Member) (k : ℕ) → IsShape (members thread.value) shape.now
+        → name ≡ task_name thread.key (of.instances (members thread.value)) k
+        → IfOk result (λ t. t ≡ task_at thread number k) }
+    ensures limits { IfOk result IsTaskSpec }
+{
+    Ok(TaskSpec {
+        number: number as u32,
+        name,
+        attr: shape.attr,
+        cpus: copy_of_cpus(alloc, &shape.cpus)?,
+        delay: shape.delay,
+        script: copy_of_script(alloc, &shape.script)?,
+    })
+}
+
+/// The tasks of a thread of so many instances, behind so many others.
 #[tactic(auto, unfolding(crate::specs::Scenario::thread_tasks))]
 fn add_thread(
     alloc: Global,
     thread: &(String, Tree),
+    instances: u64,
     others: u64,
     tasks: &mut Vec<TaskSpec>,
 ) -> Result<(), AllocError>
     requires passed { own_fault (member_of thread.now) ≡ None }
-    requires most { others + instances (members (member_of thread.now).value) ≤ 256 }
+    requires instances { instances ≡ of.instances (members (member_of thread.now).value) }
+    requires most { others + instances ≤ 256 }
     ensures made { OnOk result (tasks.new.items
         ≡ tasks.old.items ++ thread_tasks (others + 1) (member_of thread.now)) }
     ensures limits { OnOk result (All IsTaskSpec tasks.old.items → All IsTaskSpec tasks.new.items) }
 {
-    let instances = instances(members(&thread.1));
+    let shape = shape_of(alloc, members(&thread.1))?;
     for k in 0..instances {
-        tasks.push(task_of(alloc, thread, others + 1 + k, k)?)?;
+        let name = task_name(alloc, &thread.0, instances, k)?;
+        tasks.push(task_of(alloc, &shape, name, others + 1 + k)?)?;
     }
     Ok(())
 }
@@ -167,16 +212,18 @@ pub(crate) fn tasks_of(
     let mut refs = Vec::new(alloc);
     let mut others = 0;
     for thread in threads {
-        if let Err(flaw) = check_thread(thread) {
-            return Err(fault_of(alloc, flaw));
-        }
         let members = members(&thread.1);
-        if let Err(flaw) = check_beside(&refs, others, members) {
+        let own_ref = thread_ref(members);
+        if let Err(flaw) = check_thread(own_ref, thread) {
             return Err(fault_of(alloc, flaw));
         }
-        add_thread(alloc, thread, others, &mut tasks)?;
-        refs.push(thread_ref(members))?;
-        others += instances(members);
+        let instances = instances(members);
+        if let Err(flaw) = check_beside(&refs, others, instances, own_ref) {
+            return Err(fault_of(alloc, flaw));
+        }
+        add_thread(alloc, thread, instances, others, &mut tasks)?;
+        refs.push(own_ref)?;
+        others += instances;
     }
     Ok(tasks)
 }

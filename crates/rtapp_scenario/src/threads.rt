@@ -1,32 +1,34 @@
-ghost use Rattle.std.specs.Prelude.{◌≡◌, ◌+◌, ◌≤◌, ◌&&◌, nat_le, [], map, not, OnOk};
+ghost use Rattle.std.specs.Prelude.{◌≡◌, ◌+◌, ◌≤◌, ◌&&◌, nat_le, List, [], ◌∷◌, ◌++◌, map, not, IfOk, OnOk};
 ghost use Rattle.std.specs.List.{list_any, list_all};
 ghost use Rattle.json_order.specs.Seen.{json_of};
-ghost use Rattle.rtapp_scenario.specs.Values.{member_of, members_of, members};
+ghost use Rattle.rtapp_scenario.specs.Values.{Member, member_of, members_of, members};
 ghost use Rattle.rtapp_scenario.specs.Faults.{first_fault_in, first};
-ghost use Rattle.rtapp_scenario.specs.Keys.{is_event, is_text};
-ghost use Rattle.rtapp_scenario.specs.Threads.{timer_at, first_timer_in, timer_of, thread_ref, ref_of, has_event, event_of_member, instances};
-ghost use Rattle.rtapp_scenario.specs.Tests.{is_phases, thread_member_fault, is_idle, is_name, is_shared, beside_fault, members_fault, own_fault};
+ghost use Rattle.rtapp_scenario.specs.Keys.{is_text};
+ghost use Rattle.rtapp_scenario.specs.Threads.{timer_at, first_timer_in, timer_of, thread_ref, ref_of, has_event, event_of, event_of_member};
+ghost use Rattle.rtapp_scenario.specs.Threads as of;
+ghost use Rattle.rtapp_scenario.specs.private.Before.{IsBefore};
+ghost use Rattle.rtapp_scenario.specs.Tests.{thread_member_fault, is_idle, is_name, is_shared, beside_fault, members_fault, own_fault};
 ghost use Rattle.rtapp_scenario.specs.Told.{flaw_of, ref_seen, tree_seen};
 
 use crate::events::check_event;
 use crate::flaw::Flaw;
 use crate::key::{
-    EventKind, MOST, MOST_TASKS, check_thread_key, check_thread_missing, is_event, kind, unless,
+    EventKind, MOST, MOST_TASKS, check_thread_key, check_thread_missing, is_timer, kind, unless,
 };
-use crate::numbers::instances;
 use crate::phases::check_phases;
 use crate::value::{at, is, members, natural_within, object, text};
-use domain_run::Event;
 use json_order::Tree;
+use task_script::Event;
 
 /// The value of a member that is a timer.
 #[tactic(auto, unfolding(crate::specs::Threads::timer_at))]
 fn timer_at(member: &(String, Tree)) -> Option<&Tree>
     ensures { tree_seen result ≡ timer_at (member_of member.now) }
 {
-    match kind(&member.0) {
-        Some(EventKind::Timer) => Some(&member.1),
-        _ => None,
+    if is_timer(&member.0) {
+        Some(&member.1)
+    } else {
+        None
     }
 }
 
@@ -89,7 +91,17 @@ pub(crate) fn thread_ref(members: &[(String, Tree)]) -> Option<&str>
     ref_of(first_timer(members)?)
 }
 
+// Apart, as timers are rare beside other events.
+#[inline(never)]
+fn timer_event(value: &Tree) -> Option<Event>
+    ensures { result ≡ event_of (Some EventKind.Timer) (json_of value.now) }
+{
+    let period = at("period", members(value))?;
+    Some(Event::Timer(natural_within(period, 1, MOST)?))
+}
+
 /// The event of a member, none for one of 0 us.
+#[inline(always)]
 #[tactic(auto, unfolding(crate::specs::Threads::event_of_member))]
 pub(crate) fn event_at(member: &(String, Tree)) -> Option<Event>
     ensures { result ≡ event_of_member (member_of member.now) }
@@ -98,10 +110,7 @@ pub(crate) fn event_at(member: &(String, Tree)) -> Option<Event>
     match kind(&member.0)? {
         EventKind::Run => Some(Event::Run(natural_within(value, 1, MOST)?)),
         EventKind::Sleep => Some(Event::Sleep(natural_within(value, 1, MOST)?)),
-        EventKind::Timer => {
-            let period = at("period", members(value))?;
-            Some(Event::Timer(natural_within(period, 1, MOST)?))
-        }
+        EventKind::Timer => timer_event(value),
     }
 }
 
@@ -129,40 +138,53 @@ fn is_idle(members: &[(String, Tree)]) -> bool
     }
 }
 
-fn has_events(members: &[(String, Tree)]) -> bool
-    ensures { result ≡ list_any is_event (members_of members.now) }
-{
-    members.iter().any(|m| is_event(m))
+/// What members of a thread are before another one.
+#[derive(Clone, Copy)]
+struct Before {
+    /// How many are events.
+    events: usize,
+    /// `phases` is among them.
+    phases: bool,
 }
 
-fn has_phases(members: &[(String, Tree)]) -> bool
-    ensures { result ≡ list_any is_phases (members_of members.now) }
-{
-    members.iter().any(|m| is(&m.0, "phases"))
-}
-
+/// A member of a thread behind others; what there is before the next.
 #[tactic(auto, unfolding(crate::specs::Tests::thread_member_fault))]
 fn check_member<'a>(
     first_ref: Option<&str>,
-    before: &[(String, Tree)],
+    before: Before,
     member: &'a (String, Tree),
-) -> Result<(), Flaw<'a>>
-    ensures { flaw_of result ≡ thread_member_fault (ref_seen first_ref.entry)
-        (members_of before.now) (member_of member.now) }
+) -> Result<Before, Flaw<'a>>
+    requires { before.events ≤ 64 }
+    ensures fault { (ms : List Member) → IsBefore ms before
+        → flaw_of result
+        ≡ thread_member_fault (ref_seen first_ref.entry) ms (member_of member.now) }
+    ensures after { (ms : List Member) → IsBefore ms before
+        → IfOk result (IsBefore (ms ++ member_of member.now ∷ [])) }
+    ensures few { IfOk result (λ b. b.events ≤ 64) }
 {
+    let Before { events, phases } = before;
     if is(&member.0, "phases") {
-        if has_events(before) {
+        if events > 0 {
             return Err(Flaw::Unsupported(&member.0));
         }
-        return check_phases(first_ref, member);
+        check_phases(first_ref, member)?;
+        return Ok(Before {
+            events,
+            phases: true,
+        });
     }
     let Some(kind) = kind(&member.0) else {
-        return check_thread_key(member);
+        check_thread_key(member)?;
+        return Ok(before);
     };
-    if has_phases(before) {
+    if phases {
         return Err(Flaw::Unsupported(&member.0));
     }
-    check_event(first_ref, before, kind, member)
+    check_event(first_ref, events, kind, member)?;
+    Ok(Before {
+        events: events + 1,
+        phases,
+    })
 }
 
 fn check_members<'a>(first_ref: Option<&str>, members: &'a [(String, Tree)]) -> Result<(), Flaw<'a>>
@@ -170,8 +192,12 @@ fn check_members<'a>(first_ref: Option<&str>, members: &'a [(String, Tree)]) -> 
         ≡ first_fault_in (thread_member_fault (ref_seen first_ref.entry)) []
         (members_of members.now) }
 {
-    for (i, member) in members.iter().enumerate() {
-        check_member(first_ref, &members[..i], member)?;
+    let mut before = Before {
+        events: 0,
+        phases: false,
+    };
+    for member in members {
+        before = check_member(first_ref, before, member)?;
     }
     Ok(())
 }
@@ -190,24 +216,30 @@ fn is_name(bytes: &[u8]) -> bool
 
 /// The members of a thread, what is missing, and a phase that is idle.
 #[tactic(auto, unfolding(crate::specs::Tests::members_fault))]
-fn check_object<'a>(members: &'a [(String, Tree)]) -> Result<(), Flaw<'a>>
+fn check_object<'a>(first_ref: Option<&str>, members: &'a [(String, Tree)]) -> Result<(), Flaw<'a>>
+    requires { ref_seen first_ref ≡ thread_ref (members_of members.now) }
     ensures { flaw_of result ≡ members_fault (members_of members.now) }
 {
-    check_members(thread_ref(members), members)?;
+    check_members(first_ref, members)?;
     check_thread_missing(members)?;
     unless(!is_idle(members), Flaw::Idle)
 }
 
-/// A thread by itself: its name, its members in text order, and what is missing.
+/// A thread by itself, with the `ref` of its timers: its name, its members in text order, and what
+/// is missing.
 #[tactic(auto, unfolding(crate::specs::Tests::own_fault))]
-pub(crate) fn check_thread<'a>(thread: &'a (String, Tree)) -> Result<(), Flaw<'a>>
+pub(crate) fn check_thread<'a>(
+    first_ref: Option<&str>,
+    thread: &'a (String, Tree),
+) -> Result<(), Flaw<'a>>
+    requires { ref_seen first_ref ≡ thread_ref (members (member_of thread.now).value) }
     ensures { flaw_of result ≡ own_fault (member_of thread.now) }
 {
     if !is_name(thread.0.as_bytes()) {
         return Err(Flaw::Name);
     }
     match object(&thread.1) {
-        Some(members) => check_object(members),
+        Some(members) => check_object(first_ref, members),
         None => Err(Flaw::Value(&thread.0)),
     }
 }
@@ -242,20 +274,23 @@ fn is_among(refs: &[Option<&str>], own: &str) -> bool
     refs.iter().any(|other| is_ref(*other, own))
 }
 
-/// A thread beside those before it, of which the refs and the number of tasks are given.
+/// A thread of so many instances and this `ref` beside those before it, of which the refs and the
+/// number of tasks are given.
 #[tactic(auto, unfolding(crate::specs::Tests::beside_fault))]
 pub(crate) fn check_beside<'a>(
     refs: &[Option<&str>],
     tasks: u64,
-    members: &[(String, Tree)],
+    instances: u64,
+    own: Option<&str>,
 ) -> Result<(), Flaw<'a>>
-    requires { tasks ≤ 256 }
-    ensures flaw { flaw_of result
-        ≡ beside_fault (map ref_seen refs.now) tasks (members_of members.now) }
-    ensures most { OnOk result (tasks + instances (members_of members.now) ≤ 256) }
+    requires tasks { tasks ≤ 256 }
+    requires instances { instances ≤ 256 }
+    ensures flaw { (ms : List Member) → instances ≡ of.instances ms
+        → ref_seen own.entry ≡ thread_ref ms
+        → flaw_of result ≡ beside_fault (map ref_seen refs.now) tasks ms }
+    ensures most { OnOk result (tasks + instances ≤ 256) }
 {
-    let instances = instances(members);
-    if is_shared(refs, instances, thread_ref(members)) {
+    if is_shared(refs, instances, own) {
         return Err(Flaw::Unsupported("ref"));
     }
     unless(tasks + instances <= MOST_TASKS, Flaw::TooMany)

@@ -1,12 +1,16 @@
-ghost use Rattle.std.specs.Prelude.{◌≡◌, ◌≤◌, IfSome, map};
+ghost use Rattle.std.specs.Prelude.{◌≡◌, ◌≤◌, Some, None, if◌then◌else◌, IfSome, map};
 ghost use Rattle.std.specs.Option.{option_map};
 ghost use Rattle.std.specs.Str.{bytes_eq};
+ghost use Rattle.std.specs.Str.Parse.{digits_value};
 ghost use Rattle.std.specs.List.{list_all};
 ghost use Rattle.std.specs.Char.{is_ascii_digit};
 ghost use Rattle.json_order.specs.Seen.{json_of};
-ghost use Rattle.rtapp_scenario.specs.Values.{members_of, object_of, list_of, text_value, numeral_of, natural_in, natural_within, members, at};
+ghost use Rattle.rtapp_scenario.specs.Values.{members_of, object_of, list_of, text_value, numeral_of, is_natural, natural_in, natural_within, members, at};
 
 use json_order::Tree;
+
+/// The most that may stand before a last digit, within 64 signed bits.
+const MOST_BEFORE: u64 = 922_337_203_685_477_580;
 
 /// The members of an object, none of another value.
 pub(crate) fn object(tree: &Tree) -> Option<&[(String, Tree)]>
@@ -71,6 +75,29 @@ pub(crate) fn are_digits(text: &[u8]) -> bool
     text.iter().all(|b| b.is_ascii_digit())
 }
 
+/// The number that digits write, where it is within 64 signed bits.
+fn digits(text: &[u8]) -> Option<u64>
+    ensures { result ≡ (if is_natural text.now then Some (digits_value 10 text.now) else None) }
+{
+    if text.is_empty() {
+        return None;
+    }
+    let mut n: u64 = 0;
+    for digit in text {
+        if !digit.is_ascii_digit() {
+            return None;
+        }
+        if n > MOST_BEFORE {
+            return None;
+        }
+        n = n * 10 + (*digit - b'0') as u64;
+    }
+    if n >= 1 << 63 {
+        return None;
+    }
+    Some(n)
+}
+
 /// A whole number not below 0, within 64 signed bits.
 #[tactic(auto, unfolding(crate::specs::Values::natural_in))]
 fn natural(text: &str) -> Option<u64>
@@ -79,16 +106,7 @@ fn natural(text: &str) -> Option<u64>
     if is(text, "-0") {
         return Some(0);
     }
-    if !are_digits(text.as_bytes()) {
-        return None;
-    }
-    let Ok(n) = text.parse::<u64>() else {
-        return None;
-    };
-    if n >= 1 << 63 {
-        return None;
-    }
-    Some(n)
+    digits(text.as_bytes())
 }
 
 /// A whole number from the least to the most.

@@ -14,8 +14,8 @@ use domain_run::{Call, Name, NoMemory, Refused, Reply, Script, State};
 use std::alloc::Global;
 use std::marker::Model;
 
-/// A task that is ready to be admitted, with its own copies of name and script, one for the domain
-/// and one for the history.
+/// A task that is ready to be admitted, with a name and a script for the domain, and the same again
+/// for the history.
 #[derive(Drop)]
 pub struct Prepared {
     number: u32,

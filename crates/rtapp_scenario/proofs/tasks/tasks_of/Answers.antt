@@ -29,26 +29,26 @@ loop-thread-preserved c =
     let own : own_fault (member_of thread) ≡ None = sym c.in_default.ensures in
     let seen : map ref_seen c.deref.result.now ≡ refs_in before = ap (map ref_seen) c.deref.ensures.value ∙ inv.refs in
     let beside : beside_fault (refs_in before) (tasks_in before) (members (json_of thread.1)) ≡ None =
-    sym (ap (λ (rs : List (Option (List ℕ))). beside_fault rs c.loop-thread.others own_members) seen ∙ ap (λ (n : ℕ). beside_fault (refs_in before) n own_members) inv.others ∙ ap (beside_fault (refs_in before) (tasks_in before)) same) ∙ sym c.in_default-check_beside.ensures.flaw in
+    sym (ap (λ (rs : List (Option (List ℕ))). beside_fault rs c.loop-thread.others own_members) seen ∙ ap (λ (n : ℕ). beside_fault (refs_in before) n own_members) inv.others ∙ ap (beside_fault (refs_in before) (tasks_in before)) same) ∙ sym (c.in_default-check_beside.ensures.flaw own_members c.instances-instances.ensures.value c.thread_ref-own_ref.ensures) in
     let none : thread_fault before (member_of thread) ≡ None = rw (own, beside) refl in
     let more : members_of (take (i + 1) threads) ≡ before ++ member_of thread ∷ [] = before_more threads i thread c.loop-thread-test.true c.thread-item.is in
-    let ref : ref_seen c.thread_ref.result ≡ thread_ref (members (json_of thread.1)) = c.thread_ref.ensures ∙ ap thread_ref same in
-    let count : c.instances-others.result ≡ instances (members (json_of thread.1)) = c.instances-others.ensures.value ∙ ap instances same in
+    let ref : ref_seen c.thread_ref-own_ref.result ≡ thread_ref (members (json_of thread.1)) = c.thread_ref-own_ref.ensures ∙ ap thread_ref same in
+    let count : c.instances-instances.result ≡ instances (members (json_of thread.1)) = c.instances-instances.ensures.value ∙ ap instances same in
     let made = thread_tasks (c.loop-thread.others + 1) (member_of thread) in
-    let next : (c.loop-thread.others + c.instances-others.result) + 1 ≡ (c.loop-thread.others + 1) + instances (members (json_of thread.1)) = omega (arith, count) in
+    let next : (c.loop-thread.others + c.instances-instances.result) + 1 ≡ (c.loop-thread.others + 1) + instances (members (json_of thread.1)) = omega (arith, count) in
     record {
       passed = order_passed thread_fault threads i thread c.loop-thread-test.true c.thread-item.is none inv.passed;
-      made = ap (λ (ts : List TaskSpecView). ts ++ tasks_from ((c.loop-thread.others + c.instances-others.result) + 1) (members_of left)) c.in_ok-add_thread.ensures.made
+      made = ap (λ (ts : List TaskSpecView). ts ++ tasks_from ((c.loop-thread.others + c.instances-instances.result) + 1) (members_of left)) c.in_ok-add_thread.ensures.made
           ∙ ap (λ (n : ℕ). (c.loop-thread.tasks.items ++ made) ++ tasks_from n (members_of left)) next
           ∙ append_assoc c.loop-thread.tasks.items made (tasks_from ((c.loop-thread.others + 1) + instances (members (json_of thread.1))) (members_of left))
           ∙ sym (ap (λ (ts : List TaskSpecView). c.loop-thread.tasks.items ++ ts) (here (λ xs. tasks_from (c.loop-thread.others + 1) (members_of xs)) threads i thread c.loop-thread-test.true c.thread-item.is))
           ∙ inv.made;
-      refs = ap (map ref_seen) c.in_ok-push.ensures.items ∙ map-append ref_seen c.loop-thread.refs.items (c.thread_ref.result ∷ [])
-          ∙ ap (λ (rs : List (Option (List ℕ))). rs ++ ref_seen c.thread_ref.result ∷ []) inv.refs ∙ ap (λ (r : Option (List ℕ)). refs_in before ++ r ∷ []) ref
+      refs = ap (map ref_seen) c.in_ok-push.ensures.items ∙ map-append ref_seen c.loop-thread.refs.items (c.thread_ref-own_ref.result ∷ [])
+          ∙ ap (λ (rs : List (Option (List ℕ))). rs ++ ref_seen c.thread_ref-own_ref.result ∷ []) inv.refs ∙ ap (λ (r : Option (List ℕ)). refs_in before ++ r ∷ []) ref
           ∙ sym (ap (λ (ms : List Member). refs_in ms) more ∙ map-append (λ (m : Member). thread_ref (members m.value)) before (member_of thread ∷ []));
-      others = ap (λ (n : ℕ). n + c.instances-others.result) inv.others ∙ ap (λ (n : ℕ). tasks_in before + n) count
+      others = ap (λ (n : ℕ). n + c.instances-instances.result) inv.others ∙ ap (λ (n : ℕ). tasks_in before + n) count
           ∙ sym (ap (λ (ms : List Member). tasks_in ms) more ∙ sum_by_push (λ (m : Member). instances (members m.value)) before (member_of thread));
-      most = omega (arith, c.in_default-check_beside.ensures.most, c.instances-others.ensures.value);
+      most = omega (arith, c.in_default-check_beside.ensures.most, c.instances-instances.ensures.value);
       limits = c.in_ok-add_thread.ensures.limits inv.limits;
     }
 
@@ -74,7 +74,7 @@ returns-in-Err-check_beside-clause-fault c =
     let own : own_fault (member_of thread) ≡ None = sym c.in_default.ensures in
     let seen : map ref_seen c.deref.result.now ≡ refs_in before = ap (map ref_seen) c.deref.ensures.value ∙ inv.refs in
     let beside : beside_fault (refs_in before) (tasks_in before) (members (json_of thread.1)) ≡ Some fault =
-    sym (ap (λ (rs : List (Option (List ℕ))). beside_fault rs c.loop-thread.others own_members) seen ∙ ap (λ (n : ℕ). beside_fault (refs_in before) n own_members) inv.others ∙ ap (beside_fault (refs_in before) (tasks_in before)) c.members-members.ensures) ∙ sym c.in-Err-check_beside.ensures.flaw in
+    sym (ap (λ (rs : List (Option (List ℕ))). beside_fault rs c.loop-thread.others own_members) seen ∙ ap (λ (n : ℕ). beside_fault (refs_in before) n own_members) inv.others ∙ ap (beside_fault (refs_in before) (tasks_in before)) c.members-members.ensures) ∙ sym (c.in-Err-check_beside.ensures.flaw own_members c.instances-instances.ensures.value c.thread_ref-own_ref.ensures) in
     let found : thread_fault before (member_of thread) ≡ Some fault = rw (own, beside) refl in
     subst (λ (o : Option Fault). IsFaultTold o c.fault_of-in-Err-check_beside.result) (order_found thread_fault threads i thread fault c.loop-thread-test.true c.thread-item.is found inv.passed) c.fault_of-in-Err-check_beside.ensures
 
@@ -103,7 +103,7 @@ pub add_thread-requires-clause-passed : goal.add_thread-requires-clause-passed
 add_thread-requires-clause-passed c = sym c.in_default.ensures
 
 pub overflow_add-others : goal.overflow_add-others
-overflow_add-others c = omega (arith, c.in_default-check_beside.ensures.most, c.instances-others.ensures.value)
+overflow_add-others c = omega (arith, c.in_default-check_beside.ensures.most, c.instances-instances.ensures.value)
 
 pub returns-clause-fault : goal.returns-clause-fault
 returns-clause-fault c = grind (arith, common_steps)
