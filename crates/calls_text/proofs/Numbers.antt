@@ -150,6 +150,13 @@ front_is least most text n rest small is none =
 front_cons : (c : ℕ) (cs : List ℕ) → is_ascii_digit c ≡ true → digits_front 0 (c ∷ cs) ≡ digits_front (c - 48) cs
 front_cons c cs is = let zero : 0 * 10 + (c - 48) ≡ c - 48 = omega arith in rw is (ap (λ (m : ℕ). digits_front m cs) zero)
 
+-- what the first digit spells, and those behind it
+pub front_behind : (first : ℕ) (text : List ℕ) → 1 ≤ length text → 49 ≤ get_or text 0 0 → get_or text 0 0 ≤ 57 → first ≡ get_or text 0 0 - 48 → digits_front first (take (length text - 1) (drop 1 text)) ≡ digits_front 0 text
+front_behind first [] some low high e = absurd (omega arith)
+front_behind first (c ∷ cs) some low high e =
+    let is : is_ascii_digit c ≡ true = and_from _ _ (le-leb 48 c (omega arith)) (le-leb c 57 high) in
+    ap (λ (m : ℕ). digits_front m (take (length (c ∷ cs) - 1) (drop 1 (c ∷ cs)))) e ∙ (ap (digits_front (c - 48)) (rest_is 1 (c ∷ cs)) ∙ sym (front_cons c cs is))
+
 -- what the digits at the front spell, where the first of them is no zero
 pub front_spelled : (least most : ℕ) (text : List ℕ) (n : ℕ) (rest : List ℕ) → 1 ≤ length text → 49 ≤ get_or text 0 0 → get_or text 0 0 ≤ 57 → most < 1000000000000000000 → counted n rest ≡ digits_front 0 text → least ≤ n → n ≤ most → IsFirstNumber least most text n rest
 front_spelled least most [] n rest some low high small e above few = absurd (omega arith)

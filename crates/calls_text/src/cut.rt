@@ -16,16 +16,23 @@ pub(crate) fn cut(text: &[u8], at: u8) -> Option<(&[u8], &[u8])>
     None
 }
 
-/// The first line, without its line break, and what follows, or nothing where no line ends. Lines
-/// are long enough to be searched by many bytes at a time.
+/// As `cut`. It searches by many bytes at a time, for a byte that may be far behind.
+#[inline(always)]
+pub(crate) fn cut_far(text: &[u8], at: u8) -> Option<(&[u8], &[u8])>
+    ensures { option_map (λ p. (p.0.now, p.1.now)) result ≡ cut_at at text.now }
+{
+    match memchr(at, text) {
+        Some(i) => Some((&text[..i], &text[i + 1..])),
+        None => None,
+    }
+}
+
+/// The first line, without its line break, and what follows, or nothing where no line ends.
 #[inline(always)]
 pub(crate) fn cut_line(text: &[u8]) -> Option<(&[u8], &[u8])>
     ensures { option_map (λ p. (p.0.now, p.1.now)) result ≡ cut_at 10 text.now }
 {
-    match memchr(b'\n', text) {
-        Some(i) => Some((&text[..i], &text[i + 1..])),
-        None => None,
-    }
+    cut_far(text, b'\n')
 }
 
 /// What follows these bytes at the front of a text, or nothing where it does not begin with them.

@@ -166,6 +166,7 @@ fn newcomer_of(alloc: Global, text: &[u8]) -> Result<(Newcomer, &[u8]), PartFaul
 }
 
 /// What follows the client in an `admit` line.
+#[inline(never)]
 #[tactic(auto, unfolding(crate::specs::private::Reading::admit_at))]
 fn admit_of(alloc: Global, text: &[u8]) -> Result<Kept, PartFault>
     ensures { PartGives call_kept result (admit_at text.now) }
@@ -188,6 +189,7 @@ fn admit_of(alloc: Global, text: &[u8]) -> Result<Kept, PartFault>
 }
 
 /// What follows the client in an `arrive` line.
+#[inline(never)]
 #[tactic(auto, unfolding(crate::specs::private::Reading::arrive_at))]
 fn arrive_of(alloc: Global, text: &[u8]) -> Result<Kept, PartFault>
     ensures { PartGives call_kept result (arrive_at text.now) }
@@ -235,6 +237,7 @@ fn answer_of(text: &[u8]) -> Result<(bool, Option<u64>), PartFault>
 }
 
 /// What follows the client in a `regrade` line.
+#[inline(never)]
 #[tactic(auto, unfolding(crate::specs::private::Reading::regrade_at))]
 fn regrade_of(alloc: Global, text: &[u8]) -> Result<Kept, PartFault>
     ensures { PartGives call_kept result (regrade_at text.now) }
@@ -302,6 +305,7 @@ fn change_of(text: &[u8]) -> Result<(u64, Option<u64>), PartFault>
 }
 
 /// What follows the client in a `limit` line.
+#[inline(never)]
 #[tactic(auto, unfolding(crate::specs::private::Reading::limit_at))]
 fn limit_of(alloc: Global, text: &[u8]) -> Result<Kept, PartFault>
     ensures { PartGives call_kept result (limit_at text.now) }
@@ -325,6 +329,7 @@ enum Word {
 
 /// The word at the front of a line, and what follows the space behind it. Words that stand in most
 /// lines are looked for first.
+#[inline(always)]
 fn word_first(line: &[u8]) -> Option<(Word, &[u8])>
     ensures { MatchOption result
         ((word : Word) (rest : List ℕ) → line.now ≡ front_of word ++ rest → ⊥)
@@ -358,6 +363,7 @@ fn word_first(line: &[u8]) -> Option<(Word, &[u8])>
 }
 
 /// What follows the client in a line of this word.
+#[inline(always)]
 #[tactic(auto, unfolding(crate::specs::private::Reading::worded_at))]
 fn worded(alloc: Global, word: Word, text: &[u8]) -> Result<Kept, PartFault>
     ensures { PartGives call_kept result (worded_at (word_spelled word) text.now) }

@@ -3,15 +3,17 @@ ghost use Rattle.calls_text.specs.private.Reading.{PartGives, NoDigit, IsFirstNu
 
 use crate::fault::PartFault;
 
-/// The number that digits at the front of a text spell, up to `most`, and what follows the last of
-/// them.
-fn digits_first(text: &[u8], most: u64) -> Result<(u64, &[u8]), PartFault>
-    requires { most < 1000000000000000000 }
-    ensures front { IfOk result (λ p. (p.0, p.1.now) ≡ digits_front 0 text.now) }
+/// The number that digits spell, up to `most`: `first` is that of the digits so far, and more may
+/// stand at the front of the text. And what follows the last of them.
+#[inline(always)]
+fn digits_on(first: u64, text: &[u8], most: u64) -> Result<(u64, &[u8]), PartFault>
+    requires small { most < 1000000000000000000 }
+    requires within { first ≤ most }
+    ensures front { IfOk result (λ p. (p.0, p.1.now) ≡ digits_front first text.now) }
     ensures high { IfOk result (λ p. p.0 ≤ most) }
-    ensures above { IfErr result (λ _. most < (digits_front 0 text.now).0) }
+    ensures above { IfErr result (λ _. most < (digits_front first text.now).0) }
 {
-    let mut n: u64 = 0;
+    let mut n = first;
     for (i, b) in text.iter().enumerate() {
         if !b.is_ascii_digit() {
             return Ok((n, &text[i..]));
@@ -34,8 +36,12 @@ pub(crate) fn number_first(text: &[u8], least: u64, most: u64) -> Result<(u64, &
 {
     match text {
         [b'0', rest @ ..] if least == 0 => Ok((0, rest)),
-        [b'1'..=b'9', ..] => {
-            let (n, rest) = digits_first(text, most)?;
+        [b'1'..=b'9', rest @ ..] => {
+            let first = u64::from(text[0] - b'0');
+            if first > most {
+                return Err(PartFault::Bad);
+            }
+            let (n, rest) = digits_on(first, rest, most)?;
             if n < least {
                 return Err(PartFault::Bad);
             }

@@ -1,10 +1,10 @@
-ghost use Rattle.std.specs.Prelude.{◌≡◌, ℕ, List, [], ◌∷◌, ◌++◌, IfOk, IfErr, MatchResult};
+ghost use Rattle.std.specs.Prelude.{◌≡◌, ◌≤◌, ℕ, List, [], ◌∷◌, ◌++◌, IfOk, IfErr, MatchResult};
 ghost use Rattle.std.specs.Option.{option_map};
 ghost use Rattle.calls_text.specs.declared.fault.PartFault.TheVariants as PartFault;
 ghost use Rattle.task_script.specs.script.Segments.{rounds_of, IsLoops};
 ghost use Rattle.calls_text.specs.private.Reading.{PartGives, NoDigit, IsFirstEvent, event_first_at, events_at, phase_at, phase_first_at, phases_at, rounds_at, script_at};
 
-use crate::cut::cut;
+use crate::cut::{cut, cut_far};
 use crate::fault::PartFault;
 use crate::number::{number_first, number_within};
 use domain_run::{Event, Phase, Script};
@@ -18,6 +18,8 @@ const MOST_ITEMS: u64 = 64;
 /// Room for so many events, and so many phases, is taken at first where there are more than one:
 /// most have no more.
 const ROOM: usize = 2;
+/// The most events behind the first ones.
+const MOST_MORE: usize = 62;
 
 /// `rN`, `sN`, `tN` or `w` at the front of a text, and what follows.
 #[inline(always)]
@@ -52,20 +54,57 @@ fn event_first(text: &[u8]) -> Result<(Event, Option<&[u8]>), PartFault>
     }
 }
 
-/// One item more; of one alone the list takes no more memory than for it.
+/// One phase more; of one alone the list takes no more memory than for it.
 #[inline(always)]
-fn add<T: Drop>(items: &mut Vec<T>, item: T, is_last: bool) -> Result<(), PartFault>
-    ensures items { IfOk result (λ _. items.new.items ≡ items.old.items ++ item ∷ []) }
+fn add(phases: &mut Vec<Phase>, phase: Phase, is_last: bool) -> Result<(), PartFault>
+    ensures items { IfOk result (λ _. phases.new.items ≡ phases.old.items ++ phase ∷ []) }
     ensures fault { IfErr result (λ e. e ≡ PartFault.Memory) }
 {
-    if items.is_empty() {
-        items.try_reserve_exact(if is_last { 1 } else { ROOM })?;
+    if phases.is_empty() {
+        phases.try_reserve_exact(if is_last { 1 } else { ROOM })?;
     }
-    items.push(item)?;
+    phases.push(phase)?;
+    Ok(())
+}
+
+/// The number of commas in a text, up to the most events that may follow.
+fn commas(text: &[u8]) -> usize
+    ensures { result ≤ 62 }
+{
+    text.iter().filter(|b| **b == b',').count().min(MOST_MORE)
+}
+
+/// Room for one event more, and for those that stand behind it. Room for a long phase is made once.
+#[inline(always)]
+fn make_room(events: &mut Vec<Event>, behind: Option<&[u8]>) -> Result<(), PartFault>
+    ensures items { IfOk result (λ _. events.new.items ≡ events.old.items) }
+    ensures fault { IfErr result (λ e. e ≡ PartFault.Memory) }
+{
+    if events.is_empty() {
+        events.try_reserve_exact(if behind.is_none() { 1 } else { ROOM })?;
+    } else if events.len() == ROOM {
+        let others = match behind {
+            Some(text) => 1 + commas(text),
+            None => 0,
+        };
+        events.try_reserve_exact(1 + others)?;
+    }
+    Ok(())
+}
+
+/// One event more, with others behind it or none.
+#[inline(always)]
+fn put(events: &mut Vec<Event>, event: Event, behind: Option<&[u8]>) -> Result<(), PartFault>
+    ensures items { IfOk result (λ _. events.new.items ≡ events.old.items ++ event ∷ []) }
+    ensures fault { IfErr result (λ e. e ≡ PartFault.Memory) }
+{
+    make_room(events, behind)?;
+    events.push(event)?;
     Ok(())
 }
 
 /// 1 to 64 events, with commas between them.
+#[inline(never)]
 fn events_of(alloc: Global, text: &[u8]) -> Result<Vec<Event>, PartFault>
     ensures { PartGives (λ v. v.items) result (events_at text.now) }
 {
@@ -73,7 +112,7 @@ fn events_of(alloc: Global, text: &[u8]) -> Result<Vec<Event>, PartFault>
     let mut rest = text;
     for _ in 0..MOST_ITEMS {
         let (event, after) = event_first(rest)?;
-        add(&mut events, event, after.is_none())?;
+        put(&mut events, event, after)?;
         match after {
             None => return Ok(events),
             Some(after) => rest = after,
@@ -100,7 +139,7 @@ fn phase_of(alloc: Global, text: &[u8]) -> Result<Phase, PartFault>
 fn phase_first(alloc: Global, text: &[u8]) -> Result<(Phase, Option<&[u8]>), PartFault>
     ensures { PartGives (λ p. (p.0, option_map (λ r. r.now) p.1)) result (phase_first_at text.now) }
 {
-    let Some((phase, after)) = cut(text, b'}') else {
+    let Some((phase, after)) = cut_far(text, b'}') else {
         return Err(PartFault::Bad);
     };
     let phase = phase_of(alloc, phase)?;

@@ -10,11 +10,11 @@ returns-in_err-event c =
 
 pub returns-in-None : goal.returns-in-None
 returns-in-None c =
-    rw c.in_ok-add.ensures.items (ends event_first_at c.loop.events.items 64 c.loop.counter c.loop.rest.now c.in_ok-event.event (many_at event_first_at 64 c.args.text.now) c.loop-test.true (rw c.in-None.is at c.in_ok-event.ensures) c.loop.invariant)
+    rw c.in_ok-put.ensures.items (ends event_first_at c.loop.events.items 64 c.loop.counter c.loop.rest.now c.in_ok-event.event (many_at event_first_at 64 c.args.text.now) c.loop-test.true (rw c.in-None.is at c.in_ok-event.ensures) c.loop.invariant)
 
 pub loop-preserved : goal.loop-preserved
 loop-preserved c =
-    rw c.in_ok-add.ensures.items (goes_on event_first_at c.loop.events.items 64 c.loop.counter c.loop.rest.now c.in_ok-event.event c.in-Some.after.now (many_at event_first_at 64 c.args.text.now) c.loop-test.true (rw c.in-Some.is at c.in_ok-event.ensures) c.loop.invariant)
+    rw c.in_ok-put.ensures.items (goes_on event_first_at c.loop.events.items 64 c.loop.counter c.loop.rest.now c.in_ok-event.event c.in-Some.after.now (many_at event_first_at 64 c.args.text.now) c.loop-test.true (rw c.in-Some.is at c.in_ok-event.ensures) c.loop.invariant)
 
 pub returns : goal.returns
 returns c = is_full event_first_at c.loop.events.items 64 c.loop.counter c.loop.rest.now (many_at event_first_at 64 c.args.text.now) c.loop-test.false c.loop.invariant
