@@ -15,7 +15,7 @@ call_kept (Wake number) = calls.Wake number
 call_kept (Leave number) = calls.Leave number
 call_kept (Depart number) = calls.Depart number
 call_kept (Advance ticks) = calls.Advance ticks
-call_kept (Long spelled) = spelled.value.call
+call_kept (Long call) = call.value
 
 -- the entry that is read next has this call
 pub record IsNextCall (text : List ℕ) (before : List SectionView) (s : SectionView) (r : ReaderView)

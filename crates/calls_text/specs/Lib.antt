@@ -5,7 +5,6 @@ pub mod Limits
 pub mod BadLine
 pub mod ReadSoFar
 pub mod Reader
-pub mod NameGiven
 pub mod KeptCall
 pub mod RoundTrip
 pub mod FaultText

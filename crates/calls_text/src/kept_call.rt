@@ -1,8 +1,6 @@
 //! A call in little room.
 
 ghost use Rattle.std.specs.Prelude.{◌≡◌};
-ghost use Rattle.std.specs.String.{string_bytes};
-ghost use Rattle.calls_text.specs.NameGiven.{name_given};
 
 use crate::fault::PartFault;
 use crate::header::is_later;
@@ -34,54 +32,24 @@ pub enum Kept {
         ticks: u64,
     },
     /// Any other.
-    Long(Box<Spelled>),
-}
-
-/// A call, and the text of the name that it gives.
-#[derive(Drop)]
-pub struct Spelled {
-    pub call: Call,
-    /// The name of the task that comes; empty where none does.
-    pub text: String,
-    ghost spelled: { string_bytes text ≡ name_given call },
+    Long(Box<Call>),
 }
 
 impl Kept {
-    ghost use Rattle.std.specs.Prelude.{Some, IfOk, IfErr};
-    ghost use Rattle.calls_text.specs.declared.fault.PartFault.TheVariants as PartFault;
+    ghost use Rattle.std.specs.Prelude.{Some};
     ghost use Rattle.calls_text.specs.Spelling as spelling;
     ghost use Rattle.calls_text.specs.KeptCall.{call_kept};
     ghost use Rattle.calls_text.specs.private.Reading.{PartGives};
-
-    /// The text of the name that a call gives; empty where it gives none.
-    fn text_given(alloc: Global, call: &Call) -> Result<String, PartFault>
-        ensures text { IfOk result (λ text. string_bytes text ≡ name_given call.now) }
-        ensures fault { IfErr result (λ e. e ≡ PartFault.Memory) }
-    {
-        match call {
-            Call::Admit { name, .. } | Call::Arrive { name, .. } => {
-                match String::from_str(alloc, name.as_str()) {
-                    Ok(text) => Ok(text),
-                    Err(_) => Err(PartFault::Memory),
-                }
-            }
-            _ => Ok(String::new(alloc)),
-        }
-    }
 
     /// A call in a block of its own.
     #[inline(always)]
     pub(crate) fn long(alloc: Global, call: Call) -> Result<Kept, PartFault>
         ensures { PartGives call_kept result (Some call) }
     {
-        // What is let go of goes by one call, not written out with all that is inside.
-        let Ok(text) = Kept::text_given(alloc, &call) else {
-            drop(call);
-            return Err(PartFault::Memory);
-        };
-        match Box::new(alloc, Spelled { call, text }) {
-            Ok(spelled) => Ok(Kept::Long(spelled)),
+        match Box::new(alloc, call) {
+            Ok(call) => Ok(Kept::Long(call)),
             Err(refused) => {
+                // What is let go of goes by one call, not written out with all that is inside.
                 drop(refused);
                 Err(PartFault::Memory)
             }
@@ -97,10 +65,7 @@ impl Kept {
             Kept::Leave { number } => Call::Leave { number },
             Kept::Depart { number } => Call::Depart { number },
             Kept::Advance { ticks } => Call::Advance { ticks },
-            Kept::Long(spelled) => {
-                let Spelled { call, text: _ } = Box::into_inner(spelled);
-                call
-            }
+            Kept::Long(call) => Box::into_inner(call),
         }
     }
 
@@ -111,7 +76,7 @@ impl Kept {
         match self {
             Kept::Wake { .. } | Kept::Leave { .. } | Kept::Advance { .. } => false,
             Kept::Depart { .. } => true,
-            Kept::Long(spelled) => is_later(&spelled.call),
+            Kept::Long(call) => is_later(call),
         }
     }
 }

@@ -9,6 +9,7 @@ mod Pieces
 mod Played
 mod Written
 mod ReadRuns
+mod Starting
 mod ReadPlaced
 mod Charts
 mod Texts

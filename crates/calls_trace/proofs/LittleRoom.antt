@@ -4,7 +4,7 @@ use Rattle.std.specs.Prelude.{sum_by}
 use Rattle.std.proofs.lemmas.List.Sums.{sum_by-cons}
 use Rattle.domain_run.specs.declared.call.Call.{Call}
 use Rattle.domain_run.specs.declared.call.Call.TheVariants as calls
-use Rattle.calls_text.specs.declared.kept_call.Spelled.{Spelled}
+use Rattle.calls_trace.specs.declared.kept.Spelled.{Spelled}
 use Rattle.calls_trace.specs.declared.kept.Place.{Place}
 use Rattle.calls_trace.specs.declared.kept.Place.TheVariants.{Wake, Leave, Depart, Advance, Long}
 use Rattle.calls_trace.specs.private.Kept.{room_of}

@@ -54,3 +54,9 @@ named_step d was is number name params delay script reply old good each n h =
 pub admit_time : (d : Domain) (number : ℕ) (name : List ℕ) (params : ParamsView) (delay : ℕ) (script : ScriptView) → (after_call d (Admit number name params delay script)).time ≡ d.time
 admit_time d number name params delay script =
     elim (is_refusal (reply_to d (Admit number name params delay script))) as (λ b. (cond b d (after_granted d (Admit number name params delay script))).time ≡ d.time) [ true ↦ refl | false ↦ refl ]
+
+-- the same names, and as many that were admitted
+pub still_named : (d e : Domain) (was is : Names) → e ≡ d → ((n : ℕ) → name_of_task is n ≡ name_of_task was n) → AdmittedHaveNames d was → AdmittedHaveNames e is
+still_named d e was is same gives each n there =
+    let old = each n (subst (λ (x : Domain). IsAdmitted x.used n) same there) in
+    record { some = rw (gives n) old.some; most = rw (gives n) old.most }

@@ -19,11 +19,11 @@ use Rattle.calls_trace.specs.private.Replaying.{AdmittedHaveNames, MapGives, Giv
 
 -- ---- one call more
 
-after_push : (d : Domain) (cs : List Call) (c : Call) → after_calls d (cs ++ c ∷ []) ≡ after_call (after_calls d cs) c
+pub after_push : (d : Domain) (cs : List Call) (c : Call) → after_calls d (cs ++ c ∷ []) ≡ after_call (after_calls d cs) c
 after_push d [] c = refl
 after_push d (x ∷ cs) c = after_push (after_call d x) cs c
 
-names_push : (d : Domain) (cs : List Call) (c : Call) (names : ℕ → List ℕ) → names_of d (cs ++ c ∷ []) names ≡ names_after (after_calls d cs) c (names_of d cs names)
+pub names_push : (d : Domain) (cs : List Call) (c : Call) (names : ℕ → List ℕ) → names_of d (cs ++ c ∷ []) names ≡ names_after (after_calls d cs) c (names_of d cs names)
 names_push d [] c names = refl
 names_push d (x ∷ cs) c names = names_push (after_call d x) cs c (names_after d x names)
 

@@ -25,11 +25,6 @@ left_names d r c cs all was is end same made each left n =
 pub none_kept : (w : Bool) (all was is : ℕ → ParamsView) → w ≡ false → ((n : ℕ) → is n ≡ cond w all was n) → ((n : ℕ) → was n ≡ no_params n) → (n : ℕ) → is n ≡ no_params n
 none_kept w all was is silent each none n = each n ∙ ap (λ (b : Bool). cond b all was n) silent ∙ none n
 
--- ---- the calls that are kept are calls of a section
-
-pub kept_calls : (s : SectionView) (k : KeptSection) → IsSection s → IsKeptSection s k → All IsCall k.calls
-kept_calls s k is same = subst (All IsCall) (sym same.same_calls) (All-map IsCall (λ (e : Entry). e.call) s.entries (λ n d inside. (is.entries n d inside).call))
-
 -- ---- what a log keeps
 
 -- a log that wants it has nothing at first, and one that does not never has

@@ -3,6 +3,7 @@ pub mod RunTexts
 pub mod Recorded
 pub mod Counting
 pub mod Calls
+pub mod NameGiven
 pub mod LittleRoom
 pub mod Kept
 pub mod Playing

@@ -1,8 +1,11 @@
 //! Calls that are kept until they are made.
 
-ghost use Rattle.std.specs.Prelude.{◌≡◌, ◌+◌, ◌≤◌, OnOk, vec_len, vec_capacity};
+ghost use Rattle.std.specs.Prelude.{◌≡◌, ◌+◌, ◌≤◌, IfOk, OnOk, vec_len, vec_capacity};
+ghost use Rattle.std.specs.String.{string_bytes};
+ghost use Rattle.calls_trace.specs.private.NameGiven.{name_given};
 
-use calls_text::{Kept, Spelled};
+use crate::named_run::text_of;
+use calls_text::Kept;
 use domain_run::{Call, NoMemory};
 use std::alloc::Global;
 use std::marker::Model;
@@ -33,6 +36,39 @@ enum Place {
     },
     /// Any other: the next one of those, which stand in a list of their own.
     Long,
+}
+
+/// A call, and the text of the name that it gives.
+#[derive(Drop)]
+struct Spelled {
+    call: Call,
+    /// The name of the task that comes; empty where none does.
+    text: String,
+    ghost spelled: { string_bytes text ≡ name_given call },
+}
+
+/// The text of the name that a call gives; empty where it gives none.
+fn text_given(alloc: Global, call: &Call) -> Result<String, NoMemory>
+    ensures { IfOk result (λ text. string_bytes text ≡ name_given call.now) }
+{
+    match call {
+        Call::Admit { name, .. } | Call::Arrive { name, .. } => text_of(alloc, name),
+        _ => Ok(String::new(alloc)),
+    }
+}
+
+/// A call with the text of its name.
+fn spelled_of(alloc: Global, call: Call) -> Result<Spelled, NoMemory>
+    ensures { IfOk result (λ spelled. spelled.call ≡ call) }
+{
+    // What is let go of goes by one call: its parts would be written out.
+    match text_given(alloc, &call) {
+        Ok(text) => Ok(Spelled { call, text }),
+        Err(error) => {
+            drop(call);
+            Err(error)
+        }
+    }
 }
 
 /// Calls that are kept in little room, in their order.
@@ -67,7 +103,7 @@ fn make_room(order: &mut Vec<Place>, long: &mut Vec<Spelled>) -> Result<(), NoMe
 }
 
 impl KeptCalls {
-    ghost use Rattle.std.specs.Prelude.{◌≡◌, [], ◌∷◌, ◌++◌, ◌≤◌, OnOk, sum_by};
+    ghost use Rattle.std.specs.Prelude.{◌≡◌, [], ◌∷◌, ◌++◌, ◌≤◌, true, OnOk, sum_by};
     ghost use Rattle.calls_text.specs.Limits.{IsCall};
     ghost use Rattle.calls_text.specs.KeptCall.{call_kept};
     ghost use Rattle.calls_trace.specs.private.Kept.{room_of};
@@ -81,6 +117,14 @@ impl KeptCalls {
             order: Vec::new(alloc),
             long: Vec::new(alloc),
         }
+    }
+
+    /// Whether no call is kept.
+    #[inline(always)]
+    pub(crate) fn is_empty(&self) -> bool
+        ensures { result ≡ true → self.now ≡ [] }
+    {
+        self.order.is_empty()
     }
 
     /// One short call more.
@@ -110,7 +154,7 @@ impl KeptCalls {
     }
 
     /// One call more, behind the others. The block that it stands in is given back.
-    pub(crate) fn push(&mut self, kept: Kept) -> Result<(), NoMemory>
+    pub(crate) fn push(&mut self, alloc: Global, kept: Kept) -> Result<(), NoMemory>
         requires { IsCall (call_kept kept) }
         ensures { OnOk result (self.new ≡ self.old ++ call_kept kept ∷ []) }
     {
@@ -121,7 +165,7 @@ impl KeptCalls {
             Kept::Advance { ticks } => self.push_short(Place::Advance {
                 ticks: ticks as u32,
             }),
-            Kept::Long(spelled) => self.push_long(Box::into_inner(spelled)),
+            Kept::Long(call) => self.push_long(spelled_of(alloc, Box::into_inner(call))?),
         }
     }
 
@@ -169,8 +213,6 @@ impl Model for CallsLeft {
 
 impl CallsLeft {
     ghost use Rattle.std.specs.Prelude.{◌≡◌, [], ◌∷◌, IfSome, MatchOption};
-    ghost use Rattle.std.specs.String.{string_bytes};
-    ghost use Rattle.calls_text.specs.NameGiven.{name_given};
 
     /// The next call, and the text of the name that it gives; none behind the last one.
     #[inline(always)]

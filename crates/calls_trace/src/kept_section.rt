@@ -1,30 +1,60 @@
-//! A section whose calls are kept in little room: they are all read before the first one is made.
+//! A section that is read whole before its switches are made. The calls before its first advance
+//! make none, so they are made as they are read. The others are kept in little room.
 
-ghost use Rattle.std.specs.Prelude.{ℕ, false, List, IfOk};
+ghost use Rattle.std.specs.Prelude.{◌≡◌, ℕ, false, List, IfOk, OnOk};
 ghost use Rattle.calls_text.specs.SectionView.{SectionView};
-ghost use Rattle.calls_text.specs.Limits.{IsSection};
+ghost use Rattle.calls_text.specs.Limits.{IsCall, IsSection};
+ghost use Rattle.calls_text.specs.KeptCall.{call_kept};
 ghost use Rattle.calls_text.specs.Reader.{IsWithin, empty_section};
-ghost use Rattle.calls_trace.specs.private.Kept.{IsKeptSection, IsReadSection, KeepsSection};
+ghost use Rattle.calls_trace.specs.private.Calls.{ticks_given};
+ghost use Rattle.calls_trace.specs.private.Kept.{IsKeptSection, IsReadSection, KeepsSection, AreKept, IsOneMore};
+ghost use Rattle.calls_trace.specs.private.ReadRuns.{IsBegun};
 ghost use Rattle.calls_trace.specs.private.Replaying.{IsRunOf, IsToldOf};
 
 use crate::kept::KeptCalls;
 use crate::named_run::RunWithNames;
 use crate::read_runs::next_of;
-use calls_text::CallsReader;
-use domain_run::NoMemory;
+use calls_text::{CallsReader, Kept};
+use domain_run::{Call, NoMemory};
 use std::alloc::Global;
 
-/// A domain, and the calls on it in their order.
+/// A domain after the calls before the first advance, and the calls from the advance on.
 #[derive(Drop)]
 pub(crate) struct KeptSection {
     /// CPUs of the domain.
     pub(crate) cpus: u32,
-    /// What its tasks may take of each CPU (1/2^20 of a CPU).
-    pub(crate) limit: u64,
+    pub(crate) run: RunWithNames,
     pub(crate) calls: KeptCalls,
 }
 
+/// Whether a call is an advance.
+#[inline(always)]
+fn is_advance(kept: &Kept) -> bool
+    ensures { result ≡ false → ticks_given (call_kept kept.now) ≡ 0 }
+{
+    match kept {
+        Kept::Advance { .. } => true,
+        Kept::Long(call) => matches!(**call, Call::Advance { .. }),
+        _ => false,
+    }
+}
+
 impl KeptSection {
+    /// One call more: it is made, or kept behind an advance.
+    #[inline(always)]
+    fn take(&mut self, alloc: Global, kept: Kept) -> Result<(), NoMemory>
+        requires call { IsCall (call_kept kept) }
+        requires kept { AreKept self.old }
+        ensures { OnOk result (IsOneMore self.old (call_kept kept) self.new) }
+    {
+        if self.calls.is_empty() && !is_advance(&kept) {
+            self.run.make_kept(alloc, kept)?;
+            return Ok(());
+        }
+        self.calls.push(alloc, kept)?;
+        Ok(())
+    }
+
     /// The run of the section, whose calls are made in their order.
     pub(crate) fn run(self, alloc: Global) -> Result<RunWithNames, NoMemory>
         requires { KeepsSection self }
@@ -33,12 +63,11 @@ impl KeptSection {
         ensures told { (section : SectionView) → IsSection section → IsKeptSection section self
             → IfOk result (λ r. IsToldOf false section r.given r.log) }
     {
-        let KeptSection { cpus, limit, calls } = self;
+        let KeptSection { mut run, calls, .. } = self;
         let mut left = calls.into_left(alloc);
-        let mut run = RunWithNames::open(alloc, cpus, limit, false)?;
-        'calls: while let Some((call, text)) = left.next() {
+        'calls: while let Some((call, _)) = left.next() {
             // Both are let go of by one call: their parts would be written out on each way.
-            if let Err(error) = run.make(call, text) {
+            if let Err(error) = run.make(alloc, call) {
                 drop(run);
                 drop(left);
                 return Err(error);
@@ -55,13 +84,14 @@ pub(crate) fn section_read(
     limit: u64,
     reader: &mut CallsReader<'_>,
 ) -> Result<KeptSection, NoMemory>
+    requires begun { IsBegun cpus limit reader.old }
     ensures read { (text : List ℕ) (before : List SectionView)
         → IsWithin text before (empty_section cpus limit) reader.old
         → IfOk result (IsReadSection text before reader.new) }
 {
     let mut section = KeptSection {
         cpus,
-        limit,
+        run: RunWithNames::open(alloc, cpus, limit, false)?,
         calls: KeptCalls::new(alloc),
     };
     // The section is let go of by one call: its parts would be written out on each way.
@@ -72,7 +102,7 @@ pub(crate) fn section_read(
             return Err(error);
         }
     } {
-        if let Err(error) = section.calls.push(kept) {
+        if let Err(error) = section.take(alloc, kept) {
             drop(section);
             return Err(error);
         }

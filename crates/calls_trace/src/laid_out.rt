@@ -1,17 +1,28 @@
 //! The script of a task that is admitted, laid out before: its run reads it from then on.
 
-ghost use Rattle.std.specs.Prelude.{◌≡◌, ◌<◌};
+ghost use Rattle.std.specs.Prelude.{◌≡◌, ◌<◌, false, IsTrue};
+ghost use Rattle.domain_run.specs.Calls.{admit_reply, is_refusal};
 
 use attr_check::Params;
 use domain_run::{Reply, Script, State};
 
-/// Lays a script out where its task would be admitted. A task that is refused never runs, so
-/// nothing is done for it.
-pub(crate) fn lay_out_if_admitted(state: &State, number: u32, params: &Params, script: &mut Script)
+/// Whether a task would be admitted. Its script is laid out then. A task that is refused never
+/// runs, so nothing is done for it.
+pub(crate) fn lay_out_if_admitted(
+    state: &State,
+    number: u32,
+    params: &Params,
+    script: &mut Script,
+) -> bool
     requires { number < 65536 }
-    ensures { script.new ≡ script.old }
+    ensures script { script.new ≡ script.old }
+    ensures refused { result ≡ false → IsTrue (is_refusal (admit_reply state.now number params.now)) }
 {
-    if let Reply::Admitted = state.admit_reply(number, params) {
-        script.lay_out();
+    match state.admit_reply(number, params) {
+        Reply::Admitted => {
+            script.lay_out();
+            true
+        }
+        _ => false,
     }
 }

@@ -11,10 +11,10 @@
 //! run again. To the crate above they promise: `Ok` means that what was written is that text of the
 //! runs of the sections, each on a domain of its own, and nothing else; each fault means what it
 //! says, and where it is no fault of the writer, nothing was written. The trace of one section goes
-//! out while its run is made, so its switches are not kept; the calls of a trace's first section
-//! are kept until it is known whether another follows. All other calls are made as soon as they are
-//! read. `proofs/CallerLemmas.antt` has laws for callers: the calls text of histories is read
-//! again, and its replay writes the same trace.
+//! out while its run is made, so its switches are not kept. The calls of a trace's first section
+//! are kept, from its first advance on, until it is known whether another section follows. All
+//! other calls are made as soon as they are read. `proofs/CallerLemmas.antt` has laws for callers:
+//! the calls text of histories is read again, and its replay writes the same trace.
 #![tactic(auto)]
 
 mod charting;

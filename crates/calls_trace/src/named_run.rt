@@ -12,7 +12,6 @@ ghost use Rattle.domain_run.specs.Run.{run_of};
 ghost use Rattle.domain_run.specs.Tick.{ticks as ticked_by};
 ghost use Rattle.calls_text.specs.Limits.{IsTaskNumber, IsCall, IsSection};
 ghost use Rattle.calls_text.specs.Histories.{IsLegal};
-ghost use Rattle.calls_text.specs.NameGiven.{name_given};
 ghost use Rattle.calls_text.specs.KeptCall.{call_kept};
 ghost use Rattle.switch_text.specs.Names.{name_of_task};
 ghost use Rattle.calls_trace.specs.Replay.{no_names, with_name, names_after, calls_in_section};
@@ -22,7 +21,7 @@ ghost use Rattle.calls_trace.specs.private.Recorded.{names_given_by, given_by_al
 
 use crate::laid_out::lay_out_if_admitted;
 use attr_check::Params;
-use calls_text::{Entry, Kept, Section, Spelled};
+use calls_text::{Entry, Kept, Section};
 use domain_run::{Call, Log, Name, NoMemory, Reply, Script, State};
 use indexmap::IndexMap;
 use std::alloc::Global;
@@ -145,16 +144,15 @@ impl RunWithNames {
     /// Admits a task; its name and its parameters are kept where it is admitted.
     fn admit(
         &mut self,
+        alloc: Global,
         number: u32,
         name: Name,
         params: Params,
         delay: u64,
         mut script: Script,
-        text: String,
     ) -> Result<(), NoMemory>
         requires number { IsTaskNumber number }
         requires delay { delay ≤ 1000000000 }
-        requires text { string_bytes text ≡ name }
         requires named { AdmittedHaveNames self.old.state self.old.names }
         ensures state { let call = Call.Admit number name params delay script in
             OnOk result (self.new.state ≡ after_call self.old.state call) }
@@ -169,9 +167,18 @@ impl RunWithNames {
         ensures time { OnOk result (self.new.state.time ≡ self.old.state.time) }
         ensures log { self.new.log ≡ self.old.log }
     {
-        // For the prover alone: a look at a name brings what every name keeps.
-        let _ = name.as_str();
-        lay_out_if_admitted(&self.state, number, &params, &mut script);
+        // A task that is refused changes nothing, and nothing is kept of it.
+        if !lay_out_if_admitted(&self.state, number, &params, &mut script) {
+            return Ok(());
+        }
+        let text = match text_of(alloc, &name) {
+            Ok(text) => text,
+            Err(error) => {
+                drop(script);
+                drop(name);
+                return Err(error);
+            }
+        };
         match self.state.admit(number, name, params, delay, script) {
             Ok(()) => self.know(number, text, params),
             Err(_) => Ok(()),
@@ -223,10 +230,9 @@ impl RunWithNames {
         Ok(())
     }
 
-    /// Makes a call that gives this name; the log is told what it tells.
-    pub(crate) fn make(&mut self, call: Call, text: String) -> Result<(), NoMemory>
+    /// Makes a call; the log is told what it tells.
+    pub(crate) fn make(&mut self, alloc: Global, call: Call) -> Result<(), NoMemory>
         requires call { IsCall call }
-        requires text { string_bytes text ≡ name_given call }
         requires early { self.old.state.time + 60000000 ≤ 2 ^ 42 }
         requires named { AdmittedHaveNames self.old.state self.old.names }
         ensures state { OnOk result (self.new.state ≡ after_call self.old.state call) }
@@ -247,7 +253,7 @@ impl RunWithNames {
                 params,
                 delay,
                 script,
-            } => self.admit(number, name, params, delay, script, text),
+            } => self.admit(alloc, number, name, params, delay, script),
             Call::Advance { ticks } => self.advance(ticks),
             Call::Regrade {
                 number,
@@ -270,12 +276,12 @@ impl RunWithNames {
                 name,
                 params,
                 script,
-            } => self.admit(number, name, params, 0, script, text),
+            } => self.admit(alloc, number, name, params, 0, script),
         }
     }
 
     /// As `make`, of a call in little room. What is short is made in place.
-    pub(crate) fn make_kept(&mut self, kept: Kept) -> Result<(), NoMemory>
+    pub(crate) fn make_kept(&mut self, alloc: Global, kept: Kept) -> Result<(), NoMemory>
         requires call { IsCall (call_kept kept) }
         requires early { self.old.state.time + 60000000 ≤ 2 ^ 42 }
         requires named { AdmittedHaveNames self.old.state self.old.names }
@@ -298,10 +304,7 @@ impl RunWithNames {
             Kept::Leave { number } => self.leave(number),
             Kept::Depart { number } => self.depart(number),
             Kept::Advance { ticks } => self.advance(ticks),
-            Kept::Long(spelled) => {
-                let Spelled { call, text } = Box::into_inner(spelled);
-                self.make(call, text)
-            }
+            Kept::Long(call) => self.make(alloc, Box::into_inner(call)),
         }
     }
 

@@ -1,9 +1,9 @@
 //! The run of a section, made piece by piece, so that its switches can be written while they are
 //! made.
 
-ghost use Rattle.std.specs.Prelude.{◌≡◌, ◌+◌, ◌*◌, ◌≤◌, ◌^◌, All, IfOk, length, sum_by};
+ghost use Rattle.std.specs.Prelude.{◌≡◌, ◌+◌, ◌*◌, ◌≤◌, ◌^◌, All, OnOk, length, sum_by};
 ghost use Rattle.indexmap.specs.IndexMap.{spare};
-ghost use Rattle.calls_trace.specs.Replay.{no_names};
+ghost use Rattle.switch_text.specs.Names.{name_of_task};
 ghost use Rattle.calls_trace.specs.private.Replaying.{AdmittedHaveNames, MapGives};
 ghost use Rattle.calls_trace.specs.private.Calls.{IsCallReady};
 ghost use Rattle.calls_trace.specs.private.Kept.{room_of};
@@ -11,8 +11,9 @@ ghost use Rattle.calls_trace.specs.private.Kept.{room_of};
 use crate::kept::CallsLeft;
 use crate::kept_section::KeptSection;
 use crate::laid_out::lay_out_if_admitted;
+use crate::named_run::RunWithNames;
 use attr_check::Params;
-use domain_run::{Buffered, Call, Name, NoMemory, Script, State};
+use domain_run::{Buffered, Call, Name, NoMemory, Script};
 use indexmap::IndexMap;
 use std::alloc::Global;
 use switch_text::{Run, Slices};
@@ -43,7 +44,6 @@ pub(crate) struct Playing {
 impl NamedDomain {
     ghost use Rattle.std.specs.Prelude.{◌<◌, IfOk};
     ghost use Rattle.std.specs.String.{string_bytes};
-    ghost use Rattle.domain_run.specs.Domain.{IsLimit, empty_domain};
     ghost use Rattle.domain_run.specs.declared.call.Call.TheVariants as Call;
     ghost use Rattle.domain_run.specs.Calls.{after_call};
     ghost use Rattle.domain_run.specs.Tick.{ticks};
@@ -51,26 +51,29 @@ impl NamedDomain {
     ghost use Rattle.switch_text.specs.Names.{name_of_task};
     ghost use Rattle.calls_trace.specs.Replay.{with_name, names_after};
     ghost use Rattle.calls_trace.specs.private.Replaying.{MapGives};
-    ghost use Rattle.calls_text.specs.NameGiven.{name_given};
+    ghost use Rattle.calls_trace.specs.private.NameGiven.{name_given};
     ghost use Rattle.calls_trace.specs.private.Kept.{room_of};
 
-    /// A domain of which no call is made yet, with room for so many names.
-    fn open(alloc: Global, cpus: u32, limit: u64, room: usize) -> Result<NamedDomain, NoMemory>
-        requires cpus { (0 < cpus) × (cpus ≤ 64) }
-        requires limit { IsLimit limit }
-        ensures domain { IfOk result (λ d. d.domain ≡ empty_domain cpus limit) }
-        ensures names { IfOk result (λ d. MapGives d.names no_names) }
+    /// The domain of a run and its names, with room for so many more.
+    fn of(run: RunWithNames, room: usize) -> Result<NamedDomain, NoMemory>
+        ensures domain { IfOk result (λ d. d.domain ≡ run.state) }
+        ensures names { IfOk result (λ d. MapGives d.names (name_of_task run.names)) }
         ensures room { IfOk result (λ d. room ≤ spare d.names) }
     {
+        let RunWithNames {
+            state,
+            mut names,
+            given,
+            log,
+        } = run;
+        drop(given);
+        drop(log);
         // The names are let go of by one call: their parts would be written out on each way.
-        let names = room_for_names(alloc, room)?;
-        let state = match State::open(alloc, cpus, limit) {
-            Ok(state) => state,
-            Err(error) => {
-                drop(names);
-                return Err(error);
-            }
-        };
+        if let Err(error) = make_room(&mut names, room) {
+            drop(names);
+            drop(state);
+            return Err(error);
+        }
         match Buffered::of(state) {
             Ok(domain) => Ok(NamedDomain { domain, names }),
             Err(error) => {
@@ -117,7 +120,9 @@ impl NamedDomain {
     {
         // For the prover alone: a look at a name brings what every name keeps.
         let _ = name.as_str();
-        lay_out_if_admitted(self.domain.state(), number, &params, &mut script);
+        if !lay_out_if_admitted(self.domain.state(), number, &params, &mut script) {
+            return;
+        }
         match self.domain.admit(number, name, params, delay, script) {
             Ok(()) => self.put(number, text),
             Err(_) => {}
@@ -190,7 +195,7 @@ impl Playing {
     ghost use Rattle.calls_trace.specs.private.Kept.{IsKeptSection, KeepsSection};
     ghost use Rattle.calls_trace.specs.private.Playing.{calls_left, played_domain, rest_of, all_names, work_of};
 
-    /// A section of which no call is made yet.
+    /// A section whose calls are made up to its first advance.
     pub(crate) fn open(alloc: Global, kept: KeptSection) -> Result<Playing, NoMemory>
         requires { KeepsSection kept }
         ensures rest { (section : SectionView) → IsKeptSection section kept
@@ -198,9 +203,9 @@ impl Playing {
         ensures names { (section : SectionView) → IsKeptSection section kept
             → IfOk result (λ p. (n : ℕ) → all_names p n ≡ names_in section n) }
     {
-        let KeptSection { cpus, limit, calls } = kept;
+        let KeptSection { run, calls, .. } = kept;
         // The calls are let go of by one call: their parts would be written out on each way.
-        let domain = match NamedDomain::open(alloc, cpus, limit, calls.room()) {
+        let domain = match NamedDomain::of(run, calls.room()) {
             Ok(domain) => domain,
             Err(error) => {
                 drop(calls);
@@ -317,13 +322,11 @@ impl Slices for Playing {
     }
 }
 
-/// Room for so many names.
-fn room_for_names(alloc: Global, n: usize) -> Result<IndexMap<u32, String>, NoMemory>
-    ensures empty { IfOk result (λ names. MapGives names no_names) }
-    ensures room { IfOk result (λ names. n ≤ spare names) }
+/// Room for so many names more.
+fn make_room(names: &mut IndexMap<u32, String>, n: usize) -> Result<(), NoMemory>
+    ensures names { MapGives names.new (name_of_task names.old) }
+    ensures room { OnOk result (n ≤ spare names.new) }
 {
-    match IndexMap::with_capacity(alloc, n) {
-        Ok(names) => Ok(names),
-        Err(_) => Err(NoMemory),
-    }
+    names.reserve(n)?;
+    Ok(())
 }

@@ -52,7 +52,7 @@ pub(crate) fn run_read(
             return Err(error);
         }
     } {
-        if let Err(error) = run.make_kept(kept) {
+        if let Err(error) = run.make_kept(alloc, kept) {
             drop(run);
             return Err(error);
         }

@@ -1,15 +1,16 @@
 -- Calls that are kept until they are made.
-use Rattle.std.specs.Prelude.{ℕ, ◌≡◌, List, [], ◌∷◌, ◌++◌}
+use Rattle.std.specs.Prelude.{ℕ, ◌≡◌, ◌≤◌, ◌+◌, false, List, [], ◌∷◌, ◌++◌, length, All}
 use Rattle.domain_run.specs.declared.call.Call.{Call}
 use Rattle.domain_run.specs.declared.call.Call.TheVariants.{Admit, Regrade, Wake, Leave, Advance, Limit, Depart, Arrive}
 use Rattle.domain_run.specs.Run.{after_calls}
 use Rattle.calls_text.specs.SectionView.{SectionView}
 use Rattle.calls_text.specs.Spelling.{spelling}
-use Rattle.calls_text.specs.Limits.{IsSection, AreRead}
+use Rattle.calls_text.specs.Limits.{IsCall, IsSection, AreRead}
 use Rattle.calls_text.specs.Reader.{ReaderView, IsBehind, IsWithin}
 use Rattle.switch_text.specs.Names.{name_of_task}
-use Rattle.calls_trace.specs.Replay.{calls_in_section, names_of}
-use Rattle.calls_trace.specs.Told.{domain_of, names_in}
+use Rattle.calls_trace.specs.Replay.{names_of}
+use Rattle.calls_trace.specs.Told.{domain_of, names_in, no_params}
+use Rattle.calls_trace.specs.private.Replaying.{AdmittedHaveNames, GivesParams}
 use Rattle.calls_trace.specs.declared.kept_section.KeptSection.{KeptSection}
 use Rattle.calls_trace.specs.declared.named_run.RunWithNames.{RunWithNames}
 
@@ -24,11 +25,39 @@ room_of (Limit limit word) = 1
 room_of (Depart number) = 0
 room_of (Arrive number name params script) = 1
 
--- the domain and the calls of a section
+-- a run of which no tick is made: it has made no switch, and it keeps no log
+pub record IsAtStart (r : RunWithNames) : Type 0 where
+  pub all_named : AdmittedHaveNames r.state r.names
+  pub silent : r.log.wanted ≡ false
+  pub unknown : GivesParams r.given no_params
+  pub time : r.state.time ≡ 0
+  pub bare : r.state.switches ≡ []
+
+-- behind it calls of sections are kept
+pub record AreKept (k : KeptSection) : Type 0 where
+  pub start : IsAtStart k.run
+  pub are : All IsCall k.calls
+
+-- one call more is made, or kept
+pub record IsOneMore (was : KeptSection) (call : Call) (is : KeptSection) : Type 0 where
+  pub same_cpus : is.cpus ≡ was.cpus
+  pub kept : AreKept is
+  pub few : length is.calls ≤ length was.calls + 1
+  pub domain : after_calls is.run.state is.calls ≡ after_calls was.run.state (was.calls ++ call ∷ [])
+  pub called : (n : ℕ) → names_of is.run.state is.calls (name_of_task is.run.names) n
+      ≡ names_of was.run.state (was.calls ++ call ∷ []) (name_of_task was.run.names) n
+
+-- of a section some calls are made, and these are left
+pub record IsMadeUpTo (s : SectionView) (left : List Call) (r : RunWithNames) : Type 0 where
+  pub domain : after_calls r.state left ≡ domain_of s
+  pub called : (n : ℕ) → names_of r.state left (name_of_task r.names) n ≡ names_in s n
+
+-- the calls of a section up to the first advance are made, and the others are kept
 pub record IsKeptSection (s : SectionView) (k : KeptSection) : Type 0 where
   pub same_cpus : k.cpus ≡ s.cpus
-  pub same_limit : k.limit ≡ s.limit
-  pub same_calls : k.calls ≡ calls_in_section s
+  pub made : IsMadeUpTo s k.calls k.run
+  pub kept : AreKept k
+  pub few : length k.calls ≤ length s.entries
 
 -- those of some section
 pub record KeepsSection (k : KeptSection) : Type 0 where
@@ -50,11 +79,6 @@ pub record IsReadSection (text : List ℕ) (before : List SectionView) (reader :
   pub is : IsSection section
   pub behind : IsBehind text (before ++ section ∷ []) reader
   pub same : IsKeptSection section k
-
--- of a section whose calls are kept, some are made, and these are left
-pub record IsMadeUpTo (s : SectionView) (left : List Call) (r : RunWithNames) : Type 0 where
-  pub domain : after_calls r.state left ≡ domain_of s
-  pub called : (n : ℕ) → names_of r.state left (name_of_task r.names) n ≡ names_in s n
 
 -- the text spells one section, and its calls are kept
 pub record IsOnly (text : List ℕ) (k : KeptSection) : Type 0 where

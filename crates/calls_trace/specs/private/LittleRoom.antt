@@ -2,7 +2,7 @@
 use Rattle.std.specs.Prelude.{ℕ, List, [], ◌∷◌}
 use Rattle.domain_run.specs.declared.call.Call.{Call}
 use Rattle.domain_run.specs.declared.call.Call.TheVariants as calls
-use Rattle.calls_text.specs.declared.kept_call.Spelled.{Spelled}
+use Rattle.calls_trace.specs.declared.kept.Spelled.{Spelled}
 use Rattle.calls_trace.specs.declared.kept.Place.{Place}
 use Rattle.calls_trace.specs.declared.kept.Place.TheVariants.{Wake, Leave, Depart, Advance, Long}
 

@@ -2,7 +2,7 @@ use Rattle.std.proofs.Common.{List, [], ◌∷◌, ◌++◌, ap, ◌∙◌}
 use Rattle.domain_run.specs.declared.call.Call.{Call}
 use Rattle.calls_trace.specs.declared.kept.Place.{Place}
 use Rattle.calls_trace.specs.declared.kept.Place.TheVariants.{Long}
-use Rattle.calls_text.specs.declared.kept_call.Spelled.{Spelled}
+use Rattle.calls_trace.specs.declared.kept.Spelled.{Spelled}
 use Rattle.calls_trace.specs.private.LittleRoom.{calls_of_orders}
 use Rattle.calls_trace.proofs.LittleRoom.{calls_append}
 use Rattle.calls_trace.proofs.kept.KeptCalls.push_long.Goals as goal

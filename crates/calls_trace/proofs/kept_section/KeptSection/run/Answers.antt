@@ -11,43 +11,28 @@ use Rattle.switch_text.specs.Names.{name_of_task}
 use Rattle.calls_trace.specs.Replay.{names_of, no_names, calls_in_section}
 use Rattle.calls_trace.specs.Told.{names_in, params_after}
 use Rattle.calls_trace.specs.private.Replaying.{given_in}
-use Rattle.calls_trace.proofs.Sections.{kept_calls, left_names, none_kept, unheard}
+use Rattle.calls_trace.proofs.Sections.{left_names, none_kept, unheard}
 use Rattle.calls_trace.proofs.kept_section.KeptSection.run.Goals as goal
-
-pub open-requires-clause-cpus : goal.open-requires-clause-cpus
-open-requires-clause-cpus c = let r = c.requires in (omega (arith, r.same.same_cpus, r.is.some_cpus), omega (arith, r.same.same_cpus, r.is.most_cpus))
-
-pub open-requires-clause-limit : goal.open-requires-clause-limit
-open-requires-clause-limit c = let r = c.requires in (omega (arith, r.same.same_limit, r.is.least_limit), omega (arith, r.same.same_limit, r.is.most_limit))
 
 pub calls-init : goal.calls-init
 calls-init c =
     let r = c.requires in
     let kept = c.args.self in
     let left = c.into_left-left.result in
+    let run = kept.run in
+    let start = r.same.kept.start in
     let back : left ≡ kept.calls = c.into_left-left.ensures in
-    let run = c.in_ok-run.run' in
-    let made = c.in_ok-run.ensures in
-    let many : length left ≡ length r.section.entries = ap (λ (cs : List Call). length cs) (back ∙ r.same.same_calls) ∙ length-map r.section.entries (λ e. e.call) in
-    let time = ap (λ (d : Domain). d.time) made.state in
-    let nobody : name_of_task run.names ≡ no_names = λ i m. made.names m i in
+    let many = ap (λ (cs : List Call). length cs) back in
     record {
-      made = λ s same.
-          let start = empty_domain s.cpus s.limit in
-          let all : left ≡ calls_in_section s = back ∙ same.same_calls in
-          let state : run.state ≡ start = made.state ∙ ap (λ (n : ℕ). empty_domain n kept.limit) same.same_cpus ∙ ap (λ (n : ℕ). empty_domain s.cpus n) same.same_limit in
-          record {
-            domain = ap (after_calls run.state) all ∙ ap (λ (d : Domain). after_calls d (calls_in_section s)) state;
-            called = λ n.
-                ap (λ (cs : List Call). names_of run.state cs (name_of_task run.names) n) all
-                ∙ ap (λ (d : Domain). names_of d (calls_in_section s) (name_of_task run.names) n) state
-                ∙ ap (λ (f : ℕ → List ℕ). names_of start (calls_in_section s) f n) nobody;
-          };
-      are = subst (All IsCall) (sym back) (kept_calls r.section kept r.is r.same);
-      all_named = λ n h. let no : false ≡ true = subst (λ (d : Domain). IsAdmitted d.used n) made.state h in absurd cc;
-      silent = made.wanted;
-      unknown = made.given;
-      early = omega (arith, many, time, r.is.most_entries);
+      made = λ s same. record {
+        domain = ap (after_calls run.state) back ∙ same.made.domain;
+        called = λ n. ap (λ (cs : List Call). names_of run.state cs (name_of_task run.names) n) back ∙ same.made.called n;
+      };
+      are = subst (All IsCall) (sym back) r.same.kept.are;
+      all_named = start.all_named;
+      silent = start.silent;
+      unknown = start.unknown;
+      early = omega (arith, many, start.time, r.same.few, r.is.most_entries);
     }
 
 pub make-requires-clause-call : goal.make-requires-clause-call

@@ -1,22 +1,30 @@
-use Rattle.std.proofs.Common.{◌≡◌, ℕ, List, length, ap, sym, subst, ◌∙◌, arith}
+use Rattle.std.proofs.Common.{◌≡◌, ℕ, List, [], ◌++◌, length, ap, sym, subst, ◌∙◌, arith}
 use Rattle.std.specs.Prelude.{All, sum_by}
-use Rattle.std.proofs.lemmas.List.{length-map}
 use Rattle.std.proofs.lemmas.List.Elements.{All-weaker}
 use Rattle.domain_run.specs.declared.call.Call.{Call}
-use Rattle.domain_run.specs.Domain.{Domain, empty_domain}
+use Rattle.domain_run.specs.Domain.{Domain}
+use Rattle.domain_run.specs.Passing.{without_switches}
+use Rattle.domain_run.specs.Run.{after_calls}
+use Rattle.domain_run.specs.Switch.{Switch}
 use Rattle.calls_text.specs.Limits.{IsCall}
 use Rattle.switch_text.specs.Names.{name_of_task}
-use Rattle.calls_trace.specs.Replay.{names_of, no_names, calls_in_section}
+use Rattle.calls_trace.specs.Replay.{names_of}
 use Rattle.calls_trace.specs.private.Calls.{IsCallReady}
 use Rattle.calls_trace.specs.private.Kept.{room_of}
 use Rattle.calls_trace.proofs.Ready.{call_ready}
-use Rattle.calls_trace.proofs.Sections.{kept_calls}
+use Rattle.calls_trace.proofs.Naming.{still_named}
+use Rattle.calls_trace.proofs.Pieces.{switches_left}
 use Rattle.calls_trace.proofs.playing.Playing.open.Goals as goal
+
+pub invariant_of-result-clause-called : goal.invariant_of-result-clause-called
+invariant_of-result-clause-called c =
+    let run = c.args.kept.run in
+    let d = c.in-Ok.domain in
+    still_named run.state d.domain run.names d.names c.in-Ok.ensures.domain c.in-Ok.ensures.names c.requires.same.kept.start.all_named
 
 pub invariant_of-result-clause-kept : goal.invariant_of-result-clause-kept
 invariant_of-result-clause-kept c =
-    let r = c.requires in
-    subst (All IsCallReady) (sym c.into_left.ensures) (All-weaker IsCall IsCallReady call_ready c.args.kept.calls (kept_calls r.section c.args.kept r.is r.same))
+    subst (All IsCallReady) (sym c.into_left.ensures) (All-weaker IsCall IsCallReady call_ready c.args.kept.calls c.requires.same.kept.are)
 
 pub invariant_of-result-clause-room : goal.invariant_of-result-clause-room
 invariant_of-result-clause-room c =
@@ -26,18 +34,29 @@ invariant_of-result-clause-room c =
 pub invariant_of-result-clause-early : goal.invariant_of-result-clause-early
 invariant_of-result-clause-early c =
     let r = c.requires in
-    let many : length c.into_left.result ≡ length r.section.entries = ap (λ (cs : List Call). length cs) (c.into_left.ensures ∙ r.same.same_calls) ∙ length-map r.section.entries (λ e. e.call) in
+    let many = ap (λ (cs : List Call). length cs) c.into_left.ensures in
     let time = ap (λ (d : Domain). d.time) c.in-Ok.ensures.domain in
-    omega (arith, many, time, r.is.most_entries)
+    omega (arith, many, time, r.same.kept.start.time, r.same.few, r.is.most_entries)
+
+pub returns-clause-rest : goal.returns-clause-rest
+returns-clause-rest c = λ s same.
+    let d = c.in-Ok.domain.domain in
+    let left = c.into_left.result in
+    let rest = (after_calls (without_switches d) left).switches in
+    let bare : d.switches ≡ [] = ap (λ (x : Domain). x.switches) c.in-Ok.ensures.domain ∙ same.kept.start.bare in
+    sym (switches_left d left ∙ ap (λ (ss : List Switch). ss ++ rest) bare)
+    ∙ ap (λ (x : Domain). (after_calls x left).switches) c.in-Ok.ensures.domain
+    ∙ ap (λ (cs : List Call). (after_calls c.args.kept.run.state cs).switches) c.into_left.ensures
+    ∙ ap (λ (x : Domain). x.switches) same.made.domain
 
 pub returns-clause-names : goal.returns-clause-names
 returns-clause-names c = λ s same.
+    let run = c.args.kept.run in
     let d = c.in-Ok.domain.domain in
     let names = c.in-Ok.domain.names in
-    let calls : c.into_left.result ≡ calls_in_section s = c.into_left.ensures ∙ same.same_calls in
-    let state : d ≡ empty_domain s.cpus s.limit = c.in-Ok.ensures.domain ∙ ap (λ (n : ℕ). empty_domain n c.args.kept.limit) same.same_cpus ∙ ap (λ (n : ℕ). empty_domain s.cpus n) same.same_limit in
-    let nobody : name_of_task names ≡ no_names = λ i m. c.in-Ok.ensures.names m i in
+    let as_before : name_of_task names ≡ name_of_task run.names = λ i m. c.in-Ok.ensures.names m i in
     λ n.
-    ap (λ (cs : List Call). names_of d cs (name_of_task names) n) calls
-    ∙ ap (λ (e : Domain). names_of e (calls_in_section s) (name_of_task names) n) state
-    ∙ ap (λ (f : ℕ → List ℕ). names_of (empty_domain s.cpus s.limit) (calls_in_section s) f n) nobody
+    ap (λ (cs : List Call). names_of d cs (name_of_task names) n) c.into_left.ensures
+    ∙ ap (λ (e : Domain). names_of e c.args.kept.calls (name_of_task names) n) c.in-Ok.ensures.domain
+    ∙ ap (λ (f : ℕ → List ℕ). names_of run.state c.args.kept.calls f n) as_before
+    ∙ same.made.called n

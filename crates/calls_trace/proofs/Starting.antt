@@ -1,0 +1,90 @@
+-- The calls of a section before its first advance.
+use Rattle.std.proofs.Common.{◌≡◌, ℕ, Bool, true, false, cond, List, [], ◌∷◌, ◌++◌, refl, sym, ap, subst, ◌∙◌, arith}
+use Rattle.attr_check.specs.ParamsView.{ParamsView}
+use Rattle.domain_run.specs.declared.call.Call.{Call}
+use Rattle.domain_run.specs.declared.call.Call.TheVariants.{Admit, Regrade, Wake, Leave, Advance, Limit, Depart, Arrive}
+use Rattle.domain_run.specs.declared.call.Reply.TheVariants.{Admitted, Full, Twice, Busy}
+use Rattle.domain_run.specs.declared.call.Reply.{Reply}
+use Rattle.domain_run.specs.Domain.{Domain, empty_domain}
+use Rattle.domain_run.specs.Calls.{reply_to, is_refusal, after_granted, after_call}
+use Rattle.domain_run.specs.Run.{after_calls}
+use Rattle.domain_run.specs.Tick.{ticks}
+use Rattle.calls_text.specs.declared.section.Entry.{Entry}
+use Rattle.calls_text.specs.SectionView.{SectionView}
+use Rattle.calls_text.specs.Reader.{section_with_entries}
+use Rattle.switch_text.specs.Names.{name_of_task}
+use Rattle.calls_trace.specs.declared.kept_section.KeptSection.{KeptSection}
+use Rattle.calls_trace.specs.Replay.{calls_in_section, names_of, names_after, no_names}
+use Rattle.calls_trace.specs.Told.{domain_of, names_in}
+use Rattle.calls_trace.specs.private.Calls.{ticks_given}
+use Rattle.calls_trace.specs.private.Kept.{IsMadeUpTo, IsOneMore}
+use Rattle.calls_trace.proofs.ReadRuns.{calls_push, after_push, names_push}
+use Rattle.calls_trace.proofs.Ready.{call_left_time}
+
+either_bare : (b : Bool) (d e : Domain) → e.switches ≡ d.switches → (cond b d e).switches ≡ d.switches
+either_bare true d e same = refl
+either_bare false d e same = same
+
+-- a call that makes no tick makes no switch
+pub no_switch : (d : Domain) (c : Call) → ticks_given c ≡ 0 → (after_call d c).switches ≡ d.switches
+no_switch d (Admit number name params delay script) none = let c = Admit number name params delay script in either_bare (is_refusal (reply_to d c)) d (after_granted d c) refl
+no_switch d (Regrade number params word) none = let c = Regrade number params word in either_bare (is_refusal (reply_to d c)) d (after_granted d c) refl
+no_switch d (Wake number) none = either_bare (is_refusal (reply_to d (Wake number))) d (after_granted d (Wake number)) refl
+no_switch d (Leave number) none = either_bare (is_refusal (reply_to d (Leave number))) d (after_granted d (Leave number)) refl
+no_switch d (Advance k) none = ap (λ (n : ℕ). (ticks n d).switches) none
+no_switch d (Limit limit word) none = either_bare (is_refusal (reply_to d (Limit limit word))) d (after_granted d (Limit limit word)) refl
+no_switch d (Depart number) none = either_bare (is_refusal (reply_to d (Depart number))) d (after_granted d (Depart number)) refl
+no_switch d (Arrive number name params script) none = let c = Arrive number name params script in either_bare (is_refusal (reply_to d c)) d (after_granted d c) refl
+
+-- it takes no time
+pub no_time : (d : Domain) (c : Call) → ticks_given c ≡ 0 → (after_call d c).time ≡ d.time
+no_time d c none = let all = call_left_time d (after_call d c) c 0 refl in omega (arith, all, none)
+
+-- what is no admission is a refusal
+pub not_admitted : (a t c : Bool) (sum : ℕ) → (◌≡◌ {A = Reply} (cond a Full (cond t Twice (cond c (Busy sum) Admitted))) Admitted → ⊥) → is_refusal (cond a Full (cond t Twice (cond c (Busy sum) Admitted))) ≡ true
+not_admitted true t c sum isnt = refl
+not_admitted false true c sum isnt = refl
+not_admitted false false true sum isnt = refl
+not_admitted false false false sum isnt = absurd (isnt refl)
+
+-- a call that is made at once, where none is kept
+pub made_first : (d e : Domain) (cs : List Call) (c : Call) → cs ≡ [] → e ≡ after_call d c → after_calls e cs ≡ after_calls d (cs ++ c ∷ [])
+made_first d e cs c none made = ap (after_calls e) none ∙ made ∙ ap (λ (xs : List Call). after_calls d (xs ++ c ∷ [])) (sym none)
+
+pub named_first : (d e : Domain) (cs : List Call) (c : Call) (was is : ℕ → List ℕ) → cs ≡ [] → e ≡ after_call d c → ((n : ℕ) → is n ≡ names_after d c was n) → (n : ℕ) → names_of e cs is n ≡ names_of d (cs ++ c ∷ []) was n
+named_first d e cs c was is none made each n =
+    ap (λ (xs : List Call). names_of e xs is n) none ∙ each n ∙ ap (λ (xs : List Call). names_of d (xs ++ c ∷ []) was n) (sym none)
+
+-- a section with one call more
+pub made_more : (s : SectionView) (e : Entry) (was is : KeptSection) → IsMadeUpTo s was.calls was.run → IsOneMore was e.call is → IsMadeUpTo (section_with_entries s (e ∷ [])) is.calls is.run
+made_more s e was is made more =
+    let start = empty_domain s.cpus s.limit in
+    let calls = calls_in_section s in
+    let longer = calls_in_section (section_with_entries s (e ∷ [])) in
+    let d = was.run.state in
+    let names = name_of_task was.run.names in
+    let before : names_of d was.calls names ≡ names_in s = λ i m. made.called m i in
+    record {
+      domain = more.domain
+          ∙ after_push d was.calls e.call
+          ∙ ap (λ (x : Domain). after_call x e.call) made.domain
+          ∙ sym (after_push start calls e.call)
+          ∙ ap (after_calls start) (sym (calls_push s e));
+      called = λ n. more.called n
+          ∙ ap (λ (f : ℕ → List ℕ). f n) (names_push d was.calls e.call names)
+          ∙ ap (λ (x : Domain). names_after x e.call (names_of d was.calls names) n) made.domain
+          ∙ ap (λ (f : ℕ → List ℕ). names_after (domain_of s) e.call f n) before
+          ∙ sym (ap (λ (f : ℕ → List ℕ). f n) (names_push start calls e.call no_names))
+          ∙ ap (λ (cs : List Call). names_of start cs no_names n) (sym (calls_push s e));
+    }
+
+-- ---- a refused call
+
+pub refused_names : (b : Bool) (names more : ℕ → List ℕ) (n : ℕ) → b ≡ true → names n ≡ (cond b names more) n
+refused_names true names more n is = refl
+refused_names false names more n is = absurd cc
+
+pub refused_params : (w b : Bool) (given more : ℕ → ParamsView) (n : ℕ) → b ≡ true → given n ≡ (cond w (cond b given more) given) n
+refused_params true true given more n is = refl
+refused_params false true given more n is = refl
+refused_params w false given more n is = absurd cc
