@@ -1,8 +1,8 @@
 -- Several characters taken at once: plain ones of a string, and those of a number.
-use Rattle.std.specs.Prelude.{option_and_then, ◌==◌, nat_le, encode_utf8, encode_utf8_all, slice_index}
+use Rattle.std.specs.Prelude.{option_and_then, ◌==◌, nat_le, encode_utf8, encode_utf8_all}
 use Rattle.std.specs.Str.{IsUtf8, IsAscii, IsCharBoundary}
 use Rattle.std.specs.Char.{is_ascii_digit}
-use Rattle.std.specs.List.{All, AllByRecursion}
+use Rattle.std.specs.List.{All, AllByRecursion, prefix_len}
 use Rattle.std.proofs.Common.{ℕ, suc, ◌+◌, ◌<◌, ◌≤◌, ◌≡◌, inl, inr, Bool, true, false, not, ◌&&◌, List, [], ◌∷◌, ◌++◌, length, take, drop, take-add, refl, sym, ap, ◌∙◌, subst, arith, Option, Some, None, Result, Ok, append-nil, append_assoc}
 use Rattle.std.proofs.lemmas.Bool.{cases_lt, eq-eqb}
 use Rattle.std.proofs.lemmas.Bool.Decides.{nat_tests}
@@ -10,6 +10,7 @@ use Rattle.std.proofs.lemmas.Str.{encode_ascii, encodes-append, encodes-IsAscii,
 use Rattle.std.proofs.lemmas.Str.Ascii.{IsAscii-from_all}
 use Rattle.std.proofs.lemmas.List.{take-append-drop}
 use Rattle.std.proofs.lemmas.List.Elements.{recursion_from_All, All-from_recursion}
+use Rattle.std.proofs.lemmas.List.Sums.{prefix_len-le-length}
 use Rattle.json_order.specs.Json.{Json}
 use Rattle.json_order.specs.Grammar.{is_plain}
 use Rattle.json_order.specs.Fault.{strict}
@@ -24,6 +25,7 @@ use Rattle.json_order.specs.declared.word.Word.{Word}
 use Rattle.json_order.specs.declared.word.Word.TheVariants.{Null, True, False}
 use Rattle.json_order.specs.private.Places.{letters_from}
 use Rattle.json_order.proofs.Numbers.{IsInside, Goes, part_goes}
+use Rattle.json_order.proofs.PlainRuns.{run_ends, run_plain}
 
 -- PLAIN CHARACTERS
 
@@ -72,12 +74,14 @@ plain_chars [] h = tt
 plain_chars (c ∷ cs) h = (plain_char c (encode_utf8_all cs) h, plain_chars cs (behind_all (encode_utf8 c) (encode_utf8_all cs) h))
 
 -- plain bytes in front are plain characters
-pub moves_plain : (old new bytes after : List ℕ) (n : ℕ) → IsUtf8 bytes → n ≤ length bytes → (n < length bytes → slice_index bytes n < 128) → All (λ b. is_plain b ≡ true) (take n bytes) → new ≡ old ++ take n bytes → after ≡ drop n bytes → MovesPlain old new bytes after
-moves_plain old new bytes after n u l low h e f =
-    let v = IsUtf8-take bytes n u (l, λ m g. let z = low m in absurd (omega arith)) in (
+pub moves_plain : (old new bytes after : List ℕ) (n : ℕ) → IsUtf8 bytes → n ≡ prefix_len is_plain bytes → new ≡ old ++ take n bytes → after ≡ drop n bytes → MovesPlain old new bytes after
+moves_plain old new bytes after n u r e f =
+    let l : n ≤ length bytes = omega (arith, r, prefix_len-le-length is_plain bytes) in
+    let h : AllByRecursion (λ b. is_plain b ≡ true) (take n bytes) = subst (λ k. AllByRecursion (λ b. is_plain b ≡ true) (take k bytes)) (sym r) (run_plain bytes) in
+    let v = IsUtf8-take bytes n u (l, λ m g. let z = run_ends bytes n r m in absurd (omega arith)) in (
       v.0,
       sym (take-append-drop n bytes) ∙ ap (λ x. x ++ drop n bytes) (sym v.1.1) ∙ ap (λ x. encode_utf8_all v.0 ++ x) (sym f),
-      plain_chars v.0 (subst (λ x. AllByRecursion (λ b. is_plain b ≡ true) x) (sym v.1.1) (recursion_from_All (λ b. is_plain b ≡ true) (take n bytes) h)),
+      plain_chars v.0 (subst (λ x. AllByRecursion (λ b. is_plain b ≡ true) x) (sym v.1.1) h),
       e ∙ ap (λ x. old ++ x) (sym v.1.1),
     )
 

@@ -13,6 +13,7 @@ pub mod Keys
 pub mod KeySets
 pub mod Trees
 pub mod Frames
+pub mod PlainRuns
 pub mod AtOnce
 pub mod Escapes
 pub mod Turns

@@ -13,6 +13,7 @@ mod key_set;
 mod members;
 mod number;
 mod place;
+mod plain;
 mod quote;
 mod reading;
 mod step;

@@ -1,8 +1,7 @@
-ghost use Rattle.std.specs.Prelude.{◌≡◌, true, ◌<◌, ◌≤◌, [], ◌++◌, Some, IfOk, IfErr, IfSome, length, take, slice_index, string_bytes, encode_utf8};
+ghost use Rattle.std.specs.Prelude.{◌≡◌, true, ◌≤◌, [], ◌++◌, Some, IfOk, IfErr, IfSome, length, take, string_bytes, encode_utf8};
 ghost use Rattle.std.specs.Char.{is_ascii_digit};
 ghost use Rattle.std.specs.List.{All};
 ghost use Rattle.json_order.specs.declared.fault.JsonKind.TheVariants.{Memory};
-ghost use Rattle.json_order.specs.Grammar as grammar;
 ghost use Rattle.json_order.specs.private.AtOnce.{TakesQuoted, MovesPlain, parts_after};
 ghost use Rattle.json_order.specs.declared.place.Escape.TheVariants.{Outside};
 
@@ -10,81 +9,8 @@ use crate::escape::escape_of;
 use crate::fault::JsonKind;
 use crate::number::{is_in_digits, part_step};
 use crate::place::Part;
+use crate::plain::plain_len;
 use std::alloc::Global;
-
-/// A byte that stands for itself in a string: from the space on, and no quote or backslash.
-#[inline(always)]
-fn is_plain(byte: u8) -> bool
-    ensures { result ≡ grammar.is_plain byte }
-{
-    (byte >= b' ') & (byte != b'"') & (byte != b'\\')
-}
-
-/// Whether these bytes are all plain. None of them ends the loop, so that many are looked at
-/// together.
-#[inline(always)]
-fn are_plain(bytes: &[u8]) -> bool
-    ensures { result ≡ true → All (λ b. grammar.is_plain b ≡ true) bytes.now }
-{
-    let mut plain = true;
-    for byte in bytes {
-        plain &= is_plain(*byte);
-    }
-    plain
-}
-
-/// How many bytes in front are plain, looked at one by one.
-#[inline(always)]
-fn plain_by_one(bytes: &[u8]) -> usize
-    ensures within { result ≤ length bytes.now }
-    ensures plain { All (λ b. grammar.is_plain b ≡ true) (take result bytes.now) }
-    ensures ends { result < length bytes.now → slice_index bytes.now result < 128 }
-{
-    for (i, byte) in bytes.iter().enumerate() {
-        if !is_plain(*byte) {
-            return i;
-        }
-    }
-    bytes.len()
-}
-
-/// So many bytes are looked at together.
-const PIECE: usize = 64;
-
-/// How many bytes in front are plain, looked at piece by piece.
-#[inline(never)]
-fn plain_by_pieces(bytes: &[u8]) -> usize
-    ensures within { result ≤ length bytes.now }
-    ensures plain { All (λ b. grammar.is_plain b ≡ true) (take result bytes.now) }
-    ensures ends { result < length bytes.now → slice_index bytes.now result < 128 }
-{
-    let mut len = 0;
-    'pieces: while bytes.len() - len >= PIECE && are_plain(&bytes[len..len + PIECE]) {
-        len += PIECE;
-    }
-    len + plain_by_one(&bytes[len..])
-}
-
-/// Behind so many plain bytes more are looked at piece by piece.
-const NEAR: usize = 32;
-
-/// How many bytes in front are plain.
-#[inline(always)]
-fn plain_len(bytes: &[u8]) -> usize
-    ensures within { result ≤ length bytes.now }
-    ensures plain { All (λ b. grammar.is_plain b ≡ true) (take result bytes.now) }
-    ensures ends { result < length bytes.now → slice_index bytes.now result < 128 }
-{
-    for (i, byte) in bytes.iter().enumerate() {
-        if !is_plain(*byte) {
-            return i;
-        }
-        if i == NEAR {
-            return plain_by_pieces(bytes);
-        }
-    }
-    bytes.len()
-}
 
 /// Moves the plain characters in front into the text, at once; what stands behind them.
 #[inline(always)]

@@ -1,5 +1,5 @@
 -- What the reader takes at once: several characters in front of what is left.
-use Rattle.std.specs.Prelude.{ℕ, ◌≡◌, ◌⊎◌, Bool, true, false, List, [], ◌∷◌, ◌++◌, Option, Some, Ok, option_and_then, encode_utf8_all}
+use Rattle.std.specs.Prelude.{ℕ, ◌≡◌, ◌⊎◌, Bool, true, false, not, List, [], ◌∷◌, ◌++◌, Option, Some, Ok, option_and_then, encode_utf8_all}
 use Rattle.std.specs.Char.{IsScalar}
 use Rattle.std.specs.Char.Utf16.{surrogate_pair_char}
 use Rattle.std.specs.List.{AllByRecursion}
@@ -15,6 +15,10 @@ abbrev pub TakesTo : Place → Place → List ℕ → List ℕ → Type 0
 TakesTo p q before after =
     (cs : List ℕ) × (before ≡ encode_utf8_all cs ++ after)
     × ((fs : List Frame) → run strict (Ok (state p fs)) cs ≡ Ok (state q fs))
+
+-- a byte at which the plain ones in front end
+abbrev pub is_end : ℕ → Bool
+is_end b = not (is_plain b)
 
 -- plain characters stand before what is left, and have gone into the text
 abbrev pub MovesPlain : List ℕ → List ℕ → List ℕ → List ℕ → Type 0

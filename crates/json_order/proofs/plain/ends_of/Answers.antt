@@ -1,0 +1,5 @@
+use Rattle.json_order.proofs.PlainRuns.{mask_of_ends}
+use Rattle.json_order.proofs.plain.ends_of.Goals as goal
+
+pub returns : goal.returns
+returns c = mask_of_ends c.args.bytes c.fits-bytes.0
