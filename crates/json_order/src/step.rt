@@ -25,7 +25,8 @@ pub(crate) const DEPTH: usize = 16;
 pub(crate) fn is_space(c: char) -> bool
     ensures { result ≡ grammar.is_space c }
 {
-    matches!(c, ' ' | '\t' | '\n' | '\r')
+    // Most characters are above the space.
+    c <= ' ' && matches!(c, ' ' | '\t' | '\n' | '\r')
 }
 
 /// A number's text, of one ASCII character so far.
@@ -34,7 +35,7 @@ fn one(alloc: Global, c: char) -> Result<String, JsonKind>
     ensures ok { IfOk result (λ s. string_bytes s ≡ c ∷ []) }
     ensures err { IfErr result (λ k. k ≡ Memory) }
 {
-    let mut text = String::new(alloc);
+    let mut text = String::with_capacity(alloc, 1)?;
     text.push(c)?;
     Ok(text)
 }

@@ -1,4 +1,4 @@
-ghost use Rattle.std.specs.Prelude.{◌≡◌, true, ◌≤◌, [], ◌++◌, Some, IfOk, IfErr, IfSome, length, take, string_bytes, encode_utf8};
+ghost use Rattle.std.specs.Prelude.{◌≡◌, true, ◌≤◌, [], ◌++◌, Some, IfOk, OnOk, IfErr, IfSome, length, take, string_bytes, encode_utf8};
 ghost use Rattle.std.specs.Char.{is_ascii_digit};
 ghost use Rattle.std.specs.List.{All};
 ghost use Rattle.json_order.specs.declared.fault.JsonKind.TheVariants.{Memory};
@@ -12,6 +12,21 @@ use crate::place::Part;
 use crate::plain::plain_len;
 use std::alloc::Global;
 
+/// Adds one text to another. One byte is copied by a store: its length is a constant there.
+#[inline(always)]
+fn push_text(text: &mut String, more: &str) -> Result<(), JsonKind>
+    ensures ok { OnOk result (string_bytes text.new ≡ string_bytes text.old ++ more.now) }
+    ensures err { IfErr result (λ k. k ≡ Memory) }
+{
+    if more.len() == 1 {
+        let (whole, _) = more.split_at(1);
+        text.push_str(whole)?;
+        return Ok(());
+    }
+    text.push_str(more)?;
+    Ok(())
+}
+
 /// Moves the plain characters in front into the text, at once; what stands behind them.
 #[inline(always)]
 fn move_plain<'a>(text: &mut String, rest: &'a str) -> Result<&'a str, JsonKind>
@@ -19,8 +34,13 @@ fn move_plain<'a>(text: &mut String, rest: &'a str) -> Result<&'a str, JsonKind>
         rest.now after.now) }
     ensures err { IfErr result (λ k. k ≡ Memory) }
 {
-    let (front, after) = rest.split_at(plain_len(rest.as_bytes()));
-    text.push_str(front)?;
+    let bytes = rest.as_bytes();
+    if !bytes.is_empty() && bytes[0] == b'\\' {
+        // No byte in front is plain.
+        return Ok(rest);
+    }
+    let (front, after) = rest.split_at(plain_len(bytes));
+    push_text(text, front)?;
     Ok(after)
 }
 
@@ -43,6 +63,19 @@ fn take_characters<'a>(text: &mut String, rest: &'a str) -> Result<&'a str, Json
     }
 }
 
+/// A copy of a text, in exact room. One byte is copied by a store here too.
+#[inline(always)]
+pub(crate) fn copy_of(alloc: Global, text: &str) -> Result<String, JsonKind>
+    ensures ok { IfOk result (λ s. string_bytes s ≡ text.now) }
+    ensures err { IfErr result (λ k. k ≡ Memory) }
+{
+    if text.len() == 1 {
+        let (whole, _) = text.split_at(1);
+        return Ok(String::from_str(alloc, whole)?);
+    }
+    Ok(String::from_str(alloc, text)?)
+}
+
 /// The text of the plain characters in front, in exact room, and what stands behind them.
 #[inline(always)]
 fn plain_text<'a>(alloc: Global, rest: &'a str) -> Result<(String, &'a str), JsonKind>
@@ -50,7 +83,7 @@ fn plain_text<'a>(alloc: Global, rest: &'a str) -> Result<(String, &'a str), Jso
     ensures err { IfErr result (λ k. k ≡ Memory) }
 {
     let (front, after) = rest.split_at(plain_len(rest.as_bytes()));
-    let text = String::from_str(alloc, front)?;
+    let text = copy_of(alloc, front)?;
     Ok((text, after))
 }
 
@@ -92,7 +125,8 @@ pub(crate) fn number_run(bytes: &[u8], part: Part) -> (usize, Part)
 {
     let mut read = part;
     let mut len = 0;
-    'parts: while len < bytes.len() {
+    // Most numbers end at a comma.
+    'parts: while len < bytes.len() && bytes[len] != b',' {
         match part_step(read, char::from(bytes[len])) {
             Some(next) => read = next,
             None => return (len, read),

@@ -1,7 +1,7 @@
 //! A text that is read whole, value by value, as long as nothing stands there that ends the
 //! reading. None says that something does, or that the text ends; [`read`](crate::read) then goes
 //! through it character by character, and finds which fault it is, and where.
-ghost use Rattle.std.specs.Prelude.{ℕ, List, ◌≡◌, ◌<◌, ◌+◌, [], ◌∷◌, Ok, IfOk, IfErr, IfSome, string_bytes};
+ghost use Rattle.std.specs.Prelude.{ℕ, List, ◌≡◌, ◌⊎◌, ◌<◌, ◌+◌, [], ◌∷◌, ◌++◌, Ok, IfOk, IfErr, IfSome, string_bytes, encode_utf8};
 ghost use Rattle.json_order.specs.declared.fault.JsonKind.TheVariants.{Memory};
 ghost use Rattle.json_order.specs.Fault.{strict};
 ghost use Rattle.json_order.specs.Grammar.{IsSpaced};
@@ -16,7 +16,7 @@ use crate::members::{Members, with_member};
 use crate::number::is_done;
 use crate::place::Part;
 use crate::step::{DEPTH, empty_list, is_space, object_of, whole_list, whole_object};
-use crate::taking::{behind_char, number_run, text_of};
+use crate::taking::{behind_char, copy_of, number_run, text_of};
 use crate::tree::Tree;
 use crate::word::Word;
 use std::alloc::Global;
@@ -82,25 +82,22 @@ fn first_part(c: char) -> Option<Part>
     }
 }
 
-/// A number.
+/// A number that begins with this character, which `behind` follows.
 #[inline(always)]
-fn number<'a>(alloc: Global, rest: &'a str) -> Whole<'a, Tree>
+fn number<'a>(alloc: Global, c: char, rest: &'a str, behind: &str) -> Whole<'a, Tree>
+    requires { rest.now ≡ encode_utf8 c ++ behind.now }
     ensures ok { IfOk result (λ o. IfSome o (λ t. ReadsNumber (json_of t.0) rest.now t.1.now)) }
     ensures err { IfErr result (λ k. k ≡ Memory) }
 {
-    let mut chars = rest.chars();
-    let Some(c) = chars.next() else {
-        return Ok(None);
-    };
     let Some(part) = first_part(c) else {
         return Ok(None);
     };
-    let (len, read) = number_run(chars.as_str().as_bytes(), part);
+    let (len, read) = number_run(behind.as_bytes(), part);
     if !is_done(read) {
         return Ok(None);
     }
     let (front, after) = rest.split_at(len + 1);
-    let text = String::from_str(alloc, front)?;
+    let text = copy_of(alloc, front)?;
     Ok(Some((Tree::Number(text), after)))
 }
 
@@ -146,6 +143,7 @@ fn empty_object(alloc: Global) -> Tree
 
 /// A list behind its `[`; so many more may be open in it.
 #[cycle(value)]
+#[inline(never)]
 fn list<'a>(alloc: Global, rest: &'a str, depth: usize) -> Whole<'a, Tree>
     ensures ok { IfOk result (λ o. IfSome o (λ t. Crosses (depth + 1) (state at_first_item)
         (state (behind_value (json_of t.0))) rest.now t.1.now)) }
@@ -174,6 +172,7 @@ fn list<'a>(alloc: Global, rest: &'a str, depth: usize) -> Whole<'a, Tree>
 
 /// An object behind its `{`; so many more may be open in it.
 #[cycle(value)]
+#[inline(never)]
 fn object<'a>(alloc: Global, rest: &'a str, depth: usize) -> Whole<'a, Tree>
     ensures ok { IfOk result (λ o. IfSome o (λ t. Crosses (depth + 1) (state at_first_key)
         (state (behind_value (json_of t.0))) rest.now t.1.now)) }
@@ -203,8 +202,30 @@ fn object<'a>(alloc: Global, rest: &'a str, depth: usize) -> Whole<'a, Tree>
     }
 }
 
+/// A list or an object behind its bracket; so many more may be open in it. The result of a call is
+/// in memory. It is taken apart here, and so the other results of [`value`] stay in registers.
+#[cycle(value)]
+#[inline(always)]
+fn nested<'a>(alloc: Global, c: char, rest: &'a str, depth: usize) -> Whole<'a, Tree>
+    requires { (c ≡ 91) ⊎ (c ≡ 123) }
+    ensures ok { IfOk result (λ o. IfSome o (λ t.
+        ReadsValue (depth + 1) (json_of t.0) (encode_utf8 c ++ rest.now) t.1.now)) }
+    ensures err { IfErr result (λ k. k ≡ Memory) }
+{
+    let read = if c == '[' {
+        list(alloc, rest, depth)?
+    } else {
+        object(alloc, rest, depth)?
+    };
+    match read {
+        Some((tree, after)) => Ok(Some((tree, after))),
+        None => Ok(None),
+    }
+}
+
 /// A value; so many lists and objects may be open in it.
 #[cycle(value)]
+#[inline(always)]
 fn value<'a>(alloc: Global, rest: &'a str, depth: usize) -> Whole<'a, Tree>
     ensures ok { IfOk result (λ o. IfSome o (λ t.
         ReadsValue depth (json_of t.0) rest.now t.1.now)) }
@@ -216,13 +237,12 @@ fn value<'a>(alloc: Global, rest: &'a str, depth: usize) -> Whole<'a, Tree>
     };
     let after = chars.as_str();
     match c {
-        '{' if depth > 0 => object(alloc, after, depth - 1),
-        '[' if depth > 0 => list(alloc, after, depth - 1),
+        '[' | '{' if depth > 0 => nested(alloc, c, after, depth - 1),
         '"' => text(alloc, after),
         'n' => Ok(word(Word::Null, after)),
         't' => Ok(word(Word::True, after)),
         'f' => Ok(word(Word::False, after)),
-        _ => number(alloc, rest),
+        _ => number(alloc, c, rest, after),
     }
 }
 

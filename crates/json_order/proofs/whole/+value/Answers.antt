@@ -1,5 +1,6 @@
+use Rattle.std.specs.Prelude.{IfSome, encode_utf8}
 use Rattle.std.specs.Str.Iter.{chars_rest}
-use Rattle.std.proofs.Common.{◌≡◌, ◌+◌, ◌-◌, [], ◌∷◌, ◌++◌, map, string_bytes, refl, sym, ap, ◌∙◌, subst, arith}
+use Rattle.std.proofs.Common.{◌≡◌, ◌+◌, [], ◌∷◌, ◌++◌, map, string_bytes, refl, sym, ap, ◌∙◌, subst, arith}
 use Rattle.std.proofs.lemmas.List.{map_push}
 use Rattle.json_order.specs.Seen.{json_of}
 use Rattle.json_order.specs.private.Machine.{state, at_first_item, at_first_key, behind}
@@ -8,6 +9,7 @@ use Rattle.json_order.specs.private.Whole.{Crosses, ReadsValue, ReadsKey, before
 use Rattle.json_order.specs.declared.word.Word.TheVariants.{Null, True, False}
 use Rattle.json_order.proofs.Crossings.{reads_spaced, list_begun, list_empty, list_more, list_whole, item_shorter, object_begun, object_empty, object_more, object_pushed, object_whole, member_shorter, list_read, object_read, text_read, word_value, first_char, if_read, if_some}
 use Rattle.json_order.proofs.whole.+value.Goals as goal
+use Rattle.json_order.proofs.whole.+value.Goals.{nested-then-c-eq91+in_ok-read, nested-else-c-eq91+in_ok-read-2}
 
 -- LISTS
 
@@ -103,17 +105,21 @@ object-members-smaller t c =
 
 -- VALUES
 
-pub value-returns-in-123-clause-ok : goal.value-returns-in-123-clause-ok
-value-returns-in-123-clause-ok t c =
-    let next = first_char c.args.rest.now (chars_rest c.chars-chars.result) (chars_rest c.next.new.self) c.as_str-after.result.now c.in-Some.c 123 c.chars-chars.ensures.rest c.in-Some.ensures.steps.0 c.in-123.is c.as_str-after.ensures in
-    let inner : (c.args.depth - 1) + 1 ≡ c.args.depth = omega (arith, c.if-depth-gt0.true) in
-    if_read c.object.result _ _ (λ r k. object_read (c.args.depth - 1) c.args.depth (json_of r.0) c.args.rest.now c.as_str-after.result.now r.1.now inner next k) c.object.ensures.ok
-
-pub value-returns-in-91-clause-ok : goal.value-returns-in-91-clause-ok
-value-returns-in-91-clause-ok t c =
-    let next = first_char c.args.rest.now (chars_rest c.chars-chars.result) (chars_rest c.next.new.self) c.as_str-after.result.now c.in-Some.c 91 c.chars-chars.ensures.rest c.in-Some.ensures.steps.0 c.in-91.is c.as_str-after.ensures in
-    let inner : (c.args.depth - 1) + 1 ≡ c.args.depth = omega (arith, c.if-depth-gt0-2.true) in
-    if_read c.list.result _ _ (λ r k. list_read (c.args.depth - 1) c.args.depth (json_of r.0) c.args.rest.now c.as_str-after.result.now r.1.now inner next k) c.list.ensures.ok
+pub nested-returns-in-Some-clause-ok : goal.nested-returns-in-Some-clause-ok
+nested-returns-in-Some-clause-ok t c =
+    let v = json_of c.in-Some.tree in
+    let rest = c.args.rest.now in
+    let after = c.in-Some.after.now in
+    elim c.if-c-eq91.branch [
+      | nested-then-c-eq91+in_ok-read w ↦
+          let is : c.args.c ≡ 91 = w.if-c-eq91.true in
+          let read = subst (λ o. IfSome o (λ t. Crosses (c.args.depth + 1) (state at_first_item) (state (behind (json_of t.0))) rest t.1.now)) (sym w.read-is ∙ c.in-Some.is) w.in_ok-read.ensures.ok in
+          list_read c.args.depth (c.args.depth + 1) v (encode_utf8 c.args.c ++ rest) rest after refl (ap (λ x. encode_utf8 x ++ rest) is) read
+      | nested-else-c-eq91+in_ok-read-2 w ↦
+          let read = subst (λ o. IfSome o (λ t. Crosses (c.args.depth + 1) (state at_first_key) (state (behind (json_of t.0))) rest t.1.now)) (sym w.read-is ∙ c.in-Some.is) w.in_ok-read-2.ensures.ok in
+          let is : c.args.c ≡ 123 = omega (arith, c.requires, w.if-c-eq91.false) in
+          object_read c.args.depth (c.args.depth + 1) v (encode_utf8 c.args.c ++ rest) rest after refl (ap (λ x. encode_utf8 x ++ rest) is) read
+    ]
 
 pub value-returns-in-34-clause-ok : goal.value-returns-in-34-clause-ok
 value-returns-in-34-clause-ok t c =

@@ -8,13 +8,16 @@ use Rattle.json_order.specs.private.Whole.{Crosses, before_item, before_key}
 use Rattle.json_order.proofs.whole.+value.Given as goal
 
 abbrev pub decreases-value : goal.decreases-value
-decreases-value l = 2 * l.depth
+decreases-value l = 3 * l.depth
 
 abbrev pub decreases-list : goal.decreases-list
-decreases-list l = 2 * l.depth + 1
+decreases-list l = 3 * l.depth + 1
 
 abbrev pub decreases-object : goal.decreases-object
-decreases-object l = 2 * l.depth + 1
+decreases-object l = 3 * l.depth + 1
+
+abbrev pub decreases-nested : goal.decreases-nested
+decreases-nested l = 3 * l.depth + 2
 
 abbrev pub invariant-list-items : goal.invariant-list-items
 invariant-list-items l =
