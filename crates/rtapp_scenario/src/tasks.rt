@@ -1,4 +1,4 @@
-ghost use Rattle.std.specs.Prelude.{◌≡◌, ◌==◌, ◌≤◌, ◌<◌, ◌+◌, ◌++◌, ℕ, List, take, [], map, length, if◌then◌else◌, true, None, codes, decimal, All, IfOk, IfErr, OnOk, string_bytes, unwrap_or};
+ghost use Rattle.std.specs.Prelude.{◌≡◌, ◌==◌, ◌≤◌, ◌<◌, ◌+◌, ◌++◌, ℕ, take, [], map, length, if◌then◌else◌, true, None, codes, decimal, All, IfOk, IfErr, OnOk, string_bytes, unwrap_or};
 ghost use Rattle.json_order.specs.Seen.{json_of};
 ghost use Rattle.std.specs.Option.{option_map};
 ghost use Rattle.task_script.specs.NameView.{IsName, IsNameByte};
