@@ -1,5 +1,5 @@
 -- Which CPUs are in doubt: on the others who stands sits rightly.
-use Rattle.std.proofs.Common.{◌≡◌, ◌≢◌, ℕ, zero, suc, ◌+◌, ◌-◌, ◌<◌, ◌≤◌, Bool, true, false, cond, eqb, eq-eqb, ◌&&◌, ◌++◌, Option, Some, None, List, [], ◌∷◌, length, map, get_or, set, refl, sym, ap, ◌∙◌, subst, arith, inl, inr}
+use Rattle.std.proofs.Common.{◌≡◌, ◌≢◌, ℕ, zero, suc, ◌+◌, ◌-◌, ◌/◌, ◌<◌, ◌≤◌, Bool, true, false, cond, eqb, eq-eqb, ◌&&◌, ◌++◌, Option, Some, None, List, [], ◌∷◌, length, map, get_or, set, refl, sym, ap, ◌∙◌, subst, arith, inl, inr}
 use Rattle.std.specs.Prelude.{◌⊎◌, IfSome, All, IsTrue, is_none, is_some, filter, sum_by}
 use Rattle.std.specs.Int.{bit_at}
 use Rattle.std.proofs.lemmas.Bool.{cases_eq, cases_lt, ne_eqb}
@@ -14,13 +14,15 @@ use Rattle.edf_pick.proofs.CallerLemmas.{same_is}
 use Rattle.due_times.specs.declared.doubts.Doubts.{Doubts}
 use Rattle.due_times.specs.declared.seats.Seat.{Seat}
 use Rattle.due_times.specs.declared.seats.Basis.{Basis}
+use Rattle.due_times.specs.declared.seats.Claim.{Claim}
 use Rattle.domain_run.specs.declared.task.Task.{Task}
 use Rattle.domain_run.specs.Parts.{with_cpu}
 use Rattle.domain_run.specs.Sound.{occupant}
 use Rattle.domain_run.specs.Tick.{share_of, shares, sum_of}
 use Rattle.domain_run.specs.private.Doubts.{IsSettled, IsFree, noted_basis, IsTrusted, AreSettled, IsMarked}
 use Rattle.domain_run.specs.private.Roster.{rate_in, basis_in, IsSeated}
-use Rattle.due_times.specs.Seats.{SeatsView, seat_by, left_if, without_seat}
+use Rattle.grub_rules.proofs.CallerLemmas.{rate_on_is}
+use Rattle.due_times.specs.Seats.{SeatsView, IsOn, seat_by, left_if, without_seat}
 use Rattle.domain_run.specs.private.Timers.{IsTimerStep}
 use Rattle.domain_run.specs.private.Waiting.{seat_of_task, seats_without, owed, owed_all, AllWait, IsRight, rate_by}
 use Rattle.domain_run.proofs.Jumping.{shares_alike}
@@ -180,10 +182,10 @@ start_marked r a b cpu s after tasks p x y h read is are view one two bare =
 -- ---- WHO IS SETTLED
 
 -- a seat that keeps nothing is right on each basis
-free_settled : (o : Option ℕ) (a b : Basis) (x : Option Seat) → IsSettled o a x → IfSome x (λ s. s.basis ≡ None) → IsSettled o b x
+free_settled : (o : Option ℕ) (a b : Basis) (x : Option Seat) → IsSettled o a x → IfSome x (λ s. s.claim ≡ None) → IsSettled o b x
 free_settled None a b x is free = is
 free_settled (Some n) a b None is free = absurd is
-free_settled (Some n) a b (Some s) is free = (is.0, subst (λ k. IfSome k (λ x. x ≡ b)) (sym free) tt)
+free_settled (Some n) a b (Some s) is free = (is.0, subst (λ k. IfSome k (IsOn b)) (sym free) tt)
 
 -- who was trusted is where nothing has changed but marks, and what those tell of
 pub trusted_again : (d e : Doubts) (w cpu : ℕ) (o : Option ℕ) (seats after : List (Option Seat)) (tasks then : List Task)
@@ -198,7 +200,7 @@ trusted_again d e w cpu o seats after tasks then rated sum limit marks are few b
   where
     by_sums : IsSettled o (noted_basis d w tasks cpu) (get_or seats cpu None) × IsFree (bit_at d.rated cpu) (get_or seats cpu None) → ((uinact cpu (shares then) ≡ uinact cpu (shares tasks)) ⊎ (bit_at d.rated cpu ≡ 0)) → IsSettled o (noted_basis e w then cpu) (get_or seats cpu None)
     by_sums was (inl equal) =
-        let basis : noted_basis d w tasks cpu ≡ noted_basis e w then cpu = λ i. record { uinact = (sym equal) i; sum = (sym sum) i; cpus = w; limit = (sym limit) i } in
+        let basis : noted_basis d w tasks cpu ≡ noted_basis e w then cpu = λ i. record { uinact = (sym equal) i; share = (sym sum) i / w; limit = (sym limit) i } in
         subst (λ (b : Basis). IsSettled o b (get_or seats cpu None)) basis was.0
     by_sums was (inr bare_of) = free_settled o (noted_basis d w tasks cpu) (noted_basis e w then cpu) (get_or seats cpu None) was.0 (was.1 bare_of)
 
@@ -247,25 +249,39 @@ settled_right w limit upto cpu (Some n) seats items is waits k d h e = by_seat (
     by_seat (Some s) q r =
         let t = get_or tasks k d in
         let mine : seat_by n (get_or seats cpu None) ≡ Some s = ap (seat_by n) q ∙ ap (λ z. cond z (Some s) None) (eq-eqb s.number n r.0) in
-        right_rate n t.number (rate_by b t) (rate_in w limit tasks t) (seat_of_task seats t) (λ z. ap (λ c. rate_by (basis_in w limit tasks c) t) (sym e))
+        right_rate n t.number (rate_by b t) (rate_in w limit tasks t) (seat_of_task seats t) (λ z. ap (λ c. rate_by (basis_in w limit tasks c) t) (sym e) ∙ rate_on_is t.params (uinact t.cpu (shares tasks)) (sum_of tasks) w limit)
         (basis_right upto cpu n seats items s b mine r.1 waits k d h e)
 
+noted_alike : (d e : Doubts) (w : ℕ) (tasks : List Task) (cpu : ℕ) → e.sum / w ≡ d.sum / w → e.limit ≡ d.limit → noted_basis d w tasks cpu ≡ noted_basis e w tasks cpu
+noted_alike d e w tasks cpu share limit = λ i. record { uinact = uinact cpu (shares tasks); share = (sym share) i; limit = (sym limit) i }
+
 noted_same : (d e : Doubts) (w : ℕ) (tasks : List Task) (cpu : ℕ) → e.sum ≡ d.sum → e.limit ≡ d.limit → noted_basis d w tasks cpu ≡ noted_basis e w tasks cpu
-noted_same d e w tasks cpu sum limit = λ i. record { uinact = uinact cpu (shares tasks); sum = (sym sum) i; cpus = w; limit = (sym limit) i }
+noted_same d e w tasks cpu sum limit = noted_alike d e w tasks cpu (ap (λ n. n / w) sum) limit
 
 pub noted_now : (d : Doubts) (w limit : ℕ) (tasks : List Task) (cpu : ℕ) → d.sum ≡ sum_of tasks → d.limit ≡ limit → noted_basis d w tasks cpu ≡ basis_in w limit tasks cpu
-noted_now d w limit tasks cpu sum lim = λ i. record { uinact = uinact cpu (shares tasks); sum = sum i; cpus = w; limit = lim i }
+noted_now d w limit tasks cpu sum lim = λ i. record { uinact = uinact cpu (shares tasks); share = sum i / w; limit = lim i }
+
+-- a seat whose claim stands now has one that stands on what is noted, if that is of now
+pub noted_by : (d : Doubts) (w limit cpu : ℕ) (tasks : List Task) (o : Option Claim) (rated : Bool) → rated ≡ is_some o → IfSome o (IsOn (basis_in w limit tasks cpu)) → (IsTrue rated → (d.sum ≡ sum_of tasks) × (d.limit ≡ limit)) → IfSome o (IsOn (noted_basis d w tasks cpu))
+noted_by d w limit cpu tasks None rated e is noted = tt
+noted_by d w limit cpu tasks (Some k) rated e is noted =
+    let p = noted e in
+    subst (λ (b : Basis). IsOn b k) (sym (noted_now d w limit tasks cpu p.0 p.1)) is
+
+pub free_by : (o : Option Claim) (rated : Bool) (mark : ℕ) → rated ≡ is_some o → (IsTrue rated → mark ≡ 1) → mark ≡ 0 → o ≡ None
+free_by None rated mark e one none = refl
+free_by (Some k) rated mark e one none = absurd (omega (arith, one e, none))
 
 -- another sum or another limit is noted, and then those are marked whose seats keep something
 pub renew_settled : (d e : Doubts) (w : ℕ) (places : Places) (seats : List (Option Seat)) (tasks : List Task) (sum limit : ℕ)
-    → ((i : ℕ) → bit_at e.cpus i ≡ 0 → bit_at d.cpus i ≡ 0) → ((i : ℕ) → bit_at e.cpus i ≡ 0 → (bit_at d.rated i ≡ 0) ⊎ ((d.sum ≡ sum) × (d.limit ≡ limit)))
+    → ((i : ℕ) → bit_at e.cpus i ≡ 0 → bit_at d.cpus i ≡ 0) → ((i : ℕ) → bit_at e.cpus i ≡ 0 → (bit_at d.rated i ≡ 0) ⊎ ((d.sum / w ≡ sum / w) × (d.limit ≡ limit)))
     → e.rated ≡ d.rated → e.sum ≡ sum → e.limit ≡ limit
     → AreSettled d w places seats tasks → AreSettled e w places seats tasks
 renew_settled d e w places seats tasks sum limit bare free rated sum_is limit_is are cpu few none =
     let was = are cpu few (bare cpu none) in (
       elim (free cpu none) [
         | inl nothing ↦ free_settled (occupant places cpu) (noted_basis d w tasks cpu) (noted_basis e w tasks cpu) (get_or seats cpu None) was.0 (was.1 nothing)
-        | inr same ↦ subst (λ (x : Basis). IsSettled (occupant places cpu) x (get_or seats cpu None)) (noted_same d e w tasks cpu (sum_is ∙ sym same.0) (limit_is ∙ sym same.1)) was.0
+        | inr same ↦ subst (λ (x : Basis). IsSettled (occupant places cpu) x (get_or seats cpu None)) (noted_alike d e w tasks cpu (ap (λ n. n / w) sum_is ∙ sym same.0) (limit_is ∙ sym same.1)) was.0
       ],
       subst (λ (n : ℕ). IsFree (bit_at n cpu) (get_or seats cpu None)) (sym rated) was.1,
     )
@@ -273,7 +289,7 @@ renew_settled d e w places seats tasks sum limit bare free rated sum_is limit_is
 -- one CPU is in doubt no more
 pub trust_settled : (d e : Doubts) (w limit cpu : ℕ) (places : Places) (seats : List (Option Seat)) (tasks : List Task) (is_rated : Bool)
     → ((i : ℕ) → i ≢ cpu → bit_at e.cpus i ≡ bit_at d.cpus i) → ((i : ℕ) → i ≢ cpu → bit_at e.rated i ≡ bit_at d.rated i)
-    → (IsTrue is_rated → bit_at e.rated cpu ≡ 1) → (is_rated ≡ false → IfSome (get_or seats cpu None) (λ s. s.basis ≡ None))
+    → (IsTrue is_rated → bit_at e.rated cpu ≡ 1) → (is_rated ≡ false → IfSome (get_or seats cpu None) (λ s. s.claim ≡ None))
     → e.sum ≡ d.sum → e.limit ≡ d.limit → (IsTrue is_rated → (d.sum ≡ sum_of tasks) × (d.limit ≡ limit))
     → IsSettled (occupant places cpu) (basis_in w limit tasks cpu) (get_or seats cpu None)
     → AreSettled d w places seats tasks → AreSettled e w places seats tasks
@@ -290,7 +306,7 @@ trust_settled d e w limit cpu places seats tasks is_rated others elsewhere marke
       )
 ]
   where
-    by_rate : (b : Bool) → is_rated ≡ b → bit_at e.rated cpu ≡ 0 → IfSome (get_or seats cpu None) (λ s. s.basis ≡ None)
+    by_rate : (b : Bool) → is_rated ≡ b → bit_at e.rated cpu ≡ 0 → IfSome (get_or seats cpu None) (λ s. s.claim ≡ None)
     by_rate true same none = let one = marked same in absurd (omega (arith, one, none))
     by_rate false same none = free same
 
@@ -396,6 +412,33 @@ set_settled d e w places s v items after cpu o is same marked bare rated sum lim
     (settled_again d e w places places s.seats (set s.seats cpu o) (owed_all s items) (owed_all v after) rated sum limit
     (marked_set d.rated d.cpus e.cpus cpu o s.seats (owed_all s items) (owed_all v after) marked bare same) (λ i h q. refl) are)
 
+-- another seat for a CPU, of who stands there, by a claim that stands now
+pub claimed_settled : (d e : Doubts) (w limit cpu : ℕ) (places : Places) (s v : SeatsView) (items after : List Task) (next : Seat) (k : Claim) → v ≡ record s { seats = set s.seats cpu (Some next) } → owed_all v after ≡ owed_all s items
+    → cpu < length s.seats → occupant places cpu ≡ Some next.number → next.claim ≡ Some k → IsOn (basis_in w limit (owed_all s items) cpu) k
+    → ((i : ℕ) → i ≢ cpu → bit_at e.cpus i ≡ bit_at d.cpus i) → ((i : ℕ) → i ≢ cpu → bit_at e.rated i ≡ bit_at d.rated i)
+    → (bit_at e.cpus cpu ≡ 0 → bit_at e.rated cpu ≡ 1) → (bit_at e.cpus cpu ≡ 0 → (d.sum ≡ sum_of (owed_all s items)) × (d.limit ≡ limit))
+    → e.sum ≡ d.sum → e.limit ≡ d.limit → AreSettled d w places s.seats (owed_all s items) → AreSettled e w places v.seats (owed_all v after)
+claimed_settled d e w limit cpu places s v items after next k is same inside stands claim on others elsewhere marked noted sum limit_same are =
+    subst (λ (x : SeatsView). AreSettled e w places x.seats (owed_all v after)) (sym is)
+    (subst (AreSettled e w places seats) (sym same) (λ i. elim (cases_eq i cpu) [
+      | inl at ↦ subst (λ (n : ℕ). IsTrusted e w (occupant places n) seats tasks n) (sym at) here
+      | inr other ↦ seat_other d e w cpu i (occupant places i) (Some next) s.seats tasks (others i other) (elsewhere i other) sum limit_same other (are i)
+    ]))
+  where
+    seats : List (Option Seat)
+    seats = set s.seats cpu (Some next)
+
+    tasks : List Task
+    tasks = owed_all s items
+
+    here : IsTrusted e w (occupant places cpu) seats tasks cpu
+    here few bare =
+        let sat : get_or seats cpu None ≡ Some next = get_or-set_same s.seats cpu (Some next) None inside in
+        let rated : true ≡ is_some next.claim = sym (ap (λ (o : Option Claim). is_some o) claim) in
+        let kept = noted_by e w limit cpu tasks next.claim true rated (subst (λ o. IfSome o (IsOn (basis_in w limit tasks cpu))) (sym claim) on) (λ t. (sum ∙ (noted bare).0, limit_same ∙ (noted bare).1)) in
+        subst (λ (o : Option Seat). IsSettled (occupant places cpu) (noted_basis e w tasks cpu) o × IsFree (bit_at e.rated cpu) o) (sym sat)
+        (subst (λ (n : Option ℕ). IsSettled n (noted_basis e w tasks cpu) (Some next)) (sym stands) (refl, kept), free_by next.claim true (bit_at e.rated cpu) rated (λ t. marked bare))
+
 -- one task more
 pub push_settled : (d e : Doubts) (w : ℕ) (places : Places) (s v : SeatsView) (items after : List Task) (t : Task) → v ≡ record s { seats = without_seat t.cpu t.number s.seats } → owed_all v after ≡ owed_all s items ++ t ∷ []
     → (t.cpu < 64 → bit_at e.cpus t.cpu ≡ 1) → ((i : ℕ) → bit_at e.cpus i ≡ 0 → bit_at d.cpus i ≡ 0) → e.rated ≡ d.rated → e.sum ≡ d.sum → e.limit ≡ d.limit
@@ -441,10 +484,10 @@ free_turned d w places seats tasks p x y h read stays none are cpu few bare =
         | inl same ↦
             let free : get_or seats cpu None ≡ None = ap (λ (n : ℕ). get_or seats n None) same ∙ none in
             free_settled (occupant places cpu) (noted_basis d w tasks cpu) (noted_basis d w (set tasks p y) cpu) (get_or seats cpu None) was.0
-            (subst (λ (o : Option Seat). IfSome o (λ s. s.basis ≡ None)) (sym free) tt)
+            (subst (λ (o : Option Seat). IfSome o (λ s. s.claim ≡ None)) (sym free) tt)
         | inr other ↦
             let sums = uinact_set cpu tasks p x y h read (λ q. other (sym q)) (λ q. other (sym q ∙ stays)) in
-            subst (λ (n : ℕ). IsSettled (occupant places cpu) (record { uinact = n; sum = d.sum; cpus = w; limit = d.limit }) (get_or seats cpu None)) (sym sums) was.0
+            subst (λ (n : ℕ). IsSettled (occupant places cpu) (record { uinact = n; share = d.sum / w; limit = d.limit }) (get_or seats cpu None)) (sym sums) was.0
       ],
       was.1,
     )

@@ -1,6 +1,6 @@
 -- A running task that has work again where its work ends: its seat stays, and ends later.
 use Rattle.std.proofs.Common.{◌≡◌, ◌≢◌, ℕ, zero, suc, ◌+◌, ◌-◌, ◌*◌, ◌<◌, ◌≤◌, true, false, cond, eqb, Option, Some, None, List, [], ◌∷◌, length, map, get_or, set, refl, sym, ap, ◌∙◌, subst, arith, inl, inr, eq-eqb}
-use Rattle.std.specs.Prelude.{ℤ, pos, ◌-ℤ◌, All, AllPairs, IfSome, IsTrue}
+use Rattle.std.specs.Prelude.{ℤ, pos, ◌-ℤ◌, ◌/◌, All, AllPairs, IfSome, IsTrue}
 use Rattle.std.specs.Int.{bit_at}
 use Rattle.std.proofs.Math.Seq.{map-set_same}
 use Rattle.std.proofs.lemmas.Int.{ints}
@@ -12,6 +12,7 @@ use Rattle.std.proofs.lemmas.Option.{same_Some}
 use Rattle.due_times.specs.declared.doubts.Doubts.{Doubts}
 use Rattle.due_times.specs.declared.seats.Seat.{Seat}
 use Rattle.due_times.specs.declared.seats.Basis.{Basis}
+use Rattle.due_times.specs.declared.seats.Claim.{Claim}
 use Rattle.due_times.specs.Seats.{seat_by, ending_at, IsAhead}
 use Rattle.edf_pick.specs.Places.{Places}
 use Rattle.grub_rules.specs.Sums.{uinact}
@@ -45,9 +46,9 @@ use Rattle.domain_run.specs.private.Dozing.{with_lag, with_lags, passed_bare, Is
 use Rattle.domain_run.proofs.Seatings.{roster_view}
 use Rattle.due_times.specs.Seats.{SeatsView}
 
-rated_still : (o : Option Basis) (rate time work : ℕ) (t : Task) → IsRatedBy o rate t → IsRatedBy o rate (with_more time work t)
-rated_still None rate time work t is = is
-rated_still (Some b) rate time work t is = is
+rated_still : (o : Option Claim) (rate time work : ℕ) (t : Task) → IsRatedBy o rate t → IsRatedBy o rate (with_more time work t)
+rated_still None rate time work t rated = rated
+rated_still (Some k) rate time work t rated = record { reclaims = rated.reclaims; bw = rated.bw; is = rated.is }
 
 -- ---- the seat of a CPU ends at another time
 
@@ -159,7 +160,7 @@ module _ (upto time cpu : ℕ) (seats : List (Option Seat)) (items : List Task) 
     lasted = may.lasted;
     high = w.high;
     turns = w.turns;
-    rated = rated_still s.basis s.rate time m.work x w.rated;
+    rated = rated_still s.claim s.rate time m.work x w.rated;
   }
 
   pub extended_waits : AllWait after (set items p y)
@@ -215,7 +216,7 @@ module _ (d : Doubts) (w : ℕ) (places : Places) (cpu time work end : ℕ) (sea
   pub more_settled : AreSettled d w places seats tasks → AreSettled d w places (set seats cpu (Some (ending_at end s))) (set tasks p (with_more time work x))
   more_settled are i few bare =
       let was = are i few bare in
-      let basis : noted_basis d w tasks i ≡ noted_basis d w (set tasks p (with_more time work x)) i = λ j. record { uinact = uinact i ((sym shares_same) j); sum = d.sum; cpus = w; limit = d.limit } in
+      let basis : noted_basis d w tasks i ≡ noted_basis d w (set tasks p (with_more time work x)) i = λ j. record { uinact = uinact i ((sym shares_same) j); share = d.sum / w; limit = d.limit } in
       elim (cases_eq i cpu) [
         | inl e ↦
             let now : get_or seats i None ≡ Some s = ap (λ c. get_or seats c None) e ∙ there in

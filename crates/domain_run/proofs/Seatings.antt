@@ -1,15 +1,17 @@
 -- Seats that are taken and left, and time that goes on for all who sit.
-use Rattle.std.proofs.Common.{◌≡◌, ◌≢◌, ℕ, ◌-◌, ◌*◌, ◌<◌, ◌≤◌, min, Bool, true, false, cond, eqb, Option, Some, None, List, length, map, get_or, set, refl, sym, ap, ◌∙◌, subst, arith, inl, inr, eq-eqb}
+use Rattle.std.proofs.Common.{◌≡◌, ◌≢◌, ℕ, ◌-◌, ◌*◌, ◌<◌, ◌≤◌, max, min, Bool, true, false, cond, eqb, Option, Some, None, List, length, map, get_or, set, refl, sym, ap, ◌∙◌, subst, arith, inl, inr, eq-eqb}
 use Rattle.std.specs.Prelude.{pos, ◌-ℤ◌, All, AllPairs, IfSome}
 use Rattle.std.proofs.lemmas.Int.{ints}
 use Rattle.std.proofs.lemmas.Bool.{cases_eq, cases_lt, eqb-true, ne_eqb}
-use Rattle.std.proofs.lemmas.List.{get_or-set_same, get_or-set_other, get_or_past, get_or_default, get_or-map, length-map, length-set, set-get_or}
+use Rattle.std.proofs.lemmas.List.{get_or-set_same, get_or-set_other, get_or_past, get_or_default, get_or-map, length-map, length-set, set-get_or, set-set}
 use Rattle.std.proofs.Math.Nat.{mul-le-mul_left}
 use Rattle.domain_run.specs.declared.task.Task.{Task}
+use Rattle.attr_check.specs.Ratio.{unit}
 use Rattle.grub_rules.specs.Rate as reclaiming
 use Rattle.due_times.specs.declared.seats.Seat.{Seat}
 use Rattle.due_times.specs.declared.seats.Basis.{Basis}
-use Rattle.due_times.specs.Seats.{SeatsView, seat_by}
+use Rattle.due_times.specs.declared.seats.Claim.{Claim}
+use Rattle.due_times.specs.Seats.{SeatsView, IsOn, seat_by}
 use Rattle.domain_run.specs.private.Waiting.{seat_of_task, slid_for, owed_by, owed, owed_all, Waits, WaitsIf, AllWait, MaySit, IsAtRate, IsRight, charged_on, rate_by, IsRatedBy}
 use Rattle.domain_run.specs.declared.run_queue.RunQueue.{RunQueue}
 use Rattle.domain_run.specs.private.RunQueue.{IsCounted}
@@ -160,8 +162,42 @@ module _ (upto cpu : ℕ) (seats : List (Option Seat)) (s : Seat) (free : get_or
       by_number t true e sat = sat (sym (eqb-true s.number t.number e))
       by_number t false e sat = tt
 
+-- ---- who sits goes on by another seat: as if its CPU had been left, and taken again
+
+module _ (upto cpu : ℕ) (seats : List (Option Seat)) (tasks : List Task) (s next : Seat) (there : get_or seats cpu None ≡ Some s) (inside : cpu < length seats) (since : next.since ≡ upto) (p : ℕ) (x y : Task) (within : p < length tasks) (read : x ≡ get_or tasks p x) (number : x.number ≡ s.number) (numbered : AllPairs (λ a b. a.number ≢ b.number) tasks) (home : x.cpu ≡ cpu) (charged : y ≡ owed_by upto (Some s) x) where
+  abbrev left : List (Option Seat)
+  left = set seats cpu None
+
+  was_charged : y ≡ charged_on cpu upto s x
+  was_charged = charged ∙ sym (ap (λ b. cond b (owed_by upto (Some s) x) x) (eq-eqb x.cpu cpu home))
+
+  in_left : cpu < length left
+  in_left = omega (arith, inside, length-set seats cpu None)
+
+  pub went_on_view : map (owed upto (set seats cpu (Some next))) (set tasks p y) ≡ map (owed upto seats) tasks
+  went_on_view =
+      ap (λ ss. map (owed upto ss) (set tasks p y)) (sym (set-set seats cpu None (Some next)))
+      ∙ taken_view upto cpu left next (none_at seats cpu) in_left since (set tasks p y)
+      ∙ ap (λ (t : Task). map (owed upto left) (set tasks p t)) was_charged
+      ∙ vacated_view upto cpu seats tasks s there p x within read number numbered
+
+  sat_on : next.number ≡ s.number → Waits next y → (k : ℕ) (d : Task) → k < length (set tasks p y) → (get_or (set tasks p y) k d).number ≡ next.number → Waits next (get_or (set tasks p y) k d)
+  sat_on same waits k d h e = elim (cases_eq k p) [
+    | inl at ↦ subst (Waits next) (sym (ap (λ i. get_or (set tasks p y) i d) at ∙ get_or-set_same tasks p y d within)) waits
+    | inr other ↦
+        let bound : k < length tasks = omega (arith, h, length-set tasks p y) in
+        let its : (get_or tasks k d).number ≡ x.number = ap (λ (t : Task). t.number) (sym (get_or-set_other tasks p k y d other)) ∙ e ∙ same ∙ sym number in
+        absurd (other (one_index tasks k p d d numbered bound within (its ∙ ap (λ (t : Task). t.number) (read ∙ get_or_default tasks p x d within))))
+  ]
+
+  pub went_on_waits : next.number ≡ s.number → Waits next y → AllWait seats tasks → AllWait (set seats cpu (Some next)) (set tasks p y)
+  went_on_waits same waits all =
+      subst (λ ss. AllWait ss (set tasks p y)) (set-set seats cpu None (Some next))
+      (taken_waits upto cpu left next (none_at seats cpu) in_left since (set tasks p y) (λ k d h e n. sat_on same waits k d h n)
+      (subst (λ (t : Task). AllWait left (set tasks p t)) (sym was_charged) (vacated_waits upto cpu seats tasks s there p x within read number numbered all)))
+
 -- a seat that ends with the work or the budget of its task, whichever is first
-pub waits_until : (s : Seat) (t : Task) (spent left : ℕ) → MaySit t → pos left ≡ t.server.left → s.end - s.since ≡ min t.work spent → s.rate * (spent - 1) < left → 0 < s.rate → IsRatedBy s.basis s.rate t → Waits s t
+pub waits_until : (s : Seat) (t : Task) (spent left : ℕ) → MaySit t → pos left ≡ t.server.left → s.end - s.since ≡ min t.work spent → s.rate * (spent - 1) < left → 0 < s.rate → IsRatedBy s.claim s.rate t → Waits s t
 waits_until s t spent left may is span lasted turns rated =
     let m : s.rate * (s.end - s.since - 1) ≤ s.rate * (spent - 1) = mul-le-mul_left s.rate (omega (arith, span)) in
     record {
@@ -181,12 +217,16 @@ at_rate rate o s is e = subst (IsAtRate rate) (sym is) e
 pub right_rate : (n number rate other : ℕ) (o : Option Seat) → (n ≡ number → rate ≡ other) → IsRight (Some n) number rate o → IsRight (Some n) number other o
 right_rate n number rate other o same is = (λ e. subst (λ r. IsAtRate r o) (same e) (is.0 e), is.1)
 
-rated_on : (kept : Option Basis) (rate : ℕ) (t : Task) (b : Basis) → IfSome kept (λ k. k ≡ b) → IsRatedBy kept rate t → rate ≡ rate_by b t
-rated_on None rate t b same rated = rated b
-rated_on (Some k) rate t b same rated = rated ∙ ap (λ (x : Basis). rate_by x t) same
+rated_on : (kept : Option Claim) (rate : ℕ) (t : Task) (b : Basis) → IfSome kept (IsOn b) → IsRatedBy kept rate t → rate ≡ rate_by b t
+rated_on None rate t b on rated = rated b
+rated_on (Some k) rate t b on rated =
+    rated.is
+    ∙ (λ i. reclaiming.rate_charged (on.charged i) (on.limit i))
+    ∙ ap (λ n. reclaiming.rate_charged (max n (b.share - b.uinact)) b.limit) rated.bw
+    ∙ sym (ap (λ r. cond r (reclaiming.rate_charged (max t.params.bw (b.share - b.uinact)) b.limit) unit) rated.reclaims)
 
 -- who sits on a basis that is still right, is right
-pub basis_right : (upto cpu n : ℕ) (seats : List (Option Seat)) (items : List Task) (s : Seat) (b : Basis) → seat_by n (get_or seats cpu None) ≡ Some s → IfSome s.basis (λ k. k ≡ b) → AllWait seats items → All (λ t. t.cpu ≡ cpu → IsRight (Some n) t.number (rate_by b t) (seat_of_task seats t)) (map (owed upto seats) items)
+pub basis_right : (upto cpu n : ℕ) (seats : List (Option Seat)) (items : List Task) (s : Seat) (b : Basis) → seat_by n (get_or seats cpu None) ≡ Some s → IfSome s.claim (IsOn b) → AllWait seats items → All (λ t. t.cpu ≡ cpu → IsRight (Some n) t.number (rate_by b t) (seat_of_task seats t)) (map (owed upto seats) items)
 basis_right upto cpu n seats items s b sat same waits k d h e =
     let f = owed upto seats in
     let many : length (map f items) ≡ length items = simp length-map in
@@ -204,7 +244,7 @@ basis_right upto cpu n seats items s b sat same waits k d h e =
           let its : seat_of_task seats x ≡ Some s = (λ i. seat_by ((number_is ∙ sym q) i) (get_or seats (cpu_is i) None)) ∙ sat in
           let w : Waits s x = subst (λ o. IfSome o (λ r. Waits r x)) its (waits k d inside) in
           at_rate (rate_by b t) (seat_of_task seats t) s (here ∙ ap (λ m. seat_by m (get_or seats cpu None)) (sym q) ∙ sat)
-          (rated_on s.basis s.rate x b same w.rated ∙ (λ i. reclaiming.rate (params i) b.uinact b.sum b.cpus b.limit)),
+          (rated_on s.claim s.rate x b same w.rated ∙ (λ i. reclaiming.rate_on (params i) b.uinact b.share b.limit)),
       λ q. here ∙ ap (seat_by t.number) at.at ∙ other_seat t.number s (λ z. q (sym at.its ∙ z)),
     )
 

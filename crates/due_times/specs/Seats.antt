@@ -1,5 +1,7 @@
 -- Who runs since when, for the code's own contracts.
-use Rattle.std.specs.Prelude.{ℕ, ◌-◌, ◌^◌, ◌<◌, ◌≤◌, ◌≡◌, ◌==◌, if◌then◌else◌, List, length, map, All, slice_index_or, slice_set, Option, Some, None, IfSome}
+use Rattle.std.specs.Prelude.{ℕ, ◌-◌, ◌^◌, ◌<◌, ◌≤◌, ◌≡◌, ◌==◌, max, if◌then◌else◌, List, length, map, All, slice_index_or, slice_set, Option, Some, None, IfSome}
+use Rattle.due_times.specs.declared.seats.Basis.{Basis}
+use Rattle.due_times.specs.declared.seats.Claim.{Claim}
 use Rattle.due_times.specs.declared.seats.Seat.{Seat}
 
 -- the time up to which all have run, and who sits on each CPU
@@ -11,6 +13,12 @@ pub record SeatsView : Type 0 where
 abbrev pub end_of : Option Seat → ℕ
 end_of None = 2 ^ 64 - 1
 end_of (Some s) = s.end
+
+-- a claim is that of its task on a basis: the tasks of the domain have so much of each CPU, and so
+-- much of that is inactive on its own
+pub record IsOn (b : Basis) (k : Claim) : Type 0 where
+  pub charged : k.charged ≡ max k.bw (b.share - b.uinact)
+  pub limit : k.limit ≡ b.limit
 
 -- a seat has begun and ends later, and no product of its rate is out of range
 pub record IsAhead (upto : ℕ) (s : Seat) : Type 0 where

@@ -1,7 +1,7 @@
 //! Which CPUs have seats that are known to be right. What happens touches few CPUs, so a leap looks
 //! at those alone.
 
-ghost use Rattle.std.specs.Prelude.{ℕ, ◌≡◌, ◌≢◌, ◌⊎◌, ◌<◌, ◌≤◌, IsTrue, false};
+ghost use Rattle.std.specs.Prelude.{ℕ, ◌≡◌, ◌≢◌, ◌⊎◌, ◌<◌, ◌≤◌, ◌/◌, IsTrue, false};
 ghost use Rattle.std.specs.Int.{bit_at};
 
 use cpu_marks::{both, with, without};
@@ -197,25 +197,31 @@ impl Doubts {
         }
     }
 
-    /// Another sum or another limit is noted: then each CPU whose seat keeps what its rate was
-    /// worked out from is in doubt.
+    /// Another sum or another limit is noted. Then each CPU whose seat keeps what its rate was
+    /// worked out from is in doubt, unless so many CPUs have the same of both sums, and the limit
+    /// stays.
     #[inline(always)]
-    pub fn renew(&mut self, sum: u64, limit: u64)
+    pub fn renew(&mut self, sum: u64, cpus: u64, limit: u64)
+        requires { 0 < cpus }
         ensures bare { (i : ℕ) → bit_at self.new.cpus i ≡ 0 → bit_at self.old.cpus i ≡ 0 }
         ensures free { (i : ℕ) → bit_at self.new.cpus i ≡ 0
-            → (bit_at self.old.rated i ≡ 0) ⊎ ((self.old.sum ≡ sum) × (self.old.limit ≡ limit)) }
+            → (bit_at self.old.rated i ≡ 0)
+            ⊎ ((self.old.sum / cpus ≡ sum / cpus) × (self.old.limit ≡ limit)) }
         ensures others { (i : ℕ) → bit_at self.old.rated i ≡ 0
             → bit_at self.new.cpus i ≡ bit_at self.old.cpus i }
-        ensures same { self.old.sum ≡ sum → self.old.limit ≡ limit
+        ensures same { self.old.sum / cpus ≡ sum / cpus → self.old.limit ≡ limit
             → self.new.cpus ≡ self.old.cpus }
         ensures rated { self.new.rated ≡ self.old.rated }
         ensures sum { self.new.sum ≡ sum }
         ensures limit { self.new.limit ≡ limit }
     {
-        if !self.is_for(sum, limit) {
-            self.mark_rated();
-            self.sum = sum;
-            self.limit = limit;
+        if self.is_for(sum, limit) {
+            return;
         }
+        if self.limit != limit || self.sum / cpus != sum / cpus {
+            self.mark_rated();
+        }
+        self.sum = sum;
+        self.limit = limit;
     }
 }

@@ -15,5 +15,5 @@ mod timers;
 mod tournament;
 
 pub use doubts::{Doubts, first_marked};
-pub use seats::{Basis, Rating, Seat, Seats};
+pub use seats::{Basis, Claim, Rating, Seat, Seats};
 pub use timers::{NEVER, Timers};

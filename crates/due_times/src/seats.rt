@@ -2,7 +2,7 @@
 //! seat tells since when it has not been charged and at which rate it runs, so that time goes on
 //! for all of them at once.
 
-ghost use Rattle.std.specs.Prelude.{ℕ, false, IsTrue, is_none, ◌≡◌, ◌≢◌, ◌<◌, ◌≤◌, ◌+◌, ◌^◌, All, IfOk, IfSome, IsSome, IsSomeAnd, None, Some, length, map, option_map, replicate, slice_index_or, slice_set, vec_capacity};
+ghost use Rattle.std.specs.Prelude.{ℕ, false, IsTrue, is_none, ◌≡◌, ◌↔◌, ◌<◌, ◌≤◌, ◌+◌, ◌^◌, All, IfOk, IfSome, IsSome, IsSomeAnd, None, Some, length, map, option_map, replicate, slice_index_or, slice_set, vec_capacity};
 ghost use Rattle.due_times.specs.Seats as spec;
 ghost use Rattle.due_times.specs.Timers.{AreLater, least};
 
@@ -11,14 +11,26 @@ use no_memory::NoMemory;
 use std::alloc::{AllocError, Global};
 use std::marker::Model;
 
-/// What the rate of a task depends on beside its parameters.
-#[derive(Clone, Copy, PartialEq, Eq)]
+/// What the rates of the tasks of a CPU depend on beside their parameters.
+#[derive(Clone, Copy)]
 pub struct Basis {
-    /// The bandwidth of the inactive tasks of its CPU, in 1/2^20 of a CPU.
+    /// The bandwidth of the inactive tasks of the CPU, in 1/2^20 of a CPU.
     pub uinact: u64,
-    /// The bandwidth of all listed tasks.
-    pub sum: u64,
-    pub cpus: u64,
+    /// The bandwidth of all listed tasks, divided by the number of CPUs.
+    pub share: u64,
+    /// In 1/2^20 of a CPU.
+    pub limit: u64,
+}
+
+/// What the rate of a task that reclaims was worked out from. On another basis the task has the
+/// same rate still, if it is charged for the same bandwidth there.
+#[derive(Clone, Copy)]
+pub struct Claim {
+    /// The bandwidth of the task, in 1/2^20 of a CPU.
+    pub bw: u64,
+    /// The bandwidth that it is charged for: what is neither inactive on its CPU nor free in its
+    /// domain, or its own, if that is more.
+    pub charged: u64,
     /// In 1/2^20 of a CPU.
     pub limit: u64,
 }
@@ -34,7 +46,7 @@ pub struct Seat {
     /// What a tick takes of its budget, in 1/2^20 us.
     pub rate: u64,
     /// What the rate was worked out from; nothing where it is the same on every basis.
-    pub basis: Option<Basis>,
+    pub claim: Option<Claim>,
     /// When its work or its budget ends, if it goes on to run at this rate, or a time before that.
     pub end: u64,
 }
@@ -46,7 +58,7 @@ pub struct Rating {
     /// What a tick takes of its budget, in 1/2^20 us.
     pub rate: u64,
     /// What it was worked out from.
-    pub basis: Option<Basis>,
+    pub claim: Option<Claim>,
 }
 
 /// For each CPU the seat of who runs there, if anyone does, and the time up to which all of them
@@ -70,14 +82,27 @@ impl Model for Seats {
     ghost invariant = { λ s. AreSeats s.upto s.seats.items s.ends (vec_capacity s.seats) };
 }
 
-impl Basis {
-    /// Whether it is the same.
+impl Claim {
+    /// That of a task of a bandwidth, on a basis.
     #[inline(always)]
-    pub fn is_same(&self, other: &Basis) -> bool
-        ensures same { IsTrue result → self.now ≡ other.now }
-        ensures other { result ≡ false → self.now ≢ other.now }
+    pub fn on(basis: &Basis, bw: u64) -> Claim
+        ensures bw { result.bw ≡ bw }
+        ensures on { spec.IsOn basis.now result }
     {
-        self == other
+        Claim {
+            bw,
+            charged: bw.max(basis.share.saturating_sub(basis.uinact)),
+            limit: basis.limit,
+        }
+    }
+
+    /// Whether the rate is the same by both.
+    #[inline(always)]
+    pub fn is_same(&self, other: &Claim) -> bool
+        ensures { IsTrue result
+            ↔ ((self.now.charged ≡ other.now.charged) × (self.now.limit ≡ other.now.limit)) }
+    {
+        self.charged == other.charged && self.limit == other.limit
     }
 }
 
@@ -169,13 +194,13 @@ impl Seats {
     pub fn is_rated(&self, cpu: usize) -> bool
         requires { cpu < length self.now.seats }
         ensures free { result ≡ false
-            → IfSome (slice_index_or self.now.seats cpu None) (λ s. s.basis ≡ None) }
+            → IfSome (slice_index_or self.now.seats cpu None) (λ s. s.claim ≡ None) }
         ensures rated { IsTrue result
-            → IsSomeAnd (slice_index_or self.now.seats cpu None) (λ s. IsSome s.basis) }
+            → IsSomeAnd (slice_index_or self.now.seats cpu None) (λ s. IsSome s.claim) }
     {
         match self.seats[cpu] {
             None => false,
-            Some(seat) => seat.basis.is_some(),
+            Some(seat) => seat.claim.is_some(),
         }
     }
 
@@ -191,16 +216,35 @@ impl Seats {
         if_of(self.get(cpu), number)
     }
 
-    /// What the rate of the task of a number was worked out from, if from anything, where it sits
-    /// on a CPU.
+    /// Whether the task of a number sits on a CPU, at a rate that is the same on every basis.
     #[inline(always)]
-    pub fn basis_of(&self, cpu: usize, number: u32) -> Option<Option<Basis>>
+    pub fn is_unclaimed(&self, cpu: usize, number: u32) -> bool
         requires { cpu < length self.now.seats }
-        ensures { result ≡ option_map (λ s. s.basis)
-            (spec.seat_by number (slice_index_or self.now.seats cpu None)) }
+        ensures { IsTrue result ↔ IsSomeAnd (slice_index_or self.now.seats cpu None)
+            (λ s. (s.number ≡ number) × (s.claim ≡ None)) }
     {
-        match &self.seats[cpu] {
-            Some(seat) if seat.number == number => Some(seat.basis),
+        let Some(seat) = &self.seats[cpu] else {
+            return false;
+        };
+        seat.number == number && seat.claim.is_none()
+    }
+
+    /// The seat of a task on a CPU with what its rate was worked out from, where it sits there and
+    /// keeps that.
+    #[inline(always)]
+    pub fn claimed(&self, cpu: usize, number: u32) -> Option<(Seat, Claim)>
+        requires { cpu < length self.now.seats }
+        ensures sits { IfSome result
+            (λ p. slice_index_or self.now.seats cpu None ≡ Some p.0) }
+        ensures number { IfSome result (λ p. p.0.number ≡ number) }
+        ensures claim { IfSome result (λ p. p.0.claim ≡ Some p.1) }
+        ensures ahead { IfSome result (λ p. spec.IsAhead self.now.upto p.0) }
+    {
+        let Some(seat) = self.get(cpu) else {
+            return None;
+        };
+        match seat.claim {
+            Some(claim) if seat.number == number => Some((seat, claim)),
             _ => None,
         }
     }

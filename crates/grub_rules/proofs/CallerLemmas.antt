@@ -10,7 +10,7 @@ use Rattle.std.proofs.Math.Seq.{drop-cons}
 use Rattle.std.proofs.Math.ListN.{drop_of_length-le}
 use Rattle.std.proofs.lemmas.List.{take-append-drop, take-set, drop-set, map-append, take_all, append-nil, append_assoc}
 -- of the rate
-pub use Rattle.grub_rules.proofs.Rating.{taken_is, used_most, rounded, rate_is, slow}
+pub use Rattle.grub_rules.proofs.Rating.{taken_is, bw_most, used_most, rounded, rate_is, rate_on_is, slow}
 
 -- one share alone
 alone : (p : Bool) (s : Share) → sum_by (λ x. x.bw) (cond p (s ∷ []) []) ≡ cond p s.bw 0

@@ -7,7 +7,7 @@ use Rattle.std.proofs.lemmas.Bool.{cond_both, ltb-true, ltb-false}
 use Rattle.std.proofs.Math.Nat.{div-le_of_le-mul, div-le_self}
 use Rattle.attr_check.specs.Ratio.{unit, cap}
 use Rattle.attr_check.specs.ParamsView.{ParamsView, IsOrdered}
-use Rattle.grub_rules.specs.Rate.{div_up, charged_bw, rate}
+use Rattle.grub_rules.specs.Rate.{div_up, charged_bw, rate_charged, rate, rate_on}
 
 -- the larger of a natural and a whole number, by what is to be added for another natural
 larger : (z : ℤ) (bw inactive used : ℕ) → z +ℤ pos inactive ≡ pos used → unsigned_abs (int_max (pos bw) z) ≡ max bw (used - inactive)
@@ -39,6 +39,13 @@ swapped n = omega arith
 -- THE RATE that the code computes, from what the task takes
 abbrev pub rounded : ℕ → ℕ → ℕ
 rounded t limit = max ((t * 1048576 + limit - 1) / limit) 1
+
+pub rounded_is : (t limit : ℕ) → rate_charged t limit ≡ rounded t limit
+rounded_is t limit = sym (swapped ((t * 1048576 + limit - 1) / limit))
+
+-- by what the tasks of the domain have of each CPU it is the same
+pub rate_on_is : (p : ParamsView) (inactive sum cpus limit : ℕ) → rate_on p inactive (sum / cpus) limit ≡ rate p inactive sum cpus limit
+rate_on_is p inactive sum cpus limit = ap (λ n. cond p.reclaim (rate_charged n limit) unit) (sym (taken_is p inactive sum cpus limit))
 
 pub rate_is : (p : ParamsView) (inactive sum cpus limit t result : ℕ) → p.reclaim ≡ true → t ≡ max p.bw (sum / cpus - inactive) → result ≡ rounded t limit → result ≡ rate p inactive sum cpus limit
 rate_is p inactive sum cpus limit t result reclaims e is =

@@ -1,6 +1,6 @@
 -- Running sums of a domain's tasks, and what they count (sched-deadline.rst, "Bandwidth
 -- reclaiming").
-use Rattle.std.specs.Prelude.{ℕ, ◌+◌, ◌-◌, ◌<◌, ◌≤◌, ◌≡◌, true, false, if◌then◌else◌, List, length, slice_index, All, sum}
+use Rattle.std.specs.Prelude.{ℕ, ◌+◌, ◌-◌, ◌/◌, ◌<◌, ◌≤◌, ◌≡◌, true, false, if◌then◌else◌, List, length, slice_index, All, sum}
 use Rattle.grub_rules.specs.Sums.{Share, total_bw, this_bw, running_bw}
 
 -- for each CPU the bandwidth of its tasks and that of its active ones, and the bandwidth of all
@@ -10,15 +10,17 @@ pub record AccountsView : Type 0 where
   pub active : List ℕ
   pub total : ℕ
 
--- what every value keeps: two sums for each CPU, the active one within the other, and the total of
--- all CPUs; and for both lists the room for so many that they were opened with, so they take no
--- more
-pub record IsBalanced (accounts : AccountsView) (all_capacity active_capacity : ℕ) : Type 0 where
-  pub cpus : length accounts.active ≡ length accounts.all
-  pub within : (cpu : ℕ) → slice_index accounts.active cpu ≤ slice_index accounts.all cpu
-  pub total : sum accounts.all ≡ accounts.total
-  pub all_room : all_capacity ≡ length accounts.all
-  pub active_room : active_capacity ≡ length accounts.active
+-- what every value keeps: two sums for each CPU, the active one within the other, the total of all
+-- CPUs, and what that is for each of them; and for both lists the room for so many that they were
+-- opened with, so they take no more
+pub record IsBalanced (accounts : AccountsView) (each all_capacity active_capacity : ℕ) : Type 0
+  where
+    pub cpus : length accounts.active ≡ length accounts.all
+    pub within : (cpu : ℕ) → slice_index accounts.active cpu ≤ slice_index accounts.all cpu
+    pub total : sum accounts.all ≡ accounts.total
+    pub share : each ≡ accounts.total / length accounts.all
+    pub all_room : all_capacity ≡ length accounts.all
+    pub active_room : active_capacity ≡ length accounts.active
 
 -- the sums count these shares and no others: each belongs to a CPU of the domain, and on every CPU
 -- the sums are theirs

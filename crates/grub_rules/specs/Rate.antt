@@ -19,9 +19,18 @@ abbrev pub charged_bw : ParamsView → ℕ → ℕ → ℕ → ℕ → ℤ
 charged_bw p inactive sum cpus limit =
     int_max (pos p.bw) (pos limit -ℤ pos inactive -ℤ extra sum cpus limit)
 
--- dq = -(max (u, Umax - Uinact - Uextra) / Umax) dt, rounded up and at least 1 (own); one where the
--- task does not reclaim
+-- dq = -(u / Umax) dt of a task that is charged for u, rounded up and at least 1 (own)
+abbrev pub rate_charged : ℕ → ℕ → ℕ
+rate_charged bw limit = max 1 (div_up (bw * unit) limit)
+
+-- dq = -(max (u, Umax - Uinact - Uextra) / Umax) dt; one where the task does not reclaim
 abbrev pub rate : ParamsView → ℕ → ℕ → ℕ → ℕ → ℕ
 rate p inactive sum cpus limit =
     if p.reclaim
-    then max 1 (div_up (unsigned_abs (charged_bw p inactive sum cpus limit) * unit) limit) else unit
+    then rate_charged (unsigned_abs (charged_bw p inactive sum cpus limit)) limit else unit
+
+-- the same, where the tasks of the domain have so much of each CPU: what is inactive on the task's
+-- CPU is free, and it pays for the rest, or for its own bandwidth
+abbrev pub rate_on : ParamsView → ℕ → ℕ → ℕ → ℕ
+rate_on p inactive share limit =
+    if p.reclaim then rate_charged (max p.bw (share - inactive)) limit else unit

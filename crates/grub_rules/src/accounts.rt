@@ -1,8 +1,9 @@
 //! Running sums of the bandwidth of a domain's tasks (sched-deadline.rst, "Bandwidth reclaiming").
 
-ghost use Rattle.std.specs.Prelude.{◌≡◌, ◌<◌, ◌≤◌, ◌^◌, ◌+◌, ◌-◌, ◌==◌, ◌↔◌, IsTrue, ℕ, if◌then◌else◌, [], ◌∷◌, length, slice_index, sum, replicate, vec_len, vec_capacity, IfOk};
+ghost use Rattle.std.specs.Prelude.{◌≡◌, ◌<◌, ◌≤◌, ◌^◌, ◌+◌, ◌-◌, ◌/◌, ◌==◌, ◌↔◌, IsTrue, ℕ, if◌then◌else◌, [], ◌∷◌, length, slice_index, sum, replicate, vec_len, vec_capacity, IfOk};
 ghost use Rattle.grub_rules.specs.Accounts.{AreAccounts, Holds, Exchanges, active_share, inactive_share, inactive_at};
 
+use crate::rules::on_each;
 use crate::share::Share;
 use std::alloc::{AllocError, Global};
 use std::marker::Model;
@@ -19,6 +20,8 @@ pub struct Accounts {
     all: Vec<u64>,
     active: Vec<u64>,
     total: u64,
+    // The total divided by the number of CPUs, by one division for each change of the total.
+    share: u64,
 }
 
 impl Model for Accounts {
@@ -30,7 +33,7 @@ impl Model for Accounts {
     ghost view = { λ a. record { all = a.all.items; active = a.active.items; total = a.total } };
 
     ghost invariant = { λ a. IsBalanced
-        (record { all = a.all.items; active = a.active.items; total = a.total })
+        (record { all = a.all.items; active = a.active.items; total = a.total }) a.share
         (vec_capacity a.all) (vec_capacity a.active) };
 }
 
@@ -84,6 +87,7 @@ impl Accounts {
             all: zeros(alloc, cpus)?,
             active: zeros(alloc, cpus)?,
             total: 0,
+            share: 0,
         })
     }
 
@@ -121,6 +125,7 @@ impl Accounts {
             add(&mut self.active, share.cpu, share.bw);
         }
         self.total += share.bw;
+        self.share = on_each(self.total, self.all.len() as u64);
     }
 
     /// A task goes off the list, active or not as it is.
@@ -133,6 +138,7 @@ impl Accounts {
             subtract(&mut self.active, share.cpu, share.bw);
         }
         self.total -= share.bw;
+        self.share = on_each(self.total, self.all.len() as u64);
     }
 
     /// A listed task of this CPU and bandwidth, inactive until now, becomes active: it contends.
@@ -201,6 +207,13 @@ impl Accounts {
         ensures { result ≡ inactive_at cpu self.now }
     {
         self.all[cpu] - self.active[cpu]
+    }
+
+    /// The bandwidth of all listed tasks of the domain, divided by the number of CPUs.
+    pub fn share(&self) -> u64
+        ensures { result ≡ self.now.total / length self.now.all }
+    {
+        self.share
     }
 
     /// The bandwidth of all listed tasks of the domain.

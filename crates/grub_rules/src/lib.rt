@@ -13,5 +13,5 @@ mod rules;
 mod share;
 
 pub use accounts::Accounts;
-pub use rules::{rate, zero_lag};
+pub use rules::{rate, rate_for, zero_lag};
 pub use share::Share;

@@ -21,7 +21,7 @@ fn divided(number: u128, by: u64) -> u128
 }
 
 /// What is left to each CPU of a sum: a shift where their number is a power of two.
-fn on_each(sum: u64, cpus: u64) -> u64
+pub(crate) fn on_each(sum: u64, cpus: u64) -> u64
     requires { 0 < cpus }
     ensures { result ≡ sum / cpus }
 {
@@ -90,6 +90,19 @@ pub fn zero_lag(server: &Server, params: &Params, time: u64) -> Option<u64>
     if zero <= time { None } else { Some(zero) }
 }
 
+/// The rate of a task that is charged for so much bandwidth, in 1/2^20, rounded up. Takes no
+/// memory.
+pub fn rate_for(bw: u64, limit: u64) -> u64
+    requires bw { bw ≤ 2 ^ 26 }
+    requires limit { (10485 ≤ limit) × (limit ≤ 1048576) }
+    ensures value { result ≡ rates.rate_charged bw limit }
+    ensures some { 0 < result }
+    ensures slow { bw ≤ 2 ^ 20 → result ≤ 2 ^ 27 }
+    ensures most { result ≤ 2 ^ 33 }
+{
+    share_of(bw, limit).max(1)
+}
+
 /// The rate at which a running task uses its budget up, in 1/2^20: one where it does not reclaim,
 /// else its share of the domain's limit, where what is inactive on its CPU and what the domain
 /// could still give away count as free. `sum` is the bandwidth of all tasks of the domain, `uinact`
@@ -110,5 +123,5 @@ pub fn rate(params: &Params, uinact: u64, sum: u64, cpus: u64, limit: u64) -> u6
     // Umax - Uextra: what the tasks of the domain have of each CPU
     let used = on_each(sum, cpus);
     let taken = params.bw.max(used.saturating_sub(uinact));
-    share_of(taken, limit).max(1)
+    rate_for(taken, limit)
 }

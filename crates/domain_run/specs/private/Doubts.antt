@@ -1,5 +1,5 @@
 -- Which CPUs have seats that are known to be right, for the code's own contracts.
-use Rattle.std.specs.Prelude.{ℕ, ◌<◌, ◌≡◌, ◌≢◌, ◌⊎◌, List, All, slice_index_or, Option, Some, None, IfSome, IsSomeAnd}
+use Rattle.std.specs.Prelude.{ℕ, ◌/◌, ◌<◌, ◌≡◌, ◌≢◌, ◌⊎◌, List, All, slice_index_or, Option, Some, None, IfSome, IsSomeAnd}
 use Rattle.std.specs.Int.{bit_at}
 use Rattle.grub_rules.specs.Sums.{uinact}
 use Rattle.edf_pick.specs.declared.moves.Moved.{Moved}
@@ -7,28 +7,27 @@ use Rattle.edf_pick.specs.Places.{Places}
 use Rattle.due_times.specs.declared.doubts.Doubts.{Doubts}
 use Rattle.due_times.specs.declared.seats.Seat.{Seat}
 use Rattle.due_times.specs.declared.seats.Basis.{Basis}
+use Rattle.due_times.specs.Seats.{IsOn}
 use Rattle.domain_run.specs.declared.task.Task.{Task}
 use Rattle.domain_run.specs.Sound.{occupant}
 use Rattle.domain_run.specs.Tick.{shares}
 
--- who stands on a CPU sits there, at a rate that was worked out on this basis if on any, and nobody
--- else does
+-- who stands on a CPU sits there, at a rate that it has on this basis, and nobody else does
 abbrev pub IsSettled : Option ℕ → Basis → Option Seat → Type 0
 IsSettled None basis o = o ≡ None
-IsSettled (Some n) basis o = IsSomeAnd o (λ s. (s.number ≡ n) × IfSome s.basis (λ b. b ≡ basis))
+IsSettled (Some n) basis o = IsSomeAnd o (λ s. (s.number ≡ n) × IfSome s.claim (IsOn basis))
 
 -- what the rates of the tasks of a CPU depend on, with the sum and the limit that are noted
 abbrev pub noted_basis : Doubts → ℕ → List Task → ℕ → Basis
 noted_basis d cpus tasks cpu = record {
   uinact = uinact cpu (shares tasks);
-  sum = d.sum;
-  cpus = cpus;
+  share = d.sum / cpus;
   limit = d.limit;
 }
 
 -- where its CPU has no mark, a seat keeps nothing of what its rate was worked out from
 abbrev pub IsFree : ℕ → Option Seat → Type 0
-IsFree mark o = mark ≡ 0 → IfSome o (λ s. s.basis ≡ None)
+IsFree mark o = mark ≡ 0 → IfSome o (λ s. s.claim ≡ None)
 
 -- a CPU is in doubt, or who stands there sits there rightly
 abbrev pub IsTrusted : Doubts → ℕ → Option ℕ → List (Option Seat) → List Task → ℕ → Type 0

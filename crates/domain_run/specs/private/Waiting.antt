@@ -1,9 +1,10 @@
 -- Charges that wait: what a running task owes is told by its seat, for the code's own contracts.
-use Rattle.std.specs.Prelude.{ℕ, pos, ◌-◌, ◌*◌, ◌^◌, ◌<◌, ◌≤◌, ◌<ℤ◌, ◌≤ℤ◌, ◌-ℤ◌, ◌≡◌, ◌≢◌, ◌==◌, if◌then◌else◌, List, map, All, slice_index_or, Option, Some, None, IfSome, IsSomeAnd, IsTrue}
+use Rattle.std.specs.Prelude.{ℕ, pos, ◌-◌, ◌*◌, ◌^◌, ◌<◌, ◌≤◌, ◌<ℤ◌, ◌≤ℤ◌, ◌-ℤ◌, ◌≡◌, ◌≢◌, ◌==◌, true, if◌then◌else◌, List, map, All, slice_index_or, Option, Some, None, IfSome, IsSomeAnd, IsTrue}
 use Rattle.cbs_rules.specs.Serving.{charged}
 use Rattle.domain_run.specs.declared.task.Task.{Task}
 use Rattle.due_times.specs.declared.seats.Seat.{Seat}
 use Rattle.due_times.specs.declared.seats.Basis.{Basis}
+use Rattle.due_times.specs.declared.seats.Claim.{Claim}
 use Rattle.grub_rules.specs.Rate as reclaiming
 use Rattle.domain_run.specs.declared.running.Running.{Running}
 use Rattle.edf_pick.specs.Places.{Places}
@@ -41,12 +42,18 @@ owed_all s tasks = map (owed s.upto s.seats) tasks
 
 -- the rate of a task on a basis
 abbrev pub rate_by : Basis → Task → ℕ
-rate_by b t = reclaiming.rate t.params b.uinact b.sum b.cpus b.limit
+rate_by b t = reclaiming.rate_on t.params b.uinact b.share b.limit
 
--- a rate is that of a task on a basis that is kept; on every one, where none is
-abbrev pub IsRatedBy : Option Basis → ℕ → Task → Type 0
+-- a rate is that of a task that reclaims, on each basis on which the task has this claim
+pub record IsClaimed (k : Claim) (rate : ℕ) (t : Task) : Type 0 where
+  pub reclaims : t.params.reclaim ≡ true
+  pub bw : k.bw ≡ t.params.bw
+  pub is : rate ≡ reclaiming.rate_charged k.charged k.limit
+
+-- a rate is that of a task by a claim that is kept; on every basis, where none is
+abbrev pub IsRatedBy : Option Claim → ℕ → Task → Type 0
 IsRatedBy None rate t = (b : Basis) → rate ≡ rate_by b t
-IsRatedBy (Some b) rate t = rate ≡ rate_by b t
+IsRatedBy (Some k) rate t = IsClaimed k rate t
 
 -- a seat's task: it is ready, the seat has its rate, and neither its work nor its budget ends
 -- before the seat does; its budget is in range
@@ -56,7 +63,7 @@ pub record Waits (s : Seat) (t : Task) : Type 0 where
   pub lasted : pos (s.rate * (s.end - s.since - 1)) <ℤ t.server.left
   pub high : t.server.left ≤ℤ pos (2 ^ 52)
   pub turns : 0 < s.rate
-  pub rated : IsRatedBy s.basis s.rate t
+  pub rated : IsRatedBy s.claim s.rate t
 
 abbrev pub WaitsIf : List (Option Seat) → Task → Type 0
 WaitsIf seats t = IfSome (seat_of_task seats t) (λ s. Waits s t)

@@ -1,15 +1,14 @@
 //! How long a task may sit, at which rate, and what its seat owes.
 
-ghost use Rattle.std.specs.Prelude.{◌≡◌, ◌<◌, ◌≤◌, ◌^◌, ◌*◌, ◌-◌, None, Some, false, pos};
-ghost use Rattle.attr_check.specs.Ratio.{cap};
+ghost use Rattle.std.specs.Prelude.{◌≡◌, ◌<◌, ◌≤◌, ◌^◌, ◌*◌, ◌-◌, IfSome, None, Some, false, max, pos, true};
 ghost use Rattle.domain_run.specs.Domain.{IsLimit};
-ghost use Rattle.due_times.specs.Seats.{IsAhead};
+ghost use Rattle.due_times.specs.Seats.{IsAhead, IsOn};
 ghost use Rattle.domain_run.specs.private.Waiting as spec;
 
 use crate::roster::turning::charge;
 use crate::task::Task;
 use attr_check::UNIT;
-use due_times::{Basis, Rating, Seat};
+use due_times::{Basis, Claim, Rating, Seat};
 
 /// A task is charged what the seat of a CPU owes, where it belongs to that.
 pub(super) fn charge_on(task: &mut Task, cpu: usize, seat: Seat, upto: u64)
@@ -71,38 +70,47 @@ pub(super) fn lasting(left: u64, rate: u64, wanted: u64) -> u64
 pub(super) fn rated_at_one(task: &Task) -> Rating
     requires { task.now.params.reclaim ≡ false }
     ensures rate { result.rate ≡ 1048576 }
-    ensures basis { result.basis ≡ None }
-    ensures rated { spec.IsRatedBy result.basis result.rate task.now }
+    ensures claim { result.claim ≡ None }
+    ensures rated { spec.IsRatedBy result.claim result.rate task.now }
 {
     Rating {
         rate: UNIT,
-        basis: None,
+        claim: None,
     }
 }
 
-/// The rate of a task on a basis, which is kept.
+/// The rate of a task that reclaims, by its claim, which is kept.
 #[inline(always)]
-pub(super) fn rated_on(task: &Task, basis: Basis) -> Rating
-    requires uinact { basis.uinact ≤ 2 ^ 26 }
-    requires cpus { (0 < basis.cpus) × (basis.cpus ≤ 64) }
-    requires limit { IsLimit basis.limit }
-    requires within { basis.sum ≤ cap basis.cpus basis.limit }
+pub(super) fn rated_by(task: &Task, claim: Claim) -> Rating
+    requires reclaims { task.now.params.reclaim ≡ true }
+    requires bw { claim.bw ≡ task.now.params.bw }
+    requires charged { claim.charged ≤ max claim.bw (2 ^ 20) }
+    requires limit { IsLimit claim.limit }
     ensures some { 0 < result.rate }
     ensures slow { result.rate ≤ 2 ^ 27 }
-    ensures basis { result.basis ≡ Some basis }
-    ensures rated { spec.IsRatedBy result.basis result.rate task.now }
+    ensures claim { result.claim ≡ Some claim }
+    ensures rated { spec.IsRatedBy result.claim result.rate task.now }
 {
-    let rate = grub_rules::rate(
-        &task.params,
-        basis.uinact,
-        basis.sum,
-        basis.cpus,
-        basis.limit,
-    );
+    // For the prover alone: a look at the parameters brings that a task has at most one CPU.
+    let _ = task.params.bandwidth();
     Rating {
-        rate,
-        basis: Some(basis),
+        rate: grub_rules::rate_for(claim.charged, claim.limit),
+        claim: Some(claim),
     }
+}
+
+/// The rate of a task that reclaims, on a basis.
+#[inline(always)]
+pub(super) fn rated_on(task: &Task, basis: Basis) -> Rating
+    requires reclaims { task.now.params.reclaim ≡ true }
+    requires share { basis.share ≤ basis.limit }
+    requires limit { IsLimit basis.limit }
+    ensures some { 0 < result.rate }
+    ensures slow { result.rate ≤ 2 ^ 27 }
+    ensures claim { IfSome result.claim (IsOn basis) }
+    ensures rated { spec.IsRatedBy result.claim result.rate task.now }
+{
+    rated_by(task, Claim::on(&basis, task.params.bandwidth()))
 }
 
 /// A seat for a task, from a time on, at a rate.
@@ -111,12 +119,12 @@ pub(super) fn seat_for(task: &Task, upto: u64, rating: Rating) -> Seat
     requires may { spec.MaySit task.now }
     requires turns { 0 < rating.rate }
     requires slow { rating.rate ≤ 2 ^ 27 }
-    requires rated { spec.IsRatedBy rating.basis rating.rate task.now }
+    requires rated { spec.IsRatedBy rating.claim rating.rate task.now }
     requires early { upto ≤ 2 ^ 62 }
     ensures number { result.number ≡ task.now.number }
     ensures since { result.since ≡ upto }
     ensures rate { result.rate ≡ rating.rate }
-    ensures basis { result.basis ≡ rating.basis }
+    ensures claim { result.claim ≡ rating.claim }
     ensures ahead { IsAhead upto result }
     ensures waits { spec.Waits result task.now }
 {
@@ -125,7 +133,7 @@ pub(super) fn seat_for(task: &Task, upto: u64, rating: Rating) -> Seat
         number: task.number,
         since: upto,
         rate: rating.rate,
-        basis: rating.basis,
+        claim: rating.claim,
         end: upto + task.work.min(spent),
     }
 }

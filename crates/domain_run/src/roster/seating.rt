@@ -1,6 +1,6 @@
 //! Who sits on which CPU: nobody is charged by it, as callers see it.
 
-ghost use Rattle.std.specs.Prelude.{◌≡◌, ◌≢◌, ◌<◌, ◌≤◌, ◌^◌, ℕ, All, IfSome, IsTrue, None, Some, length, slice_index_or, slice_set};
+ghost use Rattle.std.specs.Prelude.{◌≡◌, ◌≢◌, ◌<◌, ◌≤◌, ◌^◌, ℕ, All, IfSome, IsSomeAnd, None, Some, length, slice_index_or, slice_set};
 ghost use Rattle.std.specs.Int.{bit_at};
 ghost use Rattle.attr_check.specs.Ratio.{cap};
 ghost use Rattle.domain_run.specs.Domain.{IsLimit};
@@ -8,13 +8,13 @@ ghost use Rattle.domain_run.specs.Tick.{sum_of};
 ghost use Rattle.domain_run.specs.private.Index.{IsListedAt};
 ghost use Rattle.domain_run.specs.private.Doubts.{IsSettled};
 ghost use Rattle.domain_run.specs.private.Roster.{rate_in, basis_in, IsSeated};
-ghost use Rattle.due_times.specs.Seats.{IsAhead};
+ghost use Rattle.due_times.specs.Seats.{IsAhead, IsOn};
 ghost use Rattle.domain_run.specs.private.Waiting as spec;
 
 use super::Roster;
 use crate::roster::starting;
 use crate::task::Task;
-use due_times::{Basis, Seat};
+use due_times::{Basis, Claim, Seat};
 
 impl Roster {
     /// As `vacate`, where it is known who sits there, and at which place of the list that task is.
@@ -87,6 +87,38 @@ impl Roster {
         );
     }
 
+    /// Who sits on a CPU, the task at a place, is charged, and sits there on by the claim that it
+    /// has now, at its rate.
+    #[inline(always)]
+    fn go_on(&mut self, cpu: usize, place: usize, seat: Seat, claim: Claim, limit: u64)
+        requires there { cpu < self.old.cpus }
+        requires cpus { (0 < self.old.cpus) × (self.old.cpus ≤ 64) }
+        requires limit { IsLimit limit }
+        requires within { sum_of self.old.tasks ≤ cap self.old.cpus limit }
+        requires at { IsListedAt self.old.tasks seat.number place }
+        requires sits { slice_index_or self.old.seats cpu None ≡ Some seat }
+        requires ahead { IsAhead self.old.clock seat }
+        requires kept { IsSomeAnd seat.claim (λ k. k.bw ≡ claim.bw) }
+        requires on { IsOn (basis_in self.old.cpus limit self.old.tasks cpu) claim }
+        requires home { (d : Task) → (slice_index_or self.old.tasks place d).cpu ≡ cpu }
+        requires may { (d : Task) → spec.MaySit (slice_index_or self.old.tasks place d) }
+        requires stands { slice_index_or self.old.places cpu None ≡ Some seat.number }
+        ensures cpus { self.new.cpus ≡ self.old.cpus }
+        ensures places { self.new.places ≡ self.old.places }
+        ensures clock { self.new.clock ≡ self.old.clock }
+        ensures tasks { self.new.tasks ≡ self.old.tasks }
+        ensures others { (d : ℕ) → d ≢ cpu
+            → slice_index_or self.new.seats d None ≡ slice_index_or self.old.seats d None }
+        ensures right { All (λ t. t.cpu ≡ cpu
+            → spec.IsRight (slice_index_or self.old.places cpu None) t.number
+            (rate_in self.old.cpus limit self.old.tasks t) (spec.seat_of_task self.new.seats t))
+            self.new.tasks }
+    {
+        starting::go_on(&mut self.tasks, &mut self.seats, place, cpu, seat, claim);
+        self.doubts
+            .clear_for(cpu, true, self.queue.accounts.total(), limit);
+    }
+
     /// What the rates of the tasks of a CPU depend on now.
     #[inline(always)]
     fn basis(&self, cpu: usize, limit: u64) -> Basis
@@ -96,60 +128,19 @@ impl Roster {
         starting::basis_of(&self.queue.accounts, cpu, limit)
     }
 
-    /// Whether a basis that is kept, if one is, is still that of a CPU.
-    #[inline(always)]
-    fn is_still(&self, cpu: usize, kept: Option<Basis>, limit: u64) -> bool
-        requires there { cpu < self.now.cpus }
-        ensures { IsTrue result
-            → IfSome kept (λ b. b ≡ basis_in self.now.cpus limit self.now.tasks cpu) }
-    {
-        match kept {
-            None => true,
-            Some(basis) => basis.is_same(&self.basis(cpu, limit)),
-        }
-    }
-
-    /// Whether the task of a number sits on a CPU at its rate, and nobody else does, by what the
-    /// rate was worked out from.
-    #[inline(always)]
-    fn sits_rightly(&self, cpu: usize, number: u32, limit: u64) -> bool
-        requires there { cpu < self.now.cpus }
-        ensures { IsTrue result → IsSettled (Some number)
-            (basis_in self.now.cpus limit self.now.tasks cpu)
-            (slice_index_or self.now.seats cpu None) }
-    {
-        match self.seats.basis_of(cpu, number) {
-            None => false,
-            Some(kept) => self.is_still(cpu, kept, limit),
-        }
-    }
-
-    /// Whether who stands on a CPU, if anyone does, sits there at its rate, and nobody else does.
-    #[inline(always)]
-    fn is_right(&self, cpu: usize, occupant: Option<u32>, limit: u64) -> bool
-        requires there { cpu < self.now.cpus }
-        ensures { IsTrue result → IsSettled occupant
-            (basis_in self.now.cpus limit self.now.tasks cpu)
-            (slice_index_or self.now.seats cpu None) }
-    {
-        match occupant {
-            None => self.seats.is_free(cpu),
-            Some(number) => self.sits_rightly(cpu, number, limit),
-        }
-    }
-
     /// Marks of the CPUs that are in doubt: on each other one who stands there, if anyone does,
     /// sits there at its rate, and nobody else does.
     #[inline(always)]
     pub(crate) fn doubtful(&mut self, limit: u64) -> u64
-        requires few { self.old.cpus ≤ 64 }
+        requires cpus { (0 < self.old.cpus) × (self.old.cpus ≤ 64) }
         ensures roster { self.new ≡ self.old }
         ensures others { All (λ t. bit_at result t.cpu ≡ 0
             → IsSeated self.old.places self.old.cpus limit self.old.tasks self.old.seats t)
             self.old.tasks }
     {
         let sum = self.sum();
-        self.doubts.renew(sum, limit);
+        let cpus = self.queue.accounts.cpus() as u64;
+        self.doubts.renew(sum, cpus, limit);
         self.doubts.cpus
     }
 
@@ -189,7 +180,8 @@ impl Roster {
         ensures tasks { self.new.tasks ≡ self.old.tasks }
         ensures others { (d : ℕ) → d ≢ cpu
             → slice_index_or self.new.seats d None ≡ slice_index_or self.old.seats d None }
-        ensures right { All (λ t. t.cpu ≡ cpu → spec.IsRight (Some number) t.number
+        ensures right { All (λ t. t.cpu ≡ cpu
+            → spec.IsRight (slice_index_or self.old.places cpu None) t.number
             (rate_in self.old.cpus limit self.old.tasks t) (spec.seat_of_task self.new.seats t))
             self.new.tasks }
     {
@@ -199,39 +191,74 @@ impl Roster {
         }
     }
 
-    /// Who stands on a CPU, if anyone does, sits there at its rate, and nobody else does.
+    /// Who sits on a CPU goes on there by the claim that it has now. Where that is the one that is
+    /// kept, or of the same rate, the task is not even looked for.
     #[inline(always)]
-    fn seat_on(&mut self, cpu: usize, occupant: Option<u32>, limit: u64)
+    fn sit_on(&mut self, cpu: usize, seat: Seat, kept: Claim, limit: u64)
         requires there { cpu < self.old.cpus }
         requires cpus { (0 < self.old.cpus) × (self.old.cpus ≤ 64) }
         requires limit { IsLimit limit }
         requires within { sum_of self.old.tasks ≤ cap self.old.cpus limit }
-        requires may { IfSome occupant
-            (λ n. All (λ t. t.number ≡ n → (t.cpu ≡ cpu) × spec.MaySit t) self.old.tasks) }
-        requires stands { slice_index_or self.old.places cpu None ≡ occupant }
+        requires sits { slice_index_or self.old.seats cpu None ≡ Some seat }
+        requires ahead { IsAhead self.old.clock seat }
+        requires kept { seat.claim ≡ Some kept }
+        requires may { All (λ t. t.number ≡ seat.number → (t.cpu ≡ cpu) × spec.MaySit t)
+            self.old.tasks }
+        requires stands { slice_index_or self.old.places cpu None ≡ Some seat.number }
         ensures cpus { self.new.cpus ≡ self.old.cpus }
         ensures places { self.new.places ≡ self.old.places }
         ensures clock { self.new.clock ≡ self.old.clock }
         ensures tasks { self.new.tasks ≡ self.old.tasks }
         ensures others { (d : ℕ) → d ≢ cpu
             → slice_index_or self.new.seats d None ≡ slice_index_or self.old.seats d None }
-        ensures right { All (λ t. t.cpu ≡ cpu → spec.IsRight occupant t.number
+        ensures right { All (λ t. t.cpu ≡ cpu
+            → spec.IsRight (slice_index_or self.old.places cpu None) t.number
             (rate_in self.old.cpus limit self.old.tasks t) (spec.seat_of_task self.new.seats t))
             self.new.tasks }
     {
-        match occupant {
-            None => {
-                self.leave_free(cpu);
-                self.trust(cpu, limit);
-            }
-            Some(number) => self.reseat(cpu, number, limit),
+        let claim = Claim::on(&self.basis(cpu, limit), kept.bw);
+        if kept.is_same(&claim) {
+            self.trust(cpu, limit);
+            return;
+        }
+        match self.place(seat.number) {
+            None => self.leave_free(cpu),
+            Some(place) => self.go_on(cpu, place, seat, claim, limit),
         }
     }
 
-    /// As `seat_on` for who stands on a CPU, where mostly the seat is right.
+    /// As `reseat`, where mostly the task sits there.
+    #[inline(always)]
+    fn sit_rightly(&mut self, cpu: usize, number: u32, limit: u64)
+        requires there { cpu < self.old.cpus }
+        requires cpus { (0 < self.old.cpus) × (self.old.cpus ≤ 64) }
+        requires limit { IsLimit limit }
+        requires within { sum_of self.old.tasks ≤ cap self.old.cpus limit }
+        requires may { All (λ t. t.number ≡ number → (t.cpu ≡ cpu) × spec.MaySit t) self.old.tasks }
+        requires stands { slice_index_or self.old.places cpu None ≡ Some number }
+        ensures cpus { self.new.cpus ≡ self.old.cpus }
+        ensures places { self.new.places ≡ self.old.places }
+        ensures clock { self.new.clock ≡ self.old.clock }
+        ensures tasks { self.new.tasks ≡ self.old.tasks }
+        ensures others { (d : ℕ) → d ≢ cpu
+            → slice_index_or self.new.seats d None ≡ slice_index_or self.old.seats d None }
+        ensures right { All (λ t. t.cpu ≡ cpu
+            → spec.IsRight (slice_index_or self.old.places cpu None) t.number
+            (rate_in self.old.cpus limit self.old.tasks t) (spec.seat_of_task self.new.seats t))
+            self.new.tasks }
+    {
+        match self.seats.claimed(cpu, number) {
+            Some((seat, kept)) => self.sit_on(cpu, seat, kept, limit),
+            None if self.seats.is_unclaimed(cpu, number) => self.trust(cpu, limit),
+            None => self.reseat(cpu, number, limit),
+        }
+    }
+
+    /// Who stands on a CPU, if anyone does, sits there at its rate, and nobody else does.
     #[inline(always)]
     pub(crate) fn seat_rightly(&mut self, cpu: usize, limit: u64)
         requires there { cpu < self.old.cpus }
+        requires wide { length self.old.places ≡ self.old.cpus }
         requires cpus { (0 < self.old.cpus) × (self.old.cpus ≤ 64) }
         requires limit { IsLimit limit }
         requires within { sum_of self.old.tasks ≤ cap self.old.cpus limit }
@@ -248,12 +275,13 @@ impl Roster {
             (rate_in self.old.cpus limit self.old.tasks t) (spec.seat_of_task self.new.seats t))
             self.new.tasks }
     {
-        let occupant = self.occupant(cpu);
-        if self.is_right(cpu, occupant, limit) {
-            self.trust(cpu, limit);
-            return;
+        match self.occupants()[cpu] {
+            None => {
+                self.leave_free(cpu);
+                self.trust(cpu, limit);
+            }
+            Some(number) => self.sit_rightly(cpu, number, limit),
         }
-        self.seat_on(cpu, occupant, limit);
     }
 
     /// Nobody sits any more.

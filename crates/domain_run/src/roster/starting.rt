@@ -1,6 +1,6 @@
 //! Who starts on a CPU belongs to it and sits there at once, where no log is told.
 
-ghost use Rattle.std.specs.Prelude.{ℕ, ◌≡◌, ◌≢◌, ◌<◌, ◌≤◌, ◌^◌, ◌+◌, ◌++◌, AllPairs, IfSome, None, Some, map, length, slice_index_or, slice_set, vec_capacity, vec_len};
+ghost use Rattle.std.specs.Prelude.{ℕ, ◌≡◌, ◌≢◌, ◌<◌, ◌≤◌, ◌^◌, ◌+◌, ◌/◌, ◌++◌, AllPairs, IfSome, IsSomeAnd, None, Some, map, max, length, slice_index_or, slice_set, vec_capacity, vec_len};
 ghost use Rattle.attr_check.specs.Ratio.{cap};
 ghost use Rattle.domain_run.specs.declared.task.Task.{Task};
 ghost use Rattle.domain_run.specs.Domain.{IsLimit};
@@ -10,16 +10,17 @@ ghost use Rattle.domain_run.specs.private.Choosing as spec;
 ghost use Rattle.domain_run.specs.private.Doubts as doubts_spec;
 ghost use Rattle.domain_run.specs.private.Index.{IsListedAt};
 ghost use Rattle.domain_run.specs.private.Roster.{basis_in, homed_here};
-ghost use Rattle.due_times.specs.Seats.{IsAhead};
+ghost use Rattle.due_times.specs.Seats.{IsAhead, IsOn};
 ghost use Rattle.domain_run.specs.private.Waiting as waiting;
 ghost use Rattle.grub_rules.specs.Accounts.{inactive_at};
 
 use crate::index::Index;
 use crate::roster::choosing::{home_on, occupant_of, state_of};
-use crate::roster::rating::{charge_on, rated_at_one, rated_on, seat_for};
+use crate::roster::rating::{charge_on, rated_at_one, rated_by, rated_on, seat_for};
+use crate::roster::turning::charge;
 use crate::switch::{Switch, switch_of};
 use crate::task::Task;
-use due_times::{Basis, Doubts, Rating, Seat, Seats};
+use due_times::{Basis, Claim, Doubts, Rating, Seat, Seats};
 use edf_pick::{Moved, Schedule};
 use grub_rules::Accounts;
 use slot_list::SlotList;
@@ -99,15 +100,13 @@ pub(super) fn basis_of(accounts: &Accounts, cpu: usize, limit: u64) -> Basis
     requires there { cpu < length accounts.now.all }
     ensures { result ≡ record {
       uinact = inactive_at cpu accounts.now;
-      sum = accounts.now.total;
-      cpus = length accounts.now.all;
+      share = accounts.now.total / length accounts.now.all;
       limit = limit;
     } }
 {
     Basis {
         uinact: accounts.uinact(cpu),
-        sum: accounts.total(),
-        cpus: accounts.cpus() as u64,
+        share: accounts.share(),
         limit,
     }
 }
@@ -118,17 +117,15 @@ fn rating_of(task: &Task, accounts: &Accounts, cpu: usize, limit: u64) -> Rating
     requires there { cpu < length accounts.now.all }
     requires cpus { (0 < length accounts.now.all) × (length accounts.now.all ≤ 64) }
     requires limit { IsLimit limit }
-    requires uinact { inactive_at cpu accounts.now ≤ 2 ^ 26 }
     requires within { accounts.now.total ≤ cap (length accounts.now.all) limit }
     ensures some { 0 < result.rate }
     ensures slow { result.rate ≤ 2 ^ 27 }
-    ensures basis { IfSome result.basis (λ b. b ≡ record {
+    ensures claim { IfSome result.claim (IsOn (record {
       uinact = inactive_at cpu accounts.now;
-      sum = accounts.now.total;
-      cpus = length accounts.now.all;
+      share = accounts.now.total / length accounts.now.all;
       limit = limit;
-    }) }
-    ensures rated { waiting.IsRatedBy result.basis result.rate task.now }
+    })) }
+    ensures rated { waiting.IsRatedBy result.claim result.rate task.now }
 {
     if !task.params.reclaim {
         return rated_at_one(task);
@@ -181,10 +178,49 @@ pub(super) fn sit_at(
 {
     let task = tasks.at(place);
     let rating = rating_of(task, accounts, cpu, limit);
-    let is_rated = rating.basis.is_some();
+    let is_rated = rating.claim.is_some();
     let seat = seat_for(task, seats.upto(), rating);
     seats.sit_down(cpu, seat);
     doubts.clear_for(cpu, is_rated, accounts.total(), limit);
+}
+
+/// Who sits on a CPU, the task at a place of the list, is charged, and sits there on by another
+/// claim, at its rate. The time at which the seat ends is set once. The new seat.
+#[inline(always)]
+pub(super) fn go_on(
+    tasks: &mut SlotList<Task>,
+    seats: &mut Seats,
+    place: usize,
+    cpu: usize,
+    seat: Seat,
+    claim: Claim,
+) -> Seat
+    requires there { cpu < length seats.old.seats }
+    requires sits { slice_index_or seats.old.seats cpu None ≡ Some seat }
+    requires ahead { IsAhead seats.old.upto seat }
+    requires kept { IsSomeAnd seat.claim (λ k. k.bw ≡ claim.bw) }
+    requires at { IsListedAt tasks.old seat.number place }
+    requires home { (d : Task) → (slice_index_or tasks.old place d).cpu ≡ cpu }
+    requires may { (d : Task)
+        → waiting.MaySit (slice_index_or (waiting.owed_all seats.old tasks.old) place d) }
+    requires numbered { AllPairs (λ a b. a.number ≢ b.number) tasks.old }
+    requires waits { waiting.AllWait seats.old.seats tasks.old }
+    requires charged { claim.charged ≤ max claim.bw (2 ^ 20) }
+    requires limit { IsLimit claim.limit }
+    ensures seats { seats.new
+        ≡ record seats.old { seats = slice_set seats.old.seats cpu (Some result) } }
+    ensures number { result.number ≡ seat.number }
+    ensures claim { result.claim ≡ Some claim }
+    ensures tasks { waiting.owed_all seats.new tasks.new
+        ≡ waiting.owed_all seats.old tasks.old }
+    ensures waits { waiting.AllWait seats.new.seats tasks.new }
+{
+    let upto = seats.upto();
+    let task = tasks.at_mut(place);
+    charge(task, seat, upto);
+    let next = seat_for(task, upto, rated_by(task, claim));
+    seats.sit_down(cpu, next);
+    next
 }
 
 /// Who stands on a CPU that another one had, if anyone does, belongs to it and sits there at its

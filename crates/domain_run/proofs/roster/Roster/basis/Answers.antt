@@ -1,4 +1,4 @@
-use Rattle.std.proofs.Common.{length, ap, ◌∙◌}
+use Rattle.std.proofs.Common.{◌/◌, length, ap, ◌∙◌}
 use Rattle.domain_run.specs.Tick.{shares}
 use Rattle.domain_run.specs.private.Roster.{RosterView, basis_in}
 use Rattle.domain_run.specs.private.Waiting.{owed_all}
@@ -11,5 +11,5 @@ returns c =
     let sums = c.self.invariant.counted.counts.sums in
     let inactive = inactive_is s.queue.accounts (shares (owed_all s.seats s.tasks)) c.args.cpu sums in
     c.basis_of.ensures
-    ∙ (λ i. record { uinact = inactive i; sum = sums.total i; cpus = length s.queue.accounts.all; limit = c.args.limit })
+    ∙ (λ i. record { uinact = inactive i; share = sums.total i / length s.queue.accounts.all; limit = c.args.limit })
     ∙ ap (λ (r : RosterView). basis_in r.cpus c.args.limit r.tasks c.args.cpu) c.self.view_is

@@ -1,36 +1,24 @@
-use Rattle.std.proofs.Common.{◌≡◌, ℕ, Bool, ◌<◌, ◌≤◌, ◌*◌, List, Some, length, get_or, refl, sym, ap, subst, ◌∙◌, arith, None, Option}
-use Rattle.std.specs.Prelude.{IfSome, IsTrue, is_some}
+use Rattle.std.proofs.Common.{◌≡◌, ◌/◌, ◌<◌, Some, length, get_or, sym, ap, subst, ◌∙◌, arith, None, Option}
+use Rattle.std.specs.Prelude.{IfSome, is_some}
 use Rattle.std.specs.Int.{bit_at}
-use Rattle.grub_rules.specs.Sums.{uinact}
-use Rattle.due_times.specs.declared.doubts.Doubts.{Doubts}
 use Rattle.std.proofs.lemmas.List.{get_or_default, get_or-set_same, length-map}
-use Rattle.std.proofs.Math.Nat.{mul-le-mul}
-use Rattle.attr_check.specs.Ratio.{cap}
-use Rattle.grub_rules.proofs.CallerLemmas.{uinact-le-total_bw}
 use Rattle.std.proofs.lemmas.Grind.{common_steps}
 use Rattle.domain_run.specs.declared.task.Task.{Task}
-use Rattle.domain_run.specs.Tick.{shares, sum_of}
+use Rattle.domain_run.specs.Tick.{shares}
 use Rattle.domain_run.specs.private.Doubts.{IsTrusted, IsSettled, IsFree, noted_basis}
 use Rattle.domain_run.specs.private.Roster.{basis_in}
-use Rattle.due_times.specs.Seats.{SeatsView}
+use Rattle.due_times.specs.Seats.{SeatsView, IsOn}
 use Rattle.due_times.specs.declared.seats.Basis.{Basis}
 use Rattle.due_times.specs.declared.seats.Seat.{Seat}
 use Rattle.domain_run.specs.private.Waiting.{owed, owed_all, AllWait, Waits, MaySit}
 use Rattle.domain_run.proofs.Bare.{bare_on}
 use Rattle.domain_run.proofs.Counting.{inactive_is}
-use Rattle.domain_run.proofs.Doubting.{seat_other}
+use Rattle.domain_run.proofs.Doubting.{seat_other, noted_by, free_by}
 use Rattle.domain_run.proofs.Placing.{one_index}
 use Rattle.domain_run.proofs.Seatings.{taken_view, taken_waits}
 use Rattle.domain_run.proofs.Waiting.{alike_owed, numbered_unlike}
 use Rattle.domain_run.proofs.Dozing.{seen_alike}
 use Rattle.domain_run.proofs.roster.starting.sit_at.Goals as goal
-
-pub rating_of-rating-requires-clause-uinact : goal.rating_of-rating-requires-clause-uinact
-rating_of-rating-requires-clause-uinact c =
-    let tasks = owed_all c.args.seats.now c.args.tasks.now in
-    let is = inactive_is c.args.accounts.now (shares tasks) c.args.cpu c.requires.counts.sums in
-    let most : cap (length c.args.accounts.now.all) c.args.limit ≤ 64 * 1048576 = mul-le-mul c.requires.cpus.1 c.requires.limit.1 in
-    omega (arith, is, uinact-le-total_bw c.args.cpu (shares tasks), c.requires.within, most)
 
 pub seat_for-seat-requires-clause-may : goal.seat_for-seat-requires-clause-may
 seat_for-seat-requires-clause-may c =
@@ -137,20 +125,9 @@ returns-clause-sits c d =
     let sums = c.requires.counts.sums in
     let inactive = inactive_is c.args.accounts.now (shares tasks) cpu sums in
     let w = length c.args.accounts.now.all in
-    let noted = subst (λ (m : Basis). IfSome rating.result.basis (λ b. b ≡ m)) (λ i. record { uinact = inactive i; sum = sums.total i; cpus = w; limit = c.args.limit }) rating.ensures.basis in
+    let noted = subst (λ (m : Basis). IfSome rating.result.claim (IsOn m)) (λ i. record { uinact = inactive i; share = sums.total i / w; limit = c.args.limit }) rating.ensures.claim in
     subst (λ (o : Option Seat). IsSettled (Some (get_or tasks p d).number) (basis_in w c.args.limit tasks cpu) o) (sym sat)
-    (named, subst (λ o. IfSome o (λ b. b ≡ basis_in w c.args.limit tasks cpu)) (sym c.seat_for-seat.ensures.basis) noted)
-
--- a seat that keeps what its rate was worked out from keeps what is noted
-noted_by : (d : Doubts) (w limit cpu : ℕ) (tasks : List Task) (o : Option Basis) (rated : Bool) → rated ≡ is_some o → IfSome o (λ b. b ≡ basis_in w limit tasks cpu) → (IsTrue rated → (d.sum ≡ sum_of tasks) × (d.limit ≡ limit)) → IfSome o (λ b. b ≡ noted_basis d w tasks cpu)
-noted_by d w limit cpu tasks None rated e is noted = tt
-noted_by d w limit cpu tasks (Some b) rated e is noted =
-    let p = noted e in
-    is ∙ (λ i. record { uinact = uinact cpu (shares tasks); sum = sym p.0 i; cpus = w; limit = sym p.1 i })
-
-free_by : (o : Option Basis) (rated : Bool) (mark : ℕ) → rated ≡ is_some o → (IsTrue rated → mark ≡ 1) → mark ≡ 0 → o ≡ None
-free_by None rated mark e one zero = refl
-free_by (Some b) rated mark e one zero = absurd (omega (arith, one e, zero))
+    (named, subst (λ o. IfSome o (IsOn (basis_in w c.args.limit tasks cpu))) (sym c.seat_for-seat.ensures.claim) noted)
 
 pub returns-clause-here : goal.returns-clause-here
 returns-clause-here c d low clear =
@@ -168,11 +145,11 @@ returns-clause-here c d low clear =
     let sat : get_or c.sit_down.new.self.seats cpu None ≡ Some seat = ap (λ (v : SeatsView). get_or v.seats cpu None) c.sit_down.ensures ∙ get_or-set_same s.seats cpu (Some seat) None there in
     let named : seat.number ≡ (get_or tasks c.args.place d).number = c.seat_for-seat.ensures.number ∙ sym (seen_alike s c.args.tasks.now c.args.place c.at-task.result.now d within c.at-task.ensures).number in
     let inactive = inactive_is c.args.accounts.now (shares tasks) cpu sums in
-    let is = subst (λ (m : Basis). IfSome c.rating_of-rating.result.basis (λ b. b ≡ m)) (λ i. record { uinact = inactive i; sum = sums.total i; cpus = w; limit = c.args.limit }) c.rating_of-rating.ensures.basis in
-    let kept = subst (λ o. IfSome o (λ b. b ≡ basis_in w c.args.limit tasks cpu)) (sym c.seat_for-seat.ensures.basis) is in
-    let rated : c.is_some-is_rated.result ≡ is_some seat.basis = c.is_some-is_rated.ensures ∙ ap is_some (sym c.seat_for-seat.ensures.basis) in
-    let settled = noted_by n w c.args.limit cpu tasks seat.basis c.is_some-is_rated.result rated kept (λ t.
+    let is = subst (λ (m : Basis). IfSome c.rating_of-rating.result.claim (IsOn m)) (λ i. record { uinact = inactive i; share = sums.total i / w; limit = c.args.limit }) c.rating_of-rating.ensures.claim in
+    let kept = subst (λ o. IfSome o (IsOn (basis_in w c.args.limit tasks cpu))) (sym c.seat_for-seat.ensures.claim) is in
+    let rated : c.is_some-is_rated.result ≡ is_some seat.claim = c.is_some-is_rated.ensures ∙ ap is_some (sym c.seat_for-seat.ensures.claim) in
+    let settled = noted_by n w c.args.limit cpu tasks seat.claim c.is_some-is_rated.result rated kept (λ t.
     let p = q.noted t clear in
     (q.sum ∙ p.0 ∙ c.total.ensures ∙ sums.total, q.limit ∙ p.1)) in
     subst (λ (o : Option Seat). IsSettled (Some (get_or tasks c.args.place d).number) (noted_basis n w tasks cpu) o × IsFree (bit_at n.rated cpu) o) (sym sat)
-    ((named, settled), free_by seat.basis c.is_some-is_rated.result (bit_at n.rated cpu) rated (λ t. q.marked t clear))
+    ((named, settled), free_by seat.claim c.is_some-is_rated.result (bit_at n.rated cpu) rated (λ t. q.marked t clear))

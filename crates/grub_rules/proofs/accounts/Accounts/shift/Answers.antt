@@ -1,4 +1,4 @@
-use Rattle.std.proofs.Common.{◌-◌, ◌^◌, ◌<◌, [], ◌∷◌, length, refl, subst, sym, arith, rules}
+use Rattle.std.proofs.Common.{◌≡◌, ◌-◌, ◌/◌, ◌^◌, ◌<◌, [], ◌∷◌, length, refl, ap, ◌∙◌, subst, sym, arith, rules}
 use Rattle.std.specs.Prelude.{slice_index}
 use Rattle.grub_rules.specs.Sums.{Share}
 use Rattle.grub_rules.specs.Accounts.{AccountsView, Exchanges, Holds}
@@ -61,6 +61,7 @@ invariant_of-self-else-share c =
       cpus = omega (arith, c.self.invariant.cpus);
       within = λ cpu. still_within old s (slice_index c.subtract.new.sums.items cpu) (slice_index c.add.new.sums.items cpu) cpu _ held c.if-share.false (c.self.invariant.within cpu) (c.subtract.ensures.each cpu) (c.add.ensures.each cpu);
       total = omega (arith, c.self.invariant.total);
+      share = let len : length c.self.inside.all.items ≡ length c.add.new.sums.items = omega arith in c.self.invariant.share ∙ ap (λ n. c.self.inside.total / n) len;
       all_room = omega (arith, c.self.invariant.all_room);
       active_room = omega (arith, c.self.invariant.active_room);
     }
@@ -70,6 +71,7 @@ invariant_of-self c = record {
   cpus = omega (arith, c.self.invariant.cpus);
   within = λ cpu. omega (arith, c.self.invariant.within cpu, c.subtract.ensures.each cpu, c.add.ensures.each cpu, c.subtract-then-share.ensures.each cpu, c.add-then-share.ensures.each cpu);
   total = omega (arith, c.self.invariant.total);
+  share = let len : length c.self.inside.all.items ≡ length c.add.new.sums.items = omega arith in c.self.invariant.share ∙ ap (λ n. c.self.inside.total / n) len;
   all_room = omega (arith, c.self.invariant.all_room);
   active_room = omega (arith, c.self.invariant.active_room);
 }
