@@ -247,6 +247,7 @@ impl Timers {
     }
 
     /// The task at a place is due at another time.
+    #[inline(always)]
     pub fn set(&mut self, place: usize, due: u64)
         requires { place < length self.old }
         ensures { self.new ≡ slice_set self.old place due }

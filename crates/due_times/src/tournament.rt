@@ -143,8 +143,9 @@ fn climb_64(nodes: &mut Vec<u64>, half: usize, at: usize, time: u64)
     climb_256(nodes, half, at / 4, of_64);
 }
 
-// The same from two levels further down.
-#[inline(always)]
+// The same from two levels further down. Mostly a leaf is not the least of its four, and this is
+// not called.
+#[inline(never)]
 fn climb_16(nodes: &mut Vec<u64>, half: usize, at: usize, time: u64)
     requires tree { spec.IsTreeBut (at / 4) nodes.old.items }
     requires half { length nodes.old.items ≡ 2 * half }
@@ -175,6 +176,7 @@ fn half_of(nodes: &[u64]) -> usize
     nodes.len() / 2
 }
 
+#[inline(always)]
 fn set_leaf(nodes: &mut Vec<u64>, leaf: usize, time: u64)
     requires tree { spec.IsTournamentTree nodes.old.items }
     requires size { IsSize (length nodes.old.items / 2) }
@@ -370,6 +372,7 @@ impl Tournament {
     }
 
     /// Another time at a place.
+    #[inline(always)]
     pub(crate) fn set(&mut self, place: usize, time: u64)
         requires { place < length self.old }
         ensures { self.new ≡ slice_set self.old place time }
