@@ -6,17 +6,18 @@ use Rattle.std.specs.BTreeSet.{BTreeSet, contains_text}
 use Rattle.std.specs.declared.string.String.{String}
 use Rattle.std.specs.declared.alloc.Global.{Global}
 use Rattle.std.proofs.Math.ListN.{set, replicate}
-use Rattle.std.proofs.Math.Seq.{take-set-lt, take-append_seam}
+use Rattle.std.proofs.Math.Seq.{take-set-lt}
 use Rattle.std.proofs.lemmas.Bool.{eq-eqb, cases_lt}
 use Rattle.std.proofs.lemmas.Bool.Decides.{nat_tests}
-use Rattle.std.proofs.lemmas.List.{length-set, take-set-le, drop-set-lt, drop-set-add, get_or-take, get_or-drop, length-append, length-take, length-take-le, length-drop, length-replicate, take_more, take_all}
+use Rattle.std.proofs.lemmas.List.{length-set, take-set-le, drop-set-lt, drop-set-add, get_or-take, get_or-drop, length-append, length-take, length-drop, length-replicate, take_more}
 use Rattle.std.proofs.lemmas.List.Elements.{All-set, All-weaker, All-replicate, All-take, All-drop}
 use Rattle.std.proofs.lemmas.Slice.Eq.{bytes_eq-Decides}
 use Rattle.std.proofs.Common.{ℕ, zero, suc, ◌+◌, ◌-◌, ◌<◌, ◌≤◌, ◌≡◌, ◌⊎◌, inl, inr, Bool, true, false, cond, ◌&&◌, ◌||◌, List, [], ◌∷◌, ◌++◌, length, get_or, take, drop, Some, refl, sym, ap, ◌∙◌, subst, arith}
 use Rattle.json_order.specs.Grammar.{has_key}
 use Rattle.json_order.specs.private.Entries.{keys_of}
 use Rattle.json_order.specs.private.Marks.{mark_of}
-use Rattle.json_order.specs.private.KeySets.{is_key_named, is_key_at, slots_taken, finds, start_of, window, or_beside, has_text, Table}
+use Rattle.json_order.specs.private.KeySets.{is_key_named, is_key_at, slots_taken, finds, start_of, window, or_beside, has_text, Table, HasKeys}
+use Rattle.json_order.specs.declared.key_set.KeySet.{KeySet}
 use Rattle.json_order.specs.declared.key_set.Slot.{Slot}
 use Rattle.json_order.specs.declared.tree.Tree.{Tree}
 use Rattle.json_order.proofs.Keys.{keys_push}
@@ -285,22 +286,21 @@ pub keys_length : (ms : List (String Global × Tree)) → length (keys_of ms) �
 keys_length [] = refl
 keys_length (m ∷ ms) = ap suc (keys_length ms)
 
-keys_more : (ms : List (String Global × Tree)) (place : ℕ) (m : String Global × Tree) → place < length ms → m ≡ get_or ms place m → keys_of (take (place + 1) ms) ≡ keys_of (take place ms) ++ string_bytes m.0 ∷ []
+-- the keys of some members, and of the one behind them
+pub keys_more : (ms : List (String Global × Tree)) (place : ℕ) (m : String Global × Tree) → place < length ms → m ≡ get_or ms place m → keys_of (take (place + 1) ms) ≡ keys_of (take place ms) ++ string_bytes m.0 ∷ []
 keys_more ms place m l e = ap keys_of (take_more ms place m l ∙ ap (λ x. take place ms ++ x ∷ []) (sym e)) ∙ keys_push (take place ms) m.0 m.1
 
--- the key of a member goes into the table behind those of the members before it
-pub added : (slots : List Slot) (others : BTreeSet (String Global)) (ms : List (String Global × Tree)) (place : ℕ) (m : String Global × Tree) (new : Slot) (n used : ℕ) → Table slots others (keys_of (take place ms)) → place < length ms → m ≡ get_or ms place m → n ≡ start_of (length slots) (mark_of (string_bytes m.0)) → n + 8 ≤ length slots → used ≡ slots_taken (take 8 (drop n slots)) → used < 8 → new.mark ≡ mark_of (string_bytes m.0) → new.number ≡ place + 1 → Table (set slots (n + used) new) others (keys_of (take (place + 1) ms))
-added slots others ms place m new n used t l e q w u v a b =
-    let count : new.number ≡ length (keys_of (take place ms)) + 1 = omega (arith, keys_length (take place ms), length-take-le place ms (omega arith)) in
+-- a key more in the table, behind those slots that are taken
+pub added : (slots : List Slot) (others : BTreeSet (String Global)) (ks : List (List ℕ)) (k : List ℕ) (new : Slot) (n used : ℕ) → Table slots others ks → n ≡ start_of (length slots) (mark_of k) → n + 8 ≤ length slots → used ≡ slots_taken (take 8 (drop n slots)) → used < 8 → new.mark ≡ mark_of k → new.number ≡ length ks + 1 → Table (set slots (n + used) new) others (ks ++ k ∷ [])
+added slots others ks k new n used t q w u v a b =
     let few : slots_taken (take 8 (drop n slots)) < 8 = omega arith in
-    subst (λ ks. Table (set slots (n + used) new) others ks) (sym (keys_more ms place m l e))
-    (subst (λ x. Table (set slots (n + x) new) others (keys_of (take place ms) ++ string_bytes m.0 ∷ [])) (sym u) (stored slots others (keys_of (take place ms)) (string_bytes m.0) new new n t q w few a count))
+    subst (λ x. Table (set slots (n + x) new) others (ks ++ k ∷ [])) (sym u) (stored slots others ks k new new n t q w few a b)
 
 -- or beside it
-pub added_beside : (slots : List Slot) (others more : BTreeSet (String Global)) (ms : List (String Global × Tree)) (place : ℕ) (m : String Global × Tree) (n used : ℕ) → Table slots others (keys_of (take place ms)) → place < length ms → m ≡ get_or ms place m → n ≡ start_of (length slots) (mark_of (string_bytes m.0)) → used ≡ slots_taken (take 8 (drop n slots)) → 8 ≤ used → ((key : List ℕ) → contains_text more key ≡ cond (bytes_eq (string_bytes m.0) key) true (contains_text others key)) → Table slots more (keys_of (take (place + 1) ms))
-added_beside slots others more ms place m n used t l e q u v add =
-    let full : 8 ≤ slots_taken (window (mark_of (string_bytes m.0)) slots) = subst (λ x. 8 ≤ slots_taken (take 8 (drop x slots))) q (omega arith) in
-    subst (λ ks. Table slots more ks) (sym (keys_more ms place m l e)) (put_beside slots others more (keys_of (take place ms)) (string_bytes m.0) t full add)
+pub added_beside : (slots : List Slot) (others more : BTreeSet (String Global)) (ks : List (List ℕ)) (k : List ℕ) (n used : ℕ) → Table slots others ks → n ≡ start_of (length slots) (mark_of k) → used ≡ slots_taken (take 8 (drop n slots)) → 8 ≤ used → ((key : List ℕ) → contains_text more key ≡ cond (bytes_eq k key) true (contains_text others key)) → Table slots more (ks ++ k ∷ [])
+added_beside slots others more ks k n used t q u v add =
+    let full : 8 ≤ slots_taken (window (mark_of k) slots) = subst (λ x. 8 ≤ slots_taken (take 8 (drop x slots))) q (omega arith) in
+    put_beside slots others more ks k t full add
 
 -- the numbers in the slots for a mark are those of members
 pub window_numbers : (slots : List Slot) (others : BTreeSet (String Global)) (ms : List (String Global × Tree)) (mark : ℕ) → Table slots others (keys_of ms) → All (λ s. s.number ≤ length ms) (window mark slots)
@@ -308,9 +308,7 @@ window_numbers slots others ms mark t =
     let all : All (λ s. s.number ≤ length ms) slots = subst (λ n. All (λ s. s.number ≤ n) slots) (keys_length ms) t.numbers in
     All-take (λ s. s.number ≤ length ms) 8 (drop (start_of (length slots) mark) slots) (All-drop (λ s. s.number ≤ length ms) (start_of (length slots) mark) slots all)
 
--- a table of all members is that of their keys
-pub all_told : (slots : List Slot) (others : BTreeSet (String Global)) (ms : List (String Global × Tree)) (n : ℕ) → length ms ≤ n → Table slots others (keys_of (take n ms)) → Table slots others (keys_of ms)
-all_told slots others ms n l t = subst (λ x. Table slots others (keys_of x)) (take_all n ms l) t
-
-pub front_told : (slots : List Slot) (others : BTreeSet (String Global)) (ms more : List (String Global × Tree)) → Table slots others (keys_of ms) → Table slots others (keys_of (take (length ms) (ms ++ more)))
-front_told slots others ms more t = subst (λ x. Table slots others (keys_of x)) (sym (take-append_seam ms more)) t
+-- a list of sets that was empty, where one was put into it or was not
+pub set_pushed : (b : Bool) (old new : List KeySet) (s d : KeySet) (ks : List (List ℕ)) → old ≡ [] → new ≡ (if b then old ++ s ∷ [] else old) → HasKeys s ks → 0 < length new → HasKeys (get_or new 0 d) ks
+set_pushed true old new s d ks none e h l = subst (λ x. HasKeys (get_or x 0 d) ks) (sym (e ∙ ap (λ x. x ++ s ∷ []) none)) h
+set_pushed false old new s d ks none e h l = absurd (let zero = ap length (e ∙ none) in omega (arith, zero))

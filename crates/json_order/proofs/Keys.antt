@@ -1,6 +1,6 @@
 -- The keys of an object with one member more.
 use Rattle.std.specs.Str.{bytes_eq}
-use Rattle.std.specs.Prelude.{string_bytes}
+use Rattle.std.specs.Prelude.{string_bytes, Result, Ok, Err, OnOk, OnErr, ◌⊎◌}
 use Rattle.std.specs.declared.string.String.{String}
 use Rattle.std.specs.declared.alloc.Global.{Global}
 use Rattle.std.specs.Ordering.{nat_cmp, is_lt, is_eq}
@@ -10,9 +10,12 @@ use Rattle.std.proofs.lemmas.Map.Text.{is_eq-slice_cmp}
 use Rattle.std.proofs.lemmas.List.{take_all, take_more}
 use Rattle.std.specs.declared.cmp.Ordering.{Ordering}
 use Rattle.std.specs.declared.cmp.Ordering.TheVariants.{Less, Equal, Greater}
-use Rattle.std.proofs.Common.{length, get_or, take, sym, ◌+◌, ℕ, ◌≡◌, Bool, true, false, cond, ◌||◌, ◌&&◌, arith, List, [], ◌∷◌, ◌++◌, refl, ap, ◌∙◌}
+use Rattle.std.proofs.Common.{inl, inr, length, get_or, take, sym, ◌+◌, ℕ, ◌≡◌, Bool, true, false, cond, ◌||◌, ◌&&◌, arith, List, [], ◌∷◌, ◌++◌, refl, ap, ◌∙◌}
 use Rattle.json_order.specs.Grammar.{has_key}
-use Rattle.json_order.specs.private.Entries.{keys_of, all_below, last_below}
+use Rattle.json_order.specs.private.Entries.{keys_of, key_precedes, all_before, last_before}
+use Rattle.json_order.specs.declared.key_order.KeyOrder.{KeyOrder}
+use Rattle.json_order.specs.declared.key_order.KeyOrder.TheVariants.{Rising, Falling}
+use Rattle.std.proofs.lemmas.Slice.Eq.{bytes_eq-Decides}
 use Rattle.json_order.specs.declared.tree.Tree.{Tree}
 
 pub has_push : (ms : List (String Global × Tree)) (k : String Global) (v : Tree) (key : List ℕ) → has_key (keys_of (ms ++ (k, v) ∷ [])) key ≡ cond (bytes_eq (string_bytes k) key) true (has_key (keys_of ms) key)
@@ -38,7 +41,12 @@ has_front (m ∷ xs) ys key h = go (bytes_eq (string_bytes m.0) key) h (λ e. ha
     go true h more = refl
     go false h more = more h
 
--- KEYS THAT ASCEND
+-- what holds of both ends of a call
+pub either : {A B : Type 0} (r : Result A B) (X Y : Type 0) → OnOk r X → OnErr r Y → X ⊎ Y
+either (Ok a) X Y h g = inl h
+either (Err e) X Y h g = inr g
+
+-- KEYS IN AN ORDER
 
 less : (o : Ordering) → is_lt o ≡ true → o ≡ Less
 less Less h = refl
@@ -51,48 +59,59 @@ less_trans x y z h g = ap is_lt (nat_list_cmp_total.trans x y z (less (slice_cmp
 less_other : (x y : List ℕ) → is_lt (slice_cmp nat_cmp x y) ≡ true → bytes_eq x y ≡ false
 less_other x y h = sym (is_eq-slice_cmp x y) ∙ ap is_eq (less (slice_cmp nat_cmp x y) h)
 
+turned : (x y : List ℕ) → bytes_eq x y ≡ false → bytes_eq y x ≡ false
+turned x y h = grind (arith, bytes_eq-Decides)
+
+before_trans : (o : KeyOrder) (x y z : List ℕ) → key_precedes o x y ≡ true → key_precedes o y z ≡ true → key_precedes o x z ≡ true
+before_trans Rising x y z h g = less_trans x y z h g
+before_trans Falling x y z h g = less_trans z y x g h
+
+before_other : (o : KeyOrder) (x y : List ℕ) → key_precedes o x y ≡ true → bytes_eq x y ≡ false
+before_other Rising x y h = less_other x y h
+before_other Falling x y h = turned y x (less_other y x h)
+
 both : (a b : Bool) → (a && b) ≡ true → (a ≡ true) × (b ≡ true)
 both true true h = (refl, refl)
 both true false h = cc
 both false b h = cc
 
--- a key that is greater than all is new
-pub below_new : (ks : List (List ℕ)) (key : List ℕ) → all_below ks key ≡ true → has_key ks key ≡ false
-below_new [] key h = refl
-below_new (k ∷ ks) key h =
-    let p = both (is_lt (slice_cmp nat_cmp k key)) (all_below ks key) h in
-    ap (λ b. b || has_key ks key) (less_other k key p.0) ∙ below_new ks key p.1
+-- a key that follows all is new
+pub follows_new : (o : KeyOrder) (ks : List (List ℕ)) (key : List ℕ) → all_before o ks key ≡ true → has_key ks key ≡ false
+follows_new o [] key h = refl
+follows_new o (k ∷ ks) key h =
+    let p = both (key_precedes o k key) (all_before o ks key) h in
+    ap (λ b. b || has_key ks key) (before_other o k key p.0) ∙ follows_new o ks key p.1
 
-below_trans : (ks : List (List ℕ)) (x key : List ℕ) → all_below ks x ≡ true → is_lt (slice_cmp nat_cmp x key) ≡ true → all_below ks key ≡ true
-below_trans [] x key h g = refl
-below_trans (k ∷ ks) x key h g =
-    let p = both (is_lt (slice_cmp nat_cmp k x)) (all_below ks x) h in
-    ap (λ b. b && all_below ks key) (less_trans k x key p.0 g) ∙ below_trans ks x key p.1 g
+all_trans : (o : KeyOrder) (ks : List (List ℕ)) (x key : List ℕ) → all_before o ks x ≡ true → key_precedes o x key ≡ true → all_before o ks key ≡ true
+all_trans o [] x key h g = refl
+all_trans o (k ∷ ks) x key h g =
+    let p = both (key_precedes o k x) (all_before o ks x) h in
+    ap (λ b. b && all_before o ks key) (before_trans o k x key p.0 g) ∙ all_trans o ks x key p.1 g
 
-below_push : (ks : List (List ℕ)) (x key : List ℕ) → all_below ks key ≡ true → is_lt (slice_cmp nat_cmp x key) ≡ true → all_below (ks ++ x ∷ []) key ≡ true
-below_push [] x key h g = ap (λ b. b && true) g
-below_push (k ∷ ks) x key h g =
-    let p = both (is_lt (slice_cmp nat_cmp k key)) (all_below ks key) h in
-    ap (λ b. b && all_below (ks ++ x ∷ []) key) p.0 ∙ below_push ks x key p.1 g
+all_push : (o : KeyOrder) (ks : List (List ℕ)) (x key : List ℕ) → all_before o ks key ≡ true → key_precedes o x key ≡ true → all_before o (ks ++ x ∷ []) key ≡ true
+all_push o [] x key h g = ap (λ b. b && true) g
+all_push o (k ∷ ks) x key h g =
+    let p = both (key_precedes o k key) (all_before o ks key) h in
+    ap (λ b. b && all_before o (ks ++ x ∷ []) key) p.0 ∙ all_push o ks x key p.1 g
 
-last_push : (ks : List (List ℕ)) (x key : List ℕ) → last_below (ks ++ x ∷ []) key ≡ is_lt (slice_cmp nat_cmp x key)
-last_push [] x key = refl
-last_push (k ∷ []) x key = refl
-last_push (k ∷ l ∷ ks) x key = last_push (l ∷ ks) x key
+last_push : (o : KeyOrder) (ks : List (List ℕ)) (x key : List ℕ) → last_before o (ks ++ x ∷ []) key ≡ key_precedes o x key
+last_push o [] x key = refl
+last_push o (k ∷ []) x key = refl
+last_push o (k ∷ l ∷ ks) x key = last_push o (l ∷ ks) x key
 
 pub keys_push : (ms : List (String Global × Tree)) (k : String Global) (v : Tree) → keys_of (ms ++ (k, v) ∷ []) ≡ keys_of ms ++ string_bytes k ∷ []
 keys_push [] k v = refl
 keys_push (m ∷ ms) k v = ap (λ ks. string_bytes m.0 ∷ ks) (keys_push ms k v)
 
 -- the last of the members by its place
-pub last_at : (ms : List (String Global × Tree)) (i : ℕ) (m : String Global × Tree) (key : List ℕ) → i + 1 ≡ length ms → m ≡ get_or ms i m → last_below (keys_of ms) key ≡ is_lt (slice_cmp nat_cmp (string_bytes m.0) key)
-last_at ms i m key e g =
+pub last_at : (o : KeyOrder) (ms : List (String Global × Tree)) (i : ℕ) (m : String Global × Tree) (key : List ℕ) → i + 1 ≡ length ms → m ≡ get_or ms i m → last_before o (keys_of ms) key ≡ key_precedes o (string_bytes m.0) key
+last_at o ms i m key e g =
     let whole : ms ≡ take i ms ++ m ∷ [] = sym (take_all (i + 1) ms (omega arith)) ∙ take_more ms i m (omega arith) ∙ ap (λ x. take i ms ++ x ∷ []) (sym g) in
-    ap (λ x. last_below (keys_of x) key) whole ∙ ap (λ ks. last_below ks key) (keys_push (take i ms) m.0 m.1) ∙ last_push (keys_of (take i ms)) (string_bytes m.0) key
+    ap (λ x. last_before o (keys_of x) key) whole ∙ ap (λ ks. last_before o ks key) (keys_push (take i ms) m.0 m.1) ∙ last_push o (keys_of (take i ms)) (string_bytes m.0) key
 
--- one key more, greater than the last
-pub ordered_more : (ms : List (String Global × Tree)) (k : String Global) (v : Tree) → ((key : List ℕ) → last_below (keys_of ms) key ≡ true → all_below (keys_of ms) key ≡ true) → last_below (keys_of ms) (string_bytes k) ≡ true → (key : List ℕ) → last_below (keys_of (ms ++ (k, v) ∷ [])) key ≡ true → all_below (keys_of (ms ++ (k, v) ∷ [])) key ≡ true
-ordered_more ms k v h g key l =
+-- one key more, which follows the last
+pub ordered_more : (o : KeyOrder) (ms : List (String Global × Tree)) (k : String Global) (v : Tree) → ((key : List ℕ) → last_before o (keys_of ms) key ≡ true → all_before o (keys_of ms) key ≡ true) → last_before o (keys_of ms) (string_bytes k) ≡ true → (key : List ℕ) → last_before o (keys_of (ms ++ (k, v) ∷ [])) key ≡ true → all_before o (keys_of (ms ++ (k, v) ∷ [])) key ≡ true
+ordered_more o ms k v h g key l =
     let x = string_bytes k in
-    let here : is_lt (slice_cmp nat_cmp x key) ≡ true = sym (last_push (keys_of ms) x key) ∙ sym (ap (λ ks. last_below ks key) (keys_push ms k v)) ∙ l in
-    ap (λ ks. all_below ks key) (keys_push ms k v) ∙ below_push (keys_of ms) x key (below_trans (keys_of ms) x key (h x g) here) here
+    let here : key_precedes o x key ≡ true = sym (last_push o (keys_of ms) x key) ∙ sym (ap (λ ks. last_before o ks key) (keys_push ms k v)) ∙ l in
+    ap (λ ks. all_before o ks key) (keys_push ms k v) ∙ all_push o (keys_of ms) x key (all_trans o (keys_of ms) x key (h x g) here) here

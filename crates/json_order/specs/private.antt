@@ -5,3 +5,4 @@ pub mod AtOnce
 pub mod Marks
 pub mod KeySets
 pub mod Whole
+pub mod Findings

@@ -1,5 +1,6 @@
-ghost use Rattle.std.specs.Prelude.{◌≡◌, ◌+◌, ◌/◌, ◌<◌, ◌≤◌, ◌↔◌, [], IsTrue, length, take, IfOk, IfErr, OnOk};
+ghost use Rattle.std.specs.Prelude.{◌≡◌, ◌+◌, ◌/◌, ◌<◌, ◌≤◌, ◌↔◌, ◌++◌, [], ◌∷◌, IsTrue, length, IfOk, IfErr, OnOk, OnErr};
 ghost use Rattle.std.specs.List.{All};
+ghost use Rattle.std.specs.Str.{bytes_eq};
 ghost use Rattle.json_order.specs.declared.fault.JsonKind.TheVariants.{Memory};
 ghost use Rattle.json_order.specs.Grammar.{has_key};
 ghost use Rattle.json_order.specs.private.Entries.{keys_of};
@@ -11,24 +12,24 @@ use crate::fault::JsonKind;
 use crate::tree::Tree;
 use std::alloc::Global;
 use std::collections::BTreeSet;
+use std::hash::{FoldHasher, Hasher};
 
-/// What a mark is multiplied by behind each byte: the golden ratio in 32 bits, so that near keys
-/// get far marks.
-const FACTOR: u32 = 2_654_435_761;
+/// The slots of the first table, which is full with the keys of so many members.
+const FIRST_SLOTS: usize = 120;
+
+const FIRST_KEYS: usize = 40;
 
 /// In so many slots, from the first for its mark on, a key may stand.
 const WIDTH: usize = 8;
 
 /// A number that keys seldom share.
 #[tactic(auto, unfolding(crate::specs::private::Marks::mark_of))]
-fn mark_of(key: &str) -> u32
+pub(crate) fn mark_of(key: &str) -> u32
     ensures { result ≡ marks.mark_of key.now }
 {
-    let mut mark = 0u32;
-    for byte in key.as_bytes() {
-        mark = mark.wrapping_add(u32::from(*byte)).wrapping_mul(FACTOR);
-    }
-    mark
+    let mut hasher = FoldHasher::default();
+    hasher.write(key.as_bytes());
+    (hasher.finish() >> 32) as u32
 }
 
 /// A slot of the table: a key's mark, and the number of its member, from 1. A slot that is free has
@@ -36,7 +37,7 @@ fn mark_of(key: &str) -> u32
 #[derive(Clone, Copy)]
 pub(crate) struct Slot {
     pub(crate) mark: u32,
-    pub(crate) number: usize,
+    pub(crate) number: u32,
 }
 
 /// The keys of members, in a table by their marks. A key that finds all its slots taken stands in a
@@ -78,6 +79,29 @@ fn taken(window: &[Slot]) -> usize
     window.len()
 }
 
+/// The two keys are the same.
+#[inline(never)]
+fn are_same(name: &str, key: &str) -> bool
+    ensures { result ≡ bytes_eq name.now key.now }
+{
+    name == key
+}
+
+/// The two keys are the same. Most that differ do so in their lengths or their last bytes.
+#[inline(always)]
+pub(crate) fn is_same(name: &str, key: &str) -> bool
+    ensures { result ≡ bytes_eq name.now key.now }
+{
+    let len = key.len();
+    if name.len() != len {
+        return false;
+    }
+    if len > 0 && name.as_bytes()[len - 1] != key.as_bytes()[len - 1] {
+        return false;
+    }
+    are_same(name, key)
+}
+
 /// The slot has the mark, and its member the key.
 fn is_at(slot: Slot, members: &[(String, Tree)], mark: u32, key: &str) -> bool
     requires some { 0 < slot.number }
@@ -87,8 +111,8 @@ fn is_at(slot: Slot, members: &[(String, Tree)], mark: u32, key: &str) -> bool
     if slot.mark != mark {
         return false;
     }
-    let (name, _) = &members[slot.number - 1];
-    name.as_str() == key
+    let (name, _) = &members[slot.number as usize - 1];
+    are_same(name.as_str(), key)
 }
 
 /// Whether the key stands in the taken slots in front; none where all are taken, and not by it.
@@ -108,12 +132,16 @@ fn found_in(window: &[Slot], members: &[(String, Tree)], mark: u32, key: &str) -
 }
 
 impl KeySet {
-    /// Of no keys yet, with room for those of so many members, and for as many again.
+    /// Of no keys yet, with room for those of so many members and more.
     pub(crate) fn new(alloc: Global, members: usize) -> Result<KeySet, JsonKind>
         ensures ok { IfOk result (λ set. HasKeys set []) }
         ensures err { IfErr result (λ k. k ≡ Memory) }
     {
-        let count = members.saturating_mul(4).saturating_add(2 * WIDTH);
+        let count = if members < FIRST_KEYS {
+            FIRST_SLOTS
+        } else {
+            members.saturating_mul(8)
+        };
         let free = Slot { mark: 0, number: 0 };
         Ok(KeySet {
             slots: Vec::from_elem(alloc, free, count)?,
@@ -121,42 +149,66 @@ impl KeySet {
         })
     }
 
-    /// The table is more than half full with the keys of so many members.
+    /// The keys of so many members take a third of the table. Up to there hardly any key finds all
+    /// its slots taken.
     pub(crate) fn is_full(&self, members: usize) -> bool
-        ensures { IsTrue result ↔ length self.now.slots.items / 2 < members }
+        ensures { IsTrue result ↔ length self.now.slots.items / 3 ≤ members }
     {
-        members > self.slots.len() / 2
+        members >= self.slots.len() / 3
     }
 
-    /// This key is one of those of the members.
-    pub(crate) fn has(&self, members: &[(String, Tree)], key: &str) -> bool
-        requires { HasKeys self.now (keys_of members.now) }
+    /// The key with this mark is one of those of the members.
+    #[inline(never)]
+    pub(crate) fn has(&self, members: &[(String, Tree)], mark: u32, key: &str) -> bool
+        requires mark { mark ≡ marks.mark_of key.now }
+        requires keys { HasKeys self.now (keys_of members.now) }
         ensures { result ≡ has_key (keys_of members.now) key.now }
     {
-        let mark = mark_of(key);
         match found_in(window(&self.slots, mark), members, mark, key) {
             Some(found) => found,
             None => self.others.contains(key),
         }
     }
 
-    /// Adds the key of the member at this place, behind those of the members before it.
-    pub(crate) fn add(&mut self, members: &[(String, Tree)], place: usize) -> Result<(), JsonKind>
-        requires within { place < length members.now }
-        requires before { HasKeys self.old (keys_of (take place members.now)) }
-        ensures ok { OnOk result (HasKeys self.new (keys_of (take (place + 1) members.now))) }
+    /// Adds the key of the member that comes behind these. A number above 4294967295 is refused as
+    /// want of memory.
+    pub(crate) fn add(
+        &mut self,
+        alloc: Global,
+        members: &[(String, Tree)],
+        mark: u32,
+        key: &str,
+    ) -> Result<(), JsonKind>
+        requires mark { mark ≡ marks.mark_of key.now }
+        requires keys { HasKeys self.old (keys_of members.now) }
+        ensures ok { OnOk result (HasKeys self.new (keys_of members.now ++ key.now ∷ [])) }
+        ensures kept { OnErr result (HasKeys self.new (keys_of members.now)) }
         ensures err { IfErr result (λ k. k ≡ Memory) }
     {
-        let (name, _) = &members[place];
-        let mark = mark_of(name.as_str());
         let start = start_of(self.slots.len(), mark);
         let used = taken(window(&self.slots, mark));
         if used < WIDTH {
-            let number = place + 1;
+            let Ok(number) = u32::try_from(members.len() + 1) else {
+                return Err(JsonKind::Memory);
+            };
             self.slots[start + used] = Slot { mark, number };
             return Ok(());
         }
-        self.others.insert(name.clone()?)?;
+        self.others.insert(String::from_str(alloc, key)?)?;
         Ok(())
     }
+}
+
+/// The keys of these members.
+pub(crate) fn set_of(alloc: Global, members: &[(String, Tree)]) -> Result<KeySet, JsonKind>
+    ensures ok { IfOk result (λ set. HasKeys set (keys_of members.now)) }
+    ensures err { IfErr result (λ k. k ≡ Memory) }
+{
+    let mut set = KeySet::new(alloc, members.len())?;
+    for place in 0..members.len() {
+        let (name, _) = &members[place];
+        let mark = mark_of(name.as_str());
+        set.add(alloc, &members[..place], mark, name.as_str())?;
+    }
+    Ok(set)
 }

@@ -9,8 +9,10 @@
 
 mod escape;
 mod fault;
+mod key_order;
 mod key_set;
 mod members;
+mod new_key;
 mod number;
 mod place;
 mod plain;

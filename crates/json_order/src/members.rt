@@ -1,28 +1,38 @@
-ghost use Rattle.std.specs.Prelude.{◌≡◌, ◌++◌, [], ◌∷◌, ◌<◌, true, length, slice_index_or, IfOk, OnOk, IfErr, IsTrue, string_bytes};
+ghost use Rattle.std.specs.Prelude.{◌≡◌, ◌++◌, [], ◌∷◌, ◌+◌, ◌<◌, ◌≤◌, true, length, slice_index_or, IfOk, OnOk, IfErr, OnErr, string_bytes};
+ghost use Rattle.std.specs.Vec.{vec_len, vec_capacity};
 ghost use Rattle.json_order.specs.declared.fault.JsonKind.TheVariants.{Memory};
 ghost use Rattle.json_order.specs.declared.key_set.KeySet.{KeySet};
 ghost use Rattle.json_order.specs.Grammar.{has_key};
-ghost use Rattle.json_order.specs.private.Entries.{keys_of, last_below, Ascend};
+ghost use Rattle.json_order.specs.private.Entries.{keys_of, last_before, AreOrdered};
+ghost use Rattle.json_order.specs.private.Findings.{IsKeyFinding, HasKeyMark, Finds};
 ghost use Rattle.json_order.specs.private.KeySets.{HasKeys};
+ghost use Rattle.json_order.specs.private.Marks.{mark_of as mark_of_key};
 
 use crate::fault::JsonKind;
-use crate::key_set::KeySet;
+use crate::key_order::{KeyOrder, is_behind, order_of};
+use crate::key_set::{KeySet, is_same, mark_of, set_of};
+use crate::new_key::{Finding, NewKey};
 use crate::tree::Tree;
 use std::alloc::Global;
 
 /// Up to so many members, a key is compared with each of them.
 const FEW: usize = 16;
 
-/// The members of an object so far, in the order of the text. Where they are more than a few and
-/// their keys do not ascend, a set beside them tells which keys they have, so that a key that
-/// stands twice is found without a look at each.
+/// From so many members on, their room doubles each time it grows.
+const MANY: usize = 64;
+
+/// The members of an object so far, in the order of the text. If they are more than a few and their
+/// keys neither rise nor fall, a set of the keys finds a repeated one without a look at each.
 #[derive(Drop)]
 pub(crate) struct Members {
     pub(crate) list: Vec<(String, Tree)>,
-    /// One set of all keys. None where they are few, and where each is greater than the one before
-    /// it, so that a key behind the last is new.
+    /// One set of all keys. It is empty if they are few, or if they are in the order below.
     pub(crate) sets: Vec<KeySet>,
-    ghost ascending: { sets.items ≡ [] → 16 < length list.items → Ascend (keys_of list.items) },
+    /// The order of the keys of more than a few members without a set. A key that follows the last
+    /// is new.
+    pub(crate) order: KeyOrder,
+    ghost ordered: { sets.items ≡ [] → 16 < length list.items
+        → AreOrdered order (keys_of list.items) },
     ghost known: { (d : KeySet) → 0 < length sets.items
         → HasKeys (slice_index_or sets.items 0 d) (keys_of list.items) },
 }
@@ -34,90 +44,211 @@ impl Members {
         Members {
             list: Vec::new(alloc),
             sets: Vec::new(alloc),
+            order: KeyOrder::Rising,
         }
+    }
+
+    /// What is found out about this key, or None if a member has it.
+    #[inline(always)]
+    pub(crate) fn look_for(&self, key: &str) -> Option<Finding>
+        ensures { Finds self.now.order (keys_of self.now.list.items) key.now result }
+    {
+        if !self.sets.is_empty() {
+            let mark = mark_of(key);
+            if self.sets[0].has(&self.list, mark, key) {
+                return None;
+            }
+            return Some(Finding::Marked(mark));
+        }
+        if self.list.len() > FEW && is_behind(self.order, &self.list, key) {
+            return Some(Finding::Behind);
+        }
+        if is_among(&self.list, key) {
+            return None;
+        }
+        Some(Finding::Unknown)
     }
 
     /// A member has this key.
     pub(crate) fn has(&self, key: &str) -> bool
         ensures { result ≡ has_key (keys_of self.now.list.items) key.now }
     {
+        match self.look_for(key) {
+            Some(_) => false,
+            None => true,
+        }
+    }
+
+    /// Adds a member with a key that was looked for. If memory runs out the members stay as they
+    /// were.
+    #[inline(always)]
+    pub(crate) fn push(&mut self, key: NewKey, value: Tree) -> Result<(), JsonKind>
+        requires { IsKeyFinding self.old.order (keys_of self.old.list.items) (string_bytes key.text)
+            key.finding }
+        ensures ok { OnOk result
+            (self.new.list.items ≡ self.old.list.items ++ (key.text, value) ∷ []) }
+        ensures err { IfErr result (λ k. k ≡ Memory) }
+    {
+        let NewKey { text, finding } = key;
         if !self.sets.is_empty() {
-            return self.sets[0].has(&self.list, key);
+            let mark = marked(finding, text.as_str());
+            return self.push_known(text, mark, value);
         }
-        if self.list.len() > FEW && is_behind(&self.list, key) {
-            return false;
+        if self.needs_none(text.as_str(), finding) {
+            return self.push_behind(text, value);
         }
-        is_among(&self.list, key)
+        self.push_scattered(text, value)
+    }
+
+    /// The members need no set with this key either: they are few, or the key follows them in an
+    /// order, which the struct has from now on.
+    #[inline(always)]
+    fn needs_none(&mut self, key: &str, finding: Finding) -> bool
+        requires none { self.old.sets.items ≡ [] }
+        requires found { IsKeyFinding self.old.order (keys_of self.old.list.items) key.now finding }
+        ensures list { self.new.list ≡ self.old.list }
+        ensures sets { self.new.sets ≡ self.old.sets }
+        ensures ordered { result ≡ true → 15 < length self.new.list.items
+            → AreOrdered self.new.order (keys_of self.new.list.items) }
+        ensures last { result ≡ true → 15 < length self.new.list.items
+            → last_before self.new.order (keys_of self.new.list.items) key.now ≡ true }
+    {
+        if self.list.len() < FEW {
+            return true;
+        }
+        if self.list.len() > FEW {
+            return matches!(finding, Finding::Behind);
+        }
+        match order_of(&self.list) {
+            Some(order) => {
+                self.order = order;
+                is_behind(order, &self.list, key)
+            }
+            None => false,
+        }
+    }
+
+    /// Adds a member to few, or one whose key follows the others in their order.
+    #[inline(always)]
+    fn push_behind(&mut self, key: String, value: Tree) -> Result<(), JsonKind>
+        requires none { self.old.sets.items ≡ [] }
+        requires ordered { 15 < length self.old.list.items
+            → AreOrdered self.old.order (keys_of self.old.list.items) }
+        requires last { 15 < length self.old.list.items
+            → last_before self.old.order (keys_of self.old.list.items) (string_bytes key) ≡ true }
+        ensures ok { OnOk result (self.new.list.items ≡ self.old.list.items ++ (key, value) ∷ []) }
+        ensures err { IfErr result (λ k. k ≡ Memory) }
+    {
+        add_member(&mut self.list, key, value)
+    }
+
+    /// Adds a member that needs a set, and makes it.
+    #[inline(never)]
+    fn push_scattered(&mut self, key: String, value: Tree) -> Result<(), JsonKind>
+        requires none { self.old.sets.items ≡ [] }
+        ensures ok { OnOk result (self.new.list.items ≡ self.old.list.items ++ (key, value) ∷ []) }
+        ensures err { IfErr result (λ k. k ≡ Memory) }
+    {
+        let alloc = *self.list.allocator();
+        let set = set_of(alloc, &self.list)?;
+        self.sets.push(set)?;
+        let mark = mark_of(key.as_str());
+        self.push_known(key, mark, value)
+    }
+
+    /// Adds a member, and its key with its mark to the set.
+    #[inline(never)]
+    fn push_known(&mut self, key: String, mark: u32, value: Tree) -> Result<(), JsonKind>
+        requires mark { mark ≡ mark_of_key (string_bytes key) }
+        requires some { 0 < length self.old.sets.items }
+        ensures ok { OnOk result (self.new.list.items ≡ self.old.list.items ++ (key, value) ∷ []) }
+        ensures err { IfErr result (λ k. k ≡ Memory) }
+    {
+        let alloc = *self.list.allocator();
+        make_room(&mut self.list)?;
+        if self.sets[0].is_full(self.list.len()) {
+            let set = set_of(alloc, &self.list)?;
+            self.sets[0] = set;
+        }
+        self.sets[0].add(alloc, &self.list, mark, key.as_str())?;
+        self.list.push_reserved((key, value));
+        Ok(())
     }
 }
 
-/// The last of these members, if there is one, has a lesser key.
-fn is_behind(members: &[(String, Tree)], key: &str) -> bool
-    ensures { result ≡ last_below (keys_of members.now) key.now }
+/// The key's mark, which may be known already.
+#[inline(always)]
+fn marked(finding: Finding, key: &str) -> u32
+    requires { HasKeyMark key.now finding }
+    ensures { result ≡ mark_of_key key.now }
 {
-    let len = members.len();
-    if len == 0 {
-        return true;
+    match finding {
+        Finding::Marked(mark) => mark,
+        _ => mark_of(key),
     }
-    let (last, _) = &members[len - 1];
-    last.as_str().cmp(key).is_lt()
 }
 
 /// One of these members has this key.
+#[inline(never)]
 fn is_among(members: &[(String, Tree)], key: &str) -> bool
     ensures { result ≡ has_key (keys_of members.now) key.now }
 {
     for (name, _) in members {
-        if name.as_str() == key {
+        if is_same(name.as_str(), key) {
             return true;
         }
     }
     false
 }
 
-/// Each key is greater than the one before it.
-fn ascend(members: &[(String, Tree)]) -> bool
-    ensures { IsTrue result → Ascend (keys_of members.now) }
-{
-    for (i, (name, _)) in members.iter().enumerate() {
-        if !is_behind(&members[..i], name.as_str()) {
-            return false;
-        }
-    }
-    true
-}
-
-/// The keys of these members.
-fn set_of(alloc: Global, members: &[(String, Tree)]) -> Result<KeySet, JsonKind>
-    ensures ok { IfOk result (λ set. HasKeys set (keys_of members.now)) }
+/// Makes room for more members: for two, then for the few, then for four times as many. From there
+/// on it doubles.
+#[inline(never)]
+fn grow(list: &mut Vec<(String, Tree)>) -> Result<(), JsonKind>
+    ensures items { list.new.items ≡ list.old.items }
+    ensures ok { OnOk result (vec_len list.new < vec_capacity list.new) }
     ensures err { IfErr result (λ k. k ≡ Memory) }
 {
-    let mut set = KeySet::new(alloc, members.len())?;
-    for place in 0..members.len() {
-        set.add(members, place)?;
+    let len = list.len();
+    if len == 0 {
+        list.reserve_exact(2)?;
+    } else if len < FEW {
+        list.reserve_exact(FEW - len)?;
+    } else if len < MANY {
+        list.reserve_exact(MANY - len)?;
+    } else {
+        list.reserve(1)?;
     }
-    Ok(set)
-}
-
-/// Adds a member to a list of them. Where it is the first, room is taken for so many.
-#[inline(always)]
-fn add_member(
-    list: &mut Vec<(String, Tree)>,
-    room: usize,
-    key: String,
-    value: Tree,
-) -> Result<(), JsonKind>
-    ensures ok { OnOk result (list.new.items ≡ list.old.items ++ (key, value) ∷ []) }
-    ensures err { IfErr result (λ k. k ≡ Memory) }
-{
-    if list.is_empty() {
-        list.reserve_exact(room)?;
-    }
-    list.push((key, value))?;
     Ok(())
 }
 
-/// Adds a list's last member. Where it is the only one, room is taken for it alone.
+/// Room for one more member.
+#[inline(always)]
+fn make_room(list: &mut Vec<(String, Tree)>) -> Result<(), JsonKind>
+    ensures items { list.new.items ≡ list.old.items }
+    ensures ok { OnOk result (vec_len list.new < vec_capacity list.new) }
+    ensures err { IfErr result (λ k. k ≡ Memory) }
+{
+    if list.len() == list.capacity() {
+        return grow(list);
+    }
+    Ok(())
+}
+
+/// Adds a member to a list of them.
+#[inline(always)]
+fn add_member(list: &mut Vec<(String, Tree)>, key: String, value: Tree) -> Result<(), JsonKind>
+    ensures len { length list.new.items ≤ length list.old.items + 1 }
+    ensures ok { OnOk result (list.new.items ≡ list.old.items ++ (key, value) ∷ []) }
+    ensures kept { OnErr result (list.new.items ≡ list.old.items) }
+    ensures err { IfErr result (λ k. k ≡ Memory) }
+{
+    make_room(list)?;
+    list.push_reserved((key, value));
+    Ok(())
+}
+
+/// Adds a list's last member. If more than half of the room is left over, it is given back.
 #[inline(always)]
 pub(crate) fn add_last_member(
     list: &mut Vec<(String, Tree)>,
@@ -127,88 +258,26 @@ pub(crate) fn add_last_member(
     ensures ok { OnOk result (list.new.items ≡ list.old.items ++ (key, value) ∷ []) }
     ensures err { IfErr result (λ k. k ≡ Memory) }
 {
-    add_member(list, 1, key, value)
-}
-
-/// The members of a list, with a set of their keys.
-fn with_set(list: Vec<(String, Tree)>) -> Result<Members, JsonKind>
-    ensures ok { IfOk result (λ m. m.list.items ≡ list.items) }
-    ensures err { IfErr result (λ k. k ≡ Memory) }
-{
-    let alloc = *list.allocator();
-    let mut sets = Vec::with_capacity(alloc, 1)?;
-    sets.push(set_of(alloc, &list)?)?;
-    Ok(Members { list, sets })
-}
-
-/// The members with one more behind them, where their keys stand in a set.
-fn with_known(members: Members, key: String, value: Tree) -> Result<Members, JsonKind>
-    requires { 0 < length members.sets.items }
-    ensures ok { IfOk result (λ m. m.list.items ≡ members.list.items ++ (key, value) ∷ []) }
-    ensures err { IfErr result (λ k. k ≡ Memory) }
-{
-    let Members { mut list, mut sets } = members;
-    let place = list.len();
-    add_member(&mut list, 2, key, value)?;
-    if sets[0].is_full(list.len()) {
-        return with_set(list);
+    if list.len() == list.capacity() {
+        list.reserve_exact(1)?;
     }
-    sets[0].add(&list, place)?;
-    Ok(Members { list, sets })
-}
-
-/// The members with one more behind them, whose key is greater than the ascending keys before it.
-fn with_greater(members: Members, key: String, value: Tree) -> Result<Members, JsonKind>
-    requires none { members.sets.items ≡ [] }
-    requires many { 16 < length members.list.items }
-    requires greater { last_below (keys_of members.list.items) (string_bytes key) ≡ true }
-    ensures ok { IfOk result (λ m. m.list.items ≡ members.list.items ++ (key, value) ∷ []) }
-    ensures err { IfErr result (λ k. k ≡ Memory) }
-{
-    let Members { mut list, sets } = members;
-    add_member(&mut list, 2, key, value)?;
-    Ok(Members { list, sets })
-}
-
-/// The members with one more behind them, where they are few.
-#[inline(always)]
-fn with_few(members: Members, key: String, value: Tree) -> Result<Members, JsonKind>
-    requires none { members.sets.items ≡ [] }
-    ensures ok { IfOk result (λ m. m.list.items ≡ members.list.items ++ (key, value) ∷ []) }
-    ensures err { IfErr result (λ k. k ≡ Memory) }
-{
-    let Members { mut list, sets } = members;
-    add_member(&mut list, 2, key, value)?;
-    if list.len() <= FEW || ascend(&list) {
-        return Ok(Members { list, sets });
+    list.push_reserved((key, value));
+    if list.capacity() / 2 > list.len() {
+        list.shrink_to_fit();
     }
-    with_set(list)
-}
-
-/// The members with one more behind them, and a set of their keys.
-fn with_scattered(members: Members, key: String, value: Tree) -> Result<Members, JsonKind>
-    ensures ok { IfOk result (λ m. m.list.items ≡ members.list.items ++ (key, value) ∷ []) }
-    ensures err { IfErr result (λ k. k ≡ Memory) }
-{
-    let Members { mut list, sets: _ } = members;
-    add_member(&mut list, 2, key, value)?;
-    with_set(list)
+    Ok(())
 }
 
 /// The members with one more behind them.
-#[inline(always)]
 pub(crate) fn with_member(members: Members, key: String, value: Tree) -> Result<Members, JsonKind>
     ensures ok { IfOk result (λ m. m.list.items ≡ members.list.items ++ (key, value) ∷ []) }
     ensures err { IfErr result (λ k. k ≡ Memory) }
 {
-    if !members.sets.is_empty() {
-        return with_known(members, key, value);
-    }
-    if members.list.len() <= FEW {
-        return with_few(members, key, value);
-    }
-    if is_behind(&members.list, key.as_str()) {
-        return with_greater(members, key, value);
-    }
-    with_scattered(members, key, value)
+    let mut more = members;
+    let finding = match more.look_for(key.as_str()) {
+        Some(finding) => finding,
+        None => Finding::Unknown,
+    };
+    more.push(NewKey { text: key, finding }, value)?;
+    Ok(more)
 }

@@ -20,12 +20,12 @@ use std::str;
 /// and objects inside one another, no key twice in one object, no lone surrogate). The members of
 /// an object keep the order of the text.
 ///
-/// Memory is taken for the tree, and, for an open object that has more than 16 members whose keys
-/// do not rise, for a table of their numbers: 2 to 5 slots a member. Where there is a fault, the
-/// input is read twice, and a stack of at most 17 frames takes memory too. The first 16 keys of an
-/// object are compared one by one. The time is linear in the input, but for keys that were chosen
-/// to share their slots in the table: of them a second copy is kept, and they cost the logarithm of
-/// their number.
+/// Memory is taken for the tree. An open object of more than 16 members whose keys neither rise nor
+/// fall takes some for a table of their numbers: 3 to 8 slots a member, of 8 bytes. If there is a
+/// fault, the input is read twice, and a stack of at most 17 frames takes memory too. The first 16
+/// keys of an object are compared one by one. The time is linear in the input, but for keys that
+/// were chosen to share their slots in the table. The reader keeps a second copy of such keys, and
+/// they cost the logarithm of their number.
 ///
 /// An Err tells the kind and the place of the first fault; see [`JsonKind`] and [`JsonFault`]. Utf8
 /// is tested first, over the whole input. Memory may come before any other fault.

@@ -110,7 +110,7 @@ pub(crate) fn whole_object(members: Members, key: String, value: Tree) -> Result
         (entries_of_tree (members.list.items ++ (key, value) ∷ [])) no_members)) }
     ensures err { IfErr result (λ k. k ≡ Memory) }
 {
-    let Members { mut list, sets: _ } = members;
+    let Members { mut list, .. } = members;
     add_last_member(&mut list, key, value)?;
     Ok(object_of(list))
 }

@@ -7,12 +7,15 @@ ghost use Rattle.json_order.specs.Fault.{strict};
 ghost use Rattle.json_order.specs.Grammar.{IsSpaced};
 ghost use Rattle.json_order.specs.Json.{string, object as object_value, no_members};
 ghost use Rattle.json_order.specs.private.Machine.{Frame as StackFrame, state, step, at_value, at_first_item, at_first_key, behind as behind_value, in_number};
+ghost use Rattle.json_order.specs.private.Entries.{keys_of};
+ghost use Rattle.json_order.specs.private.Findings.{IsKeyFinding};
 ghost use Rattle.json_order.specs.private.Places.{entries_of_tree, value_of};
 ghost use Rattle.json_order.specs.private.Whole.{Crosses, IsQuoted, ReadsKey, ReadsNumber, ReadsValue, ReadsWord, IsWholeText};
 ghost use Rattle.json_order.specs.Seen.{json_of};
 
 use crate::fault::JsonKind;
-use crate::members::{Members, with_member};
+use crate::members::Members;
+use crate::new_key::NewKey;
 use crate::number::is_done;
 use crate::place::Part;
 use crate::step::{DEPTH, empty_list, is_space, object_of, whole_list, whole_object};
@@ -114,9 +117,11 @@ fn word<'a>(word: Word, rest: &'a str) -> Option<(Tree, &'a str)>
 
 /// A new key behind these members, its colon and the white space behind it.
 #[inline(always)]
-fn key<'a>(alloc: Global, members: &Members, rest: &'a str) -> Whole<'a, String>
+fn key<'a>(alloc: Global, members: &Members, rest: &'a str) -> Whole<'a, NewKey>
     ensures ok { IfOk result (λ o. IfSome o (λ t. ReadsKey (entries_of_tree members.now.list.items)
-        (string_bytes t.0) rest.now t.1.now)) }
+        (string_bytes t.0.text) rest.now t.1.now)) }
+    ensures found { IfOk result (λ o. IfSome o (λ t. IsKeyFinding members.now.order
+        (keys_of members.now.list.items) (string_bytes t.0.text) t.0.finding)) }
     ensures err { IfErr result (λ k. k ≡ Memory) }
 {
     let Some(begun) = behind_char('"', rest) else {
@@ -128,10 +133,10 @@ fn key<'a>(alloc: Global, members: &Members, rest: &'a str) -> Whole<'a, String>
     let Some(after) = behind_char(':', behind_space(behind)) else {
         return Ok(None);
     };
-    if members.has(text.as_str()) {
+    let Some(finding) = members.look_for(text.as_str()) else {
         return Ok(None);
-    }
-    Ok(Some((text, behind_space(after))))
+    };
+    Ok(Some((NewKey { text, finding }, behind_space(after))))
 }
 
 /// An object without members.
@@ -192,12 +197,12 @@ fn object<'a>(alloc: Global, rest: &'a str, depth: usize) -> Whole<'a, Tree>
         };
         let end = behind_space(behind);
         if let Some(after) = behind_char('}', end) {
-            return Ok(Some((whole_object(members, name, item)?, after)));
+            return Ok(Some((whole_object(members, name.text, item)?, after)));
         }
         let Some(next) = behind_char(',', end) else {
             return Ok(None);
         };
-        members = with_member(members, name, item)?;
+        members.push(name, item)?;
         left = behind_space(next);
     }
 }

@@ -4,23 +4,30 @@ use Rattle.std.specs.Ordering.{nat_cmp, is_lt}
 use Rattle.std.specs.Cmp.Lexicographic.{slice_cmp}
 use Rattle.std.specs.declared.string.String.{String}
 use Rattle.std.specs.declared.alloc.Global.{Global}
+use Rattle.json_order.specs.declared.key_order.KeyOrder.{KeyOrder}
+use Rattle.json_order.specs.declared.key_order.KeyOrder.TheVariants.{Rising, Falling}
 use Rattle.json_order.specs.declared.tree.Tree.{Tree}
 
 -- the keys, as bytes
 abbrev pub keys_of : List (String Global × Tree) → List (List ℕ)
 keys_of ms = map (λ m. string_bytes m.0) ms
 
--- each key is less than this one, by the order of their bytes
-abbrev pub all_below : List (List ℕ) → List ℕ → Bool
-all_below [] key = true
-all_below (k ∷ ks) key = is_lt (slice_cmp nat_cmp k key) && all_below ks key
+-- the first key may stand before the other, by the order of their bytes
+abbrev pub key_precedes : KeyOrder → List ℕ → List ℕ → Bool
+key_precedes Rising k l = is_lt (slice_cmp nat_cmp k l)
+key_precedes Falling k l = is_lt (slice_cmp nat_cmp l k)
 
--- the last key, where there is one, is less than this one
-abbrev pub last_below : List (List ℕ) → List ℕ → Bool
-last_below [] key = true
-last_below (k ∷ []) key = is_lt (slice_cmp nat_cmp k key)
-last_below (k ∷ l ∷ ks) key = last_below (l ∷ ks) key
+-- each key may stand before this one
+abbrev pub all_before : KeyOrder → List (List ℕ) → List ℕ → Bool
+all_before o [] key = true
+all_before o (k ∷ ks) key = key_precedes o k key && all_before o ks key
 
--- a key that is greater than the last is greater than all
-abbrev pub Ascend : List (List ℕ) → Type 0
-Ascend ks = (key : List ℕ) → last_below ks key ≡ true → all_below ks key ≡ true
+-- the last key, where there is one, may stand before this one
+abbrev pub last_before : KeyOrder → List (List ℕ) → List ℕ → Bool
+last_before o [] key = true
+last_before o (k ∷ []) key = key_precedes o k key
+last_before o (k ∷ l ∷ ks) key = last_before o (l ∷ ks) key
+
+-- a key that follows the last follows all
+abbrev pub AreOrdered : KeyOrder → List (List ℕ) → Type 0
+AreOrdered o ks = (key : List ℕ) → last_before o ks key ≡ true → all_before o ks key ≡ true

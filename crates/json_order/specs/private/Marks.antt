@@ -1,13 +1,7 @@
 -- A number made of a key's bytes.
-use Rattle.std.specs.Prelude.{ℕ, ◌+◌, ◌*◌, ◌%◌, ◌^◌, List, [], ◌∷◌}
+use Rattle.std.specs.Prelude.{ℕ, ◌/◌, ◌^◌, List}
+use Rattle.std.specs.Hash.FoldHasher.{initial, write, finish}
 
--- one byte more, in 32 bits
-abbrev pub mark_with : ℕ → ℕ → ℕ
-mark_with mark byte = (((mark + byte) % 2 ^ 32) * 2654435761) % 2 ^ 32
-
-abbrev pub mark_on : ℕ → List ℕ → ℕ
-mark_on mark [] = mark
-mark_on mark (b ∷ bs) = mark_on (mark_with mark b) bs
-
+-- the upper half of their hash
 unfoldable pub mark_of : List ℕ → ℕ
-mark_of bytes = mark_on 0 bytes
+mark_of bytes = finish (write initial bytes) / 2 ^ 32

@@ -6,8 +6,8 @@ use Rattle.json_order.specs.private.Entries.{keys_of}
 use Rattle.json_order.proofs.Keys.{has_push, has_front}
 use Rattle.json_order.proofs.members.is_among.Goals as goal
 
-pub returns-then-eq : goal.returns-then-eq
-returns-then-eq c =
+pub returns-then-is_same : goal.returns-then-is_same
+returns-then-is_same c =
     let i = c.loop-name.name-index in
     let more = take_more c.args.members.now i c.loop-name-item.result c.loop-name-test.true in
     let pushed = has_push (take i c.args.members.now) c.loop-name-item.result.0 c.loop-name-item.result.1 c.args.key.now in

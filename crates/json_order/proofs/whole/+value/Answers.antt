@@ -70,24 +70,24 @@ object-members-init t c = (
 pub object-returns-in-Some-behind_char-clause-ok : goal.object-returns-in-Some-behind_char-clause-ok
 object-returns-in-Some-behind_char-clause-ok t c =
     let v = json_of c.in-Some-3.item in
-    let key = string_bytes c.in-Some-2.name in
+    let key = string_bytes c.in-Some-2.name.text in
     let ms = c.members.members.list.items in
     let named : ReadsKey (entries_of_tree ms) key c.members.left.now c.in-Some-2.begun.now = rw c.in-Some-2.is at c.in_ok-name.ensures.ok in
     let read : ReadsValue c.args.depth v c.in-Some-2.begun.now c.in-Some-3.behind.now = rw c.in-Some-3.is at c.in_ok-item.ensures.ok in
     let spaced = reads_spaced c.args.depth v c.in-Some-2.begun.now c.in-Some-3.behind.now c.behind_space-end.result.now read c.behind_space-end.ensures in
-    let same = object_pushed _ ms (c.in-Some-2.name, c.in-Some-3.item) c.in_ok-whole_object.ensures.ok in
+    let same = object_pushed _ ms (c.in-Some-2.name.text, c.in-Some-3.item) c.in_ok-whole_object.ensures.ok in
     subst (λ v. Crosses (c.args.depth + 1) (state at_first_key) (state (behind v)) c.args.rest.now c.in-Some-behind_char.after.now) (sym same)
     (object_whole c.args.depth (entries_of_tree ms) key v c.args.rest.now c.members.left.now c.in-Some-2.begun.now c.behind_space-end.result.now c.in-Some-behind_char.after.now c.members.invariant.1 named spaced c.in-Some-behind_char.ensures)
 
 pub object-members-preserved : goal.object-members-preserved
 object-members-preserved t c =
     let v = json_of c.in-Some-3.item in
-    let key = string_bytes c.in-Some-2.name in
+    let key = string_bytes c.in-Some-2.name.text in
     let ms = c.members.members.list.items in
     let named : ReadsKey (entries_of_tree ms) key c.members.left.now c.in-Some-2.begun.now = rw c.in-Some-2.is at c.in_ok-name.ensures.ok in
     let read : ReadsValue c.args.depth v c.in-Some-2.begun.now c.in-Some-3.behind.now = rw c.in-Some-3.is at c.in_ok-item.ensures.ok in
     let spaced = reads_spaced c.args.depth v c.in-Some-2.begun.now c.in-Some-3.behind.now c.behind_space-end.result.now read c.behind_space-end.ensures in
-    let same : entries_of_tree c.in_ok-members.members.list.items ≡ entries_of_tree ms ++ (key, v) ∷ [] = ap entries_of_tree c.in_ok-members.ensures.ok ∙ map_push (λ m. (string_bytes m.0, json_of m.1)) ms (c.in-Some-2.name, c.in-Some-3.item) in (
+    let same : entries_of_tree c.push.new.self.list.items ≡ entries_of_tree ms ++ (key, v) ∷ [] = ap entries_of_tree c.in_ok-push.ensures.ok ∙ map_push (λ m. (string_bytes m.0, json_of m.1)) ms (c.in-Some-2.name.text, c.in-Some-3.item) in (
       c.behind_space-left-in-members.utf8,
       subst (λ es. Crosses (c.args.depth + 1) (state at_first_key) (before_key es) c.args.rest.now c.behind_space-left-in-members.result.now) (sym same)
           (object_more c.args.depth (entries_of_tree ms) key v c.args.rest.now c.members.left.now c.in-Some-2.begun.now c.behind_space-end.result.now c.in-Some-behind_char-2.next.now c.behind_space-left-in-members.result.now c.members.invariant.1 named spaced c.in-Some-behind_char-2.ensures c.behind_space-left-in-members.ensures),
@@ -96,7 +96,7 @@ object-members-preserved t c =
 pub object-members-smaller : goal.object-members-smaller
 object-members-smaller t c =
     let v = json_of c.in-Some-3.item in
-    let key = string_bytes c.in-Some-2.name in
+    let key = string_bytes c.in-Some-2.name.text in
     let ms = c.members.members.list.items in
     let named : ReadsKey (entries_of_tree ms) key c.members.left.now c.in-Some-2.begun.now = rw c.in-Some-2.is at c.in_ok-name.ensures.ok in
     let read : ReadsValue c.args.depth v c.in-Some-2.begun.now c.in-Some-3.behind.now = rw c.in-Some-3.is at c.in_ok-item.ensures.ok in
