@@ -2,7 +2,7 @@
 use Rattle.std.specs.Prelude.{nat_le, slice_index}
 use Rattle.std.proofs.Common.{◌≡◌, ℕ, suc, ◌+◌, ◌-◌, ◌*◌, ◌%◌, ◌^◌, ◌<◌, ◌≤◌, Bool, true, false, not, ◌&&◌, cond, eqb, ltb, List, [], ◌∷◌, map, length, drop, take, refl, sym, ap, ap₂, ◌∙◌, subst, arith}
 use Rattle.std.proofs.lemmas.Simd.{chunk-drop, length-chunk, leading_from_mask_l, trailing_mask_l, mask_l-mod, zip2_splat, zip2_of_maps}
-use Rattle.std.proofs.lemmas.List.{length-drop, length-map, take_all}
+use Rattle.std.proofs.lemmas.List.{drop-drop, length-drop, length-map, take_all}
 use Rattle.std.proofs.lemmas.List.Folds.{prefix_len-append}
 use Rattle.std.proofs.lemmas.List.Sums.{prefix_len-le-length, prefix_len_stops}
 use Rattle.std.proofs.lemmas.Bool.{eq-eqb, ne_eqb}
@@ -47,12 +47,12 @@ each_end : (v : List ℕ) → map (top 7) (map marked v) ≡ map is_end v
 each_end [] = refl
 each_end (b ∷ bs) = ap₂ (λ x xs. x ∷ xs) (marks_end b) (each_end bs)
 
-pub mask_of_ends : (v : List ℕ) → length v ≡ 16
-    → mask_l (map (top 7) (zip2 bit_or (zip2 bit_or (zip2 hit v (replicate 16 34)) (zip2 hit v (replicate 16 92))) (zip2 below v (replicate 16 32)))) % 2 ^ 64 ≡ mask_l (map is_end v)
-mask_of_ends v long =
-    let quotes = zip2_splat hit v 16 34 long in
-    let slashes = zip2_splat hit v 16 92 long in
-    let lows = zip2_splat below v 16 32 long in
+pub mask_of_ends : (n : ℕ) (v : List ℕ) → n ≤ 64 → length v ≡ n
+    → mask_l (map (top 7) (zip2 bit_or (zip2 bit_or (zip2 hit v (replicate n 34)) (zip2 hit v (replicate n 92))) (zip2 below v (replicate n 32)))) % 2 ^ 64 ≡ mask_l (map is_end v)
+mask_of_ends n v few long =
+    let quotes = zip2_splat hit v n 34 long in
+    let slashes = zip2_splat hit v n 92 long in
+    let lows = zip2_splat below v n 32 long in
     let both = zip2_of_maps bit_or (λ b. hit b 34) (λ b. hit b 92) v quotes slashes in
     let all = zip2_of_maps bit_or (λ b. bit_or (hit b 34) (hit b 92)) (λ b. below b 32) v both lows in
     ap (λ z. mask_l (map (top 7) z) % 2 ^ 64) all ∙ ap (λ z. mask_l z % 2 ^ 64) (each_end v) ∙ mask_l-mod (map is_end v) 64 (omega (arith, length-map v is_end, long))
@@ -94,6 +94,15 @@ run_stops d i n room short some =
 
 pub run_within : (d : List ℕ) (i : ℕ) → i ≤ length d → i + prefix_len is_plain (drop i d) ≤ length d
 run_within d i h = omega (arith, prefix_len-le-length is_plain (drop i d), length-drop i d)
+
+-- wide vectors behind some bytes
+pub run_wide : (d : List ℕ) (i n : ℕ) → i ≤ length d → n ≤ length (take (length d - i) (drop i d)) → prefix_len is_plain (take (length d - i) (drop i d)) ≡ n + prefix_len is_plain (drop n (take (length d - i) (drop i d))) → (i + n ≤ length d) × (prefix_len is_plain (drop i d) ≡ n + prefix_len is_plain (drop (i + n) d))
+run_wide d i n h l run =
+    let left = length-drop i d in
+    let whole : take (length d - i) (drop i d) ≡ drop i d = take_all (length d - i) (drop i d) (omega (arith, left)) in
+    let inside : n ≤ length (drop i d) = subst (λ xs. n ≤ length xs) whole l in
+    let same : prefix_len is_plain (drop i d) ≡ n + prefix_len is_plain (drop n (drop i d)) = subst (λ xs. prefix_len is_plain xs ≡ n + prefix_len is_plain (drop n xs)) whole run in
+    (omega (arith, left, inside), same ∙ ap (λ xs. n + prefix_len is_plain xs) (drop-drop n i d))
 
 -- what is left behind the vectors, looked at one by one
 pub run_left : (d : List ℕ) (i n : ℕ) → prefix_len is_plain d ≡ i + prefix_len is_plain (drop i d) → n ≡ prefix_len is_plain (take (length d - i) (drop i d)) → i + n ≡ prefix_len is_plain d

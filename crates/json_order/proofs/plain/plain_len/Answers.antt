@@ -1,8 +1,8 @@
-use Rattle.std.proofs.Common.{sym, ap, ◌∙◌, arith}
+use Rattle.std.proofs.Common.{◌+◌, sym, ap, ◌∙◌, arith}
 use Rattle.std.proofs.lemmas.List.Sums.{prefix_len-le-length}
 use lib.Count.{count_trailing_zeros}
 use Rattle.json_order.specs.Grammar.{is_plain}
-use Rattle.json_order.proofs.PlainRuns.{run_through, run_stops, run_within, run_ends, run_left}
+use Rattle.json_order.proofs.PlainRuns.{run_through, run_stops, run_within, run_ends, run_wide, run_left}
 use Rattle.json_order.proofs.plain.plain_len.Goals as goal
 
 pub returns-then-ends-ne0-clause-value : goal.returns-then-ends-ne0-clause-value
@@ -29,6 +29,15 @@ vectors-preserved c =
     record {
       within = omega arith;
       run = omega (arith, run, c.vectors.invariant.run);
+    }
+
+pub vectors-preserved-then-len-eq-NEAR : goal.vectors-preserved-then-len-eq-NEAR
+vectors-preserved-then-len-eq-NEAR c =
+    let run = run_through c.args.bytes.now c.vectors.len 16 (omega arith) (omega (arith, c.ends_of-ends.ensures)) in
+    let wide = run_wide c.args.bytes.now (c.vectors.len + 16) c.wide_len-len.result (omega arith) c.wide_len-len.ensures.within c.wide_len-len.ensures.run in
+    record {
+      within = wide.0;
+      run = omega (arith, run, wide.1, c.vectors.invariant.run);
     }
 
 pub overflow_add-result-2 : goal.overflow_add-result-2
