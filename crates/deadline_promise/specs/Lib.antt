@@ -1,0 +1,4 @@
+pub mod Reach
+pub mod KeptBudget
+pub mod Promise
+pub mod Examples

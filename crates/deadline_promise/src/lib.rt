@@ -1,0 +1,10 @@
+//! On one CPU, a task that keeps its budget is never late, whatever the other tasks do.
+//!
+//! The definitions are in `specs/`: what a task may still take of its CPU (`specs/Reach.antt`), a
+//! script that keeps a budget (`specs/KeptBudget.antt`), and the promise with its premises
+//! (`specs/Promise.antt`). [`budgets_isolate`] carries the theorem.
+#![tactic(auto)]
+
+mod theorem;
+
+pub use theorem::budgets_isolate;
