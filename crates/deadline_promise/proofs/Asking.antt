@@ -9,7 +9,7 @@ use Rattle.task_script.specs.declared.script.Segment.TheVariants.{Run as RunFor,
 use Rattle.task_script.specs.script.ScriptView.{ScriptView, CursorView, IsScript, round_len}
 use Rattle.task_script.specs.script.Unrolled.{event_at}
 use Rattle.task_script.specs.script.Segments.{SegmentAndCursor, at_next_event, given_by, given_at, is_timer_over, passes_late_timer, segment_at, first_place, kept_cursor, next_segment}
-use Rattle.deadline_promise.specs.KeptBudget.{work_with, work_from, IsFar, is_timer_event, is_sleep_event, HasNone, KeepsBudget}
+use Rattle.deadline_promise.specs.KeptBudget.{work_with, work_from, IsAtLeast, is_timer_event, is_sleep_event, is_wait_event, HasNone, KeepsBudget}
 use Rattle.deadline_promise.proofs.Unrolling.{work_kept, event_is}
 
 -- the timer's reference is a time, if the script has timers
@@ -33,8 +33,8 @@ no_such : (s : ScriptView) (place : ℕ) (p : Event → Bool) (v : Event) → Ha
 no_such s place p v none e is = false≢true (sym (subst (λ o. IfSome o (λ w. p w ≡ false)) e (none place)) ∙ is)
 
 module _ (most period : ℕ) (c : CursorView) (keeps : KeepsBudget most period c.script) (is : IsScript c.script) (some : 0 < period) where
-  far : (v : Event) → event_at c.script c.place ≡ Some v → IsFar period v
-  far v e = subst (λ o. IfSome o (IsFar period)) e (keeps.gaps c.place)
+  far : (v : Event) → event_at c.script c.place ≡ Some v → IsAtLeast period v
+  far v e = subst (λ o. IfSome o (IsAtLeast period)) e (keeps.gaps c.place)
 
   refers_timer : (n q : ℕ) → event_at c.script c.place ≡ Some (Timer n) → Refers c.script c.reference q → c.reference ≡ q
   refers_timer n q e (inl none) = absurd (no_such c.script c.place is_timer_event (Timer n) none e refl)
@@ -48,11 +48,11 @@ module _ (most period : ℕ) (c : CursorView) (keeps : KeepsBudget most period c
   given_event q time (Some (Run n)) e refers past early =
       record { script = refl; is = ((event_is c.script c.place (Run n) is e).0, (λ count. sym (ap (λ o. work_with o (work_from c.script (c.place + 1) count)) e)), refers) }
   given_event q time (Some (Sleep n)) e refers past early =
-      record { script = refl; is = (omega (arith, past, far (Sleep n) e), omega (arith, some, far (Sleep n) e), refers_sleep n (time + n) e keeps.alike) }
+      record { script = refl; is = (omega (arith, past, far (Sleep n) e), omega (arith, some, far (Sleep n) e), refers_sleep n (time + n) e keeps.alike.1) }
   given_event q time (Some (Timer n)) e refers past early =
       let same = refers_timer n q e refers in
       record { script = refl; is = (omega (arith, same, far (Timer n) e), leb-false (c.reference + n) time early, inr refl) }
-  given_event q time (Some Wait) e refers past early = absurd (far Wait e)
+  given_event q time (Some Wait) e refers past early = absurd (no_such c.script c.place is_wait_event Wait keeps.alike.0 e refl)
   given_event q time None e refers past early = record { script = refl; is = tt }
 
   pub given_now : (q time : ℕ) → Refers c.script c.reference q → q ≤ time → passes_late_timer c time ≡ false → IsGiven period c q time (given_at c time)

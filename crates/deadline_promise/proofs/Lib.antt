@@ -7,7 +7,7 @@ mod Sums
 mod Choosing
 mod Standing
 mod Ticking
-mod Demand
+mod Owed
 mod Opening
 mod Starting
 mod Unrolling
@@ -20,3 +20,8 @@ mod Ending
 mod Own
 mod Never
 mod Figuring
+mod Stretches
+mod Bounding
+mod Blocked
+mod Listing
+mod Promising

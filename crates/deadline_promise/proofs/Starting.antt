@@ -22,7 +22,7 @@ use Rattle.deadline_promise.specs.Reach.{share_up, reach}
 use Rattle.deadline_promise.proofs.Kept.{IsShare, IsWhole, IsPaced, IsFit, IsCalm}
 use Rattle.deadline_promise.proofs.Opening.{IsBegun, run_opened}
 use Rattle.deadline_promise.proofs.Ticking.{ticks_calm}
-use Rattle.deadline_promise.proofs.Demand.{demand}
+use Rattle.deadline_promise.proofs.Owed.{demand}
 use Rattle.deadline_promise.proofs.Parts.{resting_reach}
 use Rattle.deadline_promise.proofs.Sums.{sum_shares}
 

@@ -22,7 +22,7 @@ get_right [] ys i h = ap (slice_get ys) (omega arith)
 get_right (x ∷ xs) ys zero h = absurd (omega (arith, h))
 get_right (x ∷ xs) ys (suc i) h = get_right xs ys i (omega (arith, h)) ∙ ap (slice_get ys) (omega arith)
 
-length_repeat : (n : ℕ) (xs : List Event) → length (repeat n xs) ≡ n * length xs
+pub length_repeat : (n : ℕ) (xs : List Event) → length (repeat n xs) ≡ n * length xs
 length_repeat zero xs = omega arith
 length_repeat (suc n) xs =
     let both = length-append xs (repeat n xs) in
@@ -61,7 +61,7 @@ some_round s h = go s.phases h.some_phases h.phases where
   go (p ∷ ps) some all = let sum = sum_by-cons phase_len p ps in omega (arith, sum, some_phase p (all 0 p (omega arith)))
 
 -- without end each place has the event of that place of the first round
-event_for_ever : (phases : List PhaseView) (place : ℕ) → 0 < sum_by phase_len phases → event_at (script_of None phases) place ≡ slice_get (round_of phases) (place % sum_by phase_len phases)
+pub event_for_ever : (phases : List PhaseView) (place : ℕ) → 0 < sum_by phase_len phases → event_at (script_of None phases) place ≡ slice_get (round_of phases) (place % sum_by phase_len phases)
 event_for_ever phases place some =
     let long = length_round phases in
     let wide : place + 1 ≤ (place + 1) * sum_by phase_len phases = le-mul_of_pos_right (place + 1) some in
@@ -94,7 +94,7 @@ slice_all P [] i v all e = absurd cc
 slice_all P (x ∷ xs) zero v all e = let same : x ≡ v = cc in subst P same (All-head P x xs all)
 slice_all P (x ∷ xs) (suc i) v all e = slice_all P xs i v (All-tail P x xs all) e
 
-repeat_all : (P : Event → Type 0) (n : ℕ) (xs : List Event) → All P xs → All P (repeat n xs)
+pub repeat_all : (P : Event → Type 0) (n : ℕ) (xs : List Event) → All P xs → All P (repeat n xs)
 repeat_all P zero xs all = All-nil P
 repeat_all P (suc n) xs all = All-append P xs (repeat n xs) all (repeat_all P n xs all)
 

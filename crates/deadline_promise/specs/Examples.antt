@@ -1,5 +1,5 @@
 -- Worked rows of the promise.
-use Rattle.std.specs.Prelude.{ℕ, ◌≡◌, ◌+◌, ◌*◌, pos, List, [], ◌∷◌, Some, None, refl, sum_by, count_by}
+use Rattle.std.specs.Prelude.{ℕ, ◌≡◌, ◌+◌, ◌*◌, pos, Bool, true, false, Option, List, [], ◌∷◌, Some, None, refl, sum_by, count_by}
 use Rattle.cbs_rules.specs.declared.server.Server.{Server}
 use Rattle.task_script.specs.declared.phase.Event.{Event}
 use Rattle.task_script.specs.declared.phase.Event.TheVariants as event
@@ -8,7 +8,12 @@ use Rattle.domain_run.specs.declared.call.Call.{Call}
 use Rattle.domain_run.specs.declared.task.Condition.TheVariants.{Ready, Blocked, Waiting, Leaving}
 use Rattle.domain_run.specs.Tick.{ticks}
 use Rattle.domain_run.specs.Run.{run_of}
-use Rattle.domain_run.specs.examples.Calling.{plain, admit}
+use Rattle.domain_run.specs.examples.Calling.{plain, reclaiming, admit}
+use Rattle.domain_run.specs.Domain.{Domain}
+use Rattle.attr_check.specs.ParamsView.{ParamsView}
+use Rattle.deadline_promise.specs.declared.demand.Demand.{Demand}
+use Rattle.deadline_promise.specs.declared.answer.Promise.TheVariants as answer
+use Rattle.deadline_promise.specs.Answer.{promise_to}
 use Rattle.run_figures.specs.Jobs.{jobs_of}
 use Rattle.run_figures.specs.Figures.{is_late}
 use Rattle.deadline_promise.specs.Reach.{share_up, reach_in, reach}
@@ -105,3 +110,64 @@ heavy =
 
 late_on_two : late 2 996147 heavy 12 3 ≡ 1
 late_on_two = refl
+
+-- THE ANSWERS, by what a script asks for: of a task that is alone, and of one beside it that
+-- reclaims, or has its deadline below its period
+abbrev asks : Option ℕ → Option ℕ → Bool → Demand
+asks work gap alike = record { work_max = work; gap_min = gap; alike = alike }
+
+abbrev alone : Domain
+alone = run_of 1 996147 (admit 1 (plain 3 8 8) (forever (event.Run 3 ∷ event.Timer 8 ∷ [])) ∷ [])
+
+kept_answer : promise_to alone 1 (asks (Some 3) (Some 8) true) ≡ answer.NeverLate
+kept_answer = refl
+
+refused_answer : promise_to alone 2 (asks (Some 3) (Some 8) true) ≡ answer.Refused
+refused_answer = refl
+
+over_budget_answer : promise_to alone 1 (asks (Some 4) (Some 7) false) ≡ answer.OverBudget
+over_budget_answer = refl
+
+endless_work_answer : promise_to alone 1 (asks None None true) ≡ answer.OverBudget
+endless_work_answer = refl
+
+near_releases_answer : promise_to alone 1 (asks (Some 3) (Some 7) false) ≡ answer.NearReleases
+near_releases_answer = refl
+
+mixed_waits_answer : promise_to alone 1 (asks (Some 3) (Some 8) false) ≡ answer.MixedWaits
+mixed_waits_answer = refl
+
+-- no timer and no sleep
+once_answer : promise_to alone 1 (asks (Some 3) None true) ≡ answer.NeverLate
+once_answer = refl
+
+abbrev beside : ParamsView → Domain
+beside p =
+    run_of 1 996147
+    (admit 1 (plain 3 8 8) (forever (event.Run 3 ∷ event.Timer 8 ∷ []))
+    ∷ admit 2 p (once (event.Run 2 ∷ [])) ∷ [])
+
+reclaiming_answer : promise_to (beside (reclaiming 2 8 8)) 1 (asks (Some 3) (Some 8) true)
+    ≡ answer.Reclaiming
+reclaiming_answer = refl
+
+short_deadline_answer : promise_to (beside (plain 2 7 8)) 1 (asks (Some 3) (Some 8) true)
+    ≡ answer.ShortDeadline
+short_deadline_answer = refl
+
+several_cpus_answer : promise_to (run_of 2 996147 heavy) 3 (asks (Some 10) (Some 11) true)
+    ≡ answer.SeveralCpus
+several_cpus_answer = refl
+
+-- the limit leaves no part of 2^20 for the one task, and one for it
+abbrev limited : ℕ → Domain
+limited limit =
+    run_of 1 limit (admit 1 (plain 3 8 8) (forever (event.Run 3 ∷ event.Timer 8 ∷ [])) ∷ [])
+
+full_limit_answer : promise_to (limited 1048576) 1 (asks (Some 3) (Some 8) true)
+    ≡ answer.FullLimit
+full_limit_answer = refl
+
+just_below_answer : promise_to (limited 1048575) 1 (asks (Some 3) (Some 8) true)
+    ≡ answer.NeverLate
+just_below_answer = refl

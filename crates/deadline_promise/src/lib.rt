@@ -5,6 +5,13 @@
 //! (`specs/Promise.antt`). [`budgets_isolate`] carries the theorem.
 #![tactic(auto)]
 
+mod answer;
+mod blocks;
+mod demand;
+mod listed;
+mod span;
 mod theorem;
 
+pub use answer::{Promise, promise_to};
+pub use demand::Demand;
 pub use theorem::budgets_isolate;
