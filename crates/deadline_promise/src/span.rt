@@ -1,8 +1,7 @@
 //! The stretches of work in some events that follow one another, in four numbers: so two scripts
 //! of a million rounds and one round are read alike.
 
-ghost use Rattle.std.specs.Prelude.{◌≡◌, ◌≤◌, ◌<◌, ◌^◌};
-ghost use Rattle.task_script.specs.script.ScriptView.{IsEvent};
+ghost use Rattle.std.specs.Prelude.{◌≡◌, ◌≤◌, ◌^◌};
 ghost use Rattle.deadline_promise.specs.private.Spans as spec;
 
 use task_script::Event;
