@@ -7,7 +7,7 @@ ghost use Rattle.calls_text.specs.Limits.{IsCall, IsSection};
 ghost use Rattle.calls_text.specs.KeptCall.{call_kept};
 ghost use Rattle.calls_text.specs.Reader.{IsWithin, empty_section};
 ghost use Rattle.calls_trace.specs.private.Calls.{ticks_given};
-ghost use Rattle.calls_trace.specs.private.Kept.{IsKeptSection, IsReadSection, KeepsSection, AreKept, IsOneMore};
+ghost use Rattle.calls_trace.specs.private.Kept.{IsKeptSection, IsReadSection, KeepsSection, KeepsCalls, IsOneMore};
 ghost use Rattle.calls_trace.specs.private.ReadRuns.{IsBegun};
 ghost use Rattle.calls_trace.specs.private.Replaying.{IsRunOf, IsToldOf};
 
@@ -44,7 +44,7 @@ impl KeptSection {
     #[inline(always)]
     fn take(&mut self, alloc: Global, kept: Kept) -> Result<(), NoMemory>
         requires call { IsCall (call_kept kept) }
-        requires kept { AreKept self.old }
+        requires kept { KeepsCalls self.old }
         ensures { OnOk result (IsOneMore self.old (call_kept kept) self.new) }
     {
         if self.calls.is_empty() && !is_advance(&kept) {

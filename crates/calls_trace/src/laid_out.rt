@@ -16,7 +16,8 @@ pub(crate) fn lay_out_if_admitted(
 ) -> bool
     requires { number < 65536 }
     ensures script { script.new ≡ script.old }
-    ensures refused { result ≡ false → IsTrue (is_refusal (admit_reply state.now number params.now)) }
+    ensures refused { result ≡ false
+        → IsTrue (is_refusal (admit_reply state.now number params.now)) }
 {
     match state.admit_reply(number, params) {
         Reply::Admitted => {

@@ -28,11 +28,11 @@ pub(crate) struct Step {
 }
 
 impl Model for Step {
-    ghost use Rattle.task_script.specs.private.Steps.{StepView, event_of};
+    ghost use Rattle.task_script.specs.private.Steps.{StepView, event_in_step};
 
     ghost Value = { StepView };
 
-    ghost view = { λ s. record { event = event_of s.deed s.micros; laps = s.laps } };
+    ghost view = { λ s. record { event = event_in_step s.deed s.micros; laps = s.laps } };
 }
 
 #[inline(always)]

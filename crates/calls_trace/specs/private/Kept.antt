@@ -34,16 +34,17 @@ pub record IsAtStart (r : RunWithNames) : Type 0 where
   pub bare : r.state.switches ≡ []
 
 -- behind it calls of sections are kept
-pub record AreKept (k : KeptSection) : Type 0 where
+pub record KeepsCalls (k : KeptSection) : Type 0 where
   pub start : IsAtStart k.run
   pub are : All IsCall k.calls
 
 -- one call more is made, or kept
 pub record IsOneMore (was : KeptSection) (call : Call) (is : KeptSection) : Type 0 where
   pub same_cpus : is.cpus ≡ was.cpus
-  pub kept : AreKept is
+  pub kept : KeepsCalls is
   pub few : length is.calls ≤ length was.calls + 1
-  pub domain : after_calls is.run.state is.calls ≡ after_calls was.run.state (was.calls ++ call ∷ [])
+  pub domain : after_calls is.run.state is.calls
+      ≡ after_calls was.run.state (was.calls ++ call ∷ [])
   pub called : (n : ℕ) → names_of is.run.state is.calls (name_of_task is.run.names) n
       ≡ names_of was.run.state (was.calls ++ call ∷ []) (name_of_task was.run.names) n
 
@@ -56,7 +57,7 @@ pub record IsMadeUpTo (s : SectionView) (left : List Call) (r : RunWithNames) : 
 pub record IsKeptSection (s : SectionView) (k : KeptSection) : Type 0 where
   pub same_cpus : k.cpus ≡ s.cpus
   pub made : IsMadeUpTo s k.calls k.run
-  pub kept : AreKept k
+  pub kept : KeepsCalls k
   pub few : length k.calls ≤ length s.entries
 
 -- those of some section

@@ -12,11 +12,11 @@ pub record StepView : Type 0 where
   pub laps : ℕ
 
 -- an event by what it does, and by its microseconds
-abbrev pub event_of : Deed → ℕ → Event
-event_of ToRun n = Run n
-event_of ToSleep n = Sleep n
-event_of ToTimer n = Timer n
-event_of ToWait n = Wait
+abbrev pub event_in_step : Deed → ℕ → Event
+event_in_step ToRun n = Run n
+event_in_step ToSleep n = Sleep n
+event_in_step ToTimer n = Timer n
+event_in_step ToWait n = Wait
 
 abbrev pub deed_of : Event → Deed
 deed_of (Run n) = ToRun

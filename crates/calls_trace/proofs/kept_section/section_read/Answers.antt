@@ -13,7 +13,7 @@ use Rattle.calls_text.proofs.CallerLemmas.{section_within}
 use Rattle.switch_text.specs.Names.{name_of_task}
 use Rattle.calls_trace.specs.declared.kept_section.KeptSection.{KeptSection}
 use Rattle.calls_trace.specs.Replay.{names_of, no_names}
-use Rattle.calls_trace.specs.private.Kept.{AreKept, IsOneMore}
+use Rattle.calls_trace.specs.private.Kept.{KeepsCalls, IsOneMore}
 use Rattle.calls_trace.proofs.Starting.{made_more}
 use Rattle.calls_trace.proofs.kept_section.section_read.Goals as goal
 
@@ -35,7 +35,7 @@ calls-init c =
     let made = c.in_ok-open.ensures in
     let none = c.new.ensures in
     let long = ap (λ (cs : List Call). length cs) none in
-    let kept : AreKept (record { cpus = c.args.cpus; run = run; calls = c.new.result }) = record {
+    let kept : KeepsCalls (record { cpus = c.args.cpus; run = run; calls = c.new.result }) = record {
       start = record {
         all_named = λ n h. let no : false ≡ true = subst (λ (d : Domain). IsAdmitted d.used n) made.state h in absurd cc;
         silent = made.wanted;
