@@ -20,7 +20,7 @@ pub use book::{
     Pass, Prepared, move_task, prepare,
 };
 pub use calls_text::{
-    Call, CallsFault, CallsReader, Entry, Kept, NoMemory, Reply, Section, put_call,
-    put_domain, read_calls, write_calls,
+    Call, CallsFault, CallsReader, Entry, Kept, NoMemory, Reply, Section, put_call, put_domain,
+    read_calls, write_calls,
 };
 pub use core_steps::books_are_the_cores;
