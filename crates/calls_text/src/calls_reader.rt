@@ -10,6 +10,7 @@ use crate::fault::{CallsFault, PartFault};
 use crate::header::header_of;
 use crate::kept_call::Kept;
 use crate::line_text::{domain_of, known_call};
+use crate::reused::Reused;
 use crate::section::Entry;
 use std::alloc::Global;
 use std::marker::Model;
@@ -44,14 +45,14 @@ impl Numbered {
     ghost use Rattle.calls_text.specs.private.Numbered.{numbered_entry};
 
     /// The entry of the call.
-    fn into_entry(self) -> Entry
+    fn into_entry(self, reused: &mut Reused<'_>) -> Entry
         ensures { result ≡ numbered_entry self }
     {
         let Numbered { client, seq, kept } = self;
         Entry {
             client,
             seq,
-            call: kept.into_call(),
+            call: reused.into_call(kept),
             reply: None,
         }
     }
@@ -60,11 +61,12 @@ impl Numbered {
 /// The call of a line, after so many calls of each client. `later` says whether the header is that
 /// of calls of the second form.
 #[inline(always)]
-fn numbered_of(
+fn numbered_of<'t>(
     alloc: Global,
-    line: &[u8],
+    line: &'t [u8],
     later: bool,
     made: &mut [u64; 64],
+    reused: &mut Reused<'t>,
 ) -> Result<Numbered, PartFault>
     requires { (k : ℕ) → slice_index made.old k ≤ 65536 }
     ensures found { IfOk result (λ n. IsNext later line.now made.old (numbered_entry n)) }
@@ -72,7 +74,7 @@ fn numbered_of(
     ensures kept { IfErr result (λ _. made.new ≡ made.old) }
     ensures fault { IfErr result (λ e. PartFails e (known_at later line.now)) }
 {
-    let (client, kept) = known_call(alloc, line, later)?;
+    let (client, kept) = known_call(alloc, line, later, reused)?;
     Ok(Numbered {
         client,
         seq: counted(made, client),
@@ -82,9 +84,10 @@ fn numbered_of(
 
 /// A calls text that is read call by call, so that each call can be made, and let go, before the
 /// next is read: [`CallsReader::next_domain`] begins a section, [`CallsReader::next_entry`] reads
-/// its entries, until it answers none, or [`CallsReader::next_kept`] their calls alone. What stands
-/// behind the last section that was read may still be bad: that a text is one is known where
-/// [`CallsReader::next_domain`] answers none.
+/// its entries, until it answers none, or [`CallsReader::next_kept`] their calls alone. Both take
+/// what earlier calls leave to be used again ([`Reused`]). What stands behind the last section that
+/// was read may still be bad: that a text is one is known where [`CallsReader::next_domain`]
+/// answers none.
 #[derive(Drop)]
 pub struct CallsReader<'t> {
     /// The text behind what was read.
@@ -193,7 +196,11 @@ impl<'t> CallsReader<'t> {
 
     /// The next call of the section, as it is numbered; none behind its last one.
     #[inline(always)]
-    fn next_numbered(&mut self, alloc: Global) -> Result<Option<Numbered>, CallsFault>
+    fn next_numbered(
+        &mut self,
+        alloc: Global,
+        reused: &mut Reused<'t>,
+    ) -> Result<Option<Numbered>, CallsFault>
         ensures next { (text : List ℕ) (before : List SectionView) (section : SectionView)
             → IsWithin text before section self.old
             → IsNextNumbered text before section self.new result }
@@ -209,7 +216,7 @@ impl<'t> CallsReader<'t> {
         let Some((line, after)) = cut_line(self.rest) else {
             return Ok(None);
         };
-        match numbered_of(alloc, line, self.later, &mut self.made) {
+        match numbered_of(alloc, line, self.later, &mut self.made, reused) {
             Ok(numbered) => {
                 self.calls += 1;
                 self.lines += 1;
@@ -227,7 +234,11 @@ impl<'t> CallsReader<'t> {
     /// # Errors
     /// 31 [`CallsFault::Memory`]: a growth was refused. The reader stays as it was.
     #[inline(always)]
-    pub fn next_entry(&mut self, alloc: Global) -> Result<Option<Entry>, CallsFault>
+    pub fn next_entry(
+        &mut self,
+        alloc: Global,
+        reused: &mut Reused<'t>,
+    ) -> Result<Option<Entry>, CallsFault>
         // Within a section the entry is its next one, or it is read to its end.
         ensures next { (text : List ℕ) (before : List SectionView) (section : SectionView)
             → IsWithin text before section self.old
@@ -239,8 +250,8 @@ impl<'t> CallsReader<'t> {
             (λ found. IfSome found (λ _. bytes_left self.new < bytes_left self.old)) }
         ensures never_more { bytes_left self.new ≤ bytes_left self.old }
     {
-        match self.next_numbered(alloc) {
-            Ok(Some(numbered)) => Ok(Some(numbered.into_entry())),
+        match self.next_numbered(alloc, reused) {
+            Ok(Some(numbered)) => Ok(Some(numbered.into_entry(reused))),
             Ok(None) => Ok(None),
             Err(e) => Err(e),
         }
@@ -251,7 +262,11 @@ impl<'t> CallsReader<'t> {
     /// # Errors
     /// 31 [`CallsFault::Memory`]: a growth was refused. The reader stays as it was.
     #[inline(always)]
-    pub fn next_kept(&mut self, alloc: Global) -> Result<Option<Kept>, CallsFault>
+    pub fn next_kept(
+        &mut self,
+        alloc: Global,
+        reused: &mut Reused<'t>,
+    ) -> Result<Option<Kept>, CallsFault>
         // Within a section it is the call of the next entry, or the section is read to its end.
         ensures next { (text : List ℕ) (before : List SectionView) (section : SectionView)
             → IsWithin text before section self.old
@@ -263,7 +278,7 @@ impl<'t> CallsReader<'t> {
             (λ found. IfSome found (λ _. bytes_left self.new < bytes_left self.old)) }
         ensures never_more { bytes_left self.new ≤ bytes_left self.old }
     {
-        match self.next_numbered(alloc) {
+        match self.next_numbered(alloc, reused) {
             Ok(Some(numbered)) => Ok(Some(numbered.kept)),
             Ok(None) => Ok(None),
             Err(e) => Err(e),
@@ -282,19 +297,25 @@ impl<'t> CallsReader<'t> {
         ensures fault { IfErr result (λ e. e ≡ CallsFault.Memory) }
     {
         let mut entries = Vec::new(alloc);
+        let mut reused = Reused::none();
         // What is let go of goes by one call, not written out with all that is inside.
         'entries: loop {
-            match self.next_entry(alloc) {
+            match self.next_entry(alloc, &mut reused) {
                 Ok(Some(entry)) => match entries.push(entry) {
                     Ok(()) => {}
                     Err(refused) => {
                         drop(refused);
+                        drop(reused);
                         drop(entries);
                         return Err(CallsFault::Memory);
                     }
                 },
-                Ok(None) => return Ok(entries),
+                Ok(None) => {
+                    drop(reused);
+                    return Ok(entries);
+                }
                 Err(e) => {
+                    drop(reused);
                     drop(entries);
                     return Err(e);
                 }

@@ -6,7 +6,7 @@ use crate::cut::{behind, cut};
 use crate::fault::PartFault;
 use crate::kept_call::Kept;
 use crate::number::{number_first, number_within};
-use crate::script_text::script_of;
+use crate::reused::Reused;
 use crate::times::Times;
 use attr_check::{Params, SchedAttr, check};
 use domain_run::{Call, Name, Script};
@@ -127,11 +127,15 @@ fn params_of(times: Times, reclaim: bool) -> Result<Params, PartFault>
 
 /// The delay and the script of an admission.
 #[tactic(auto, unfolding(crate::specs::private::Reading::plan_at))]
-fn plan_of(alloc: Global, text: &[u8]) -> Result<(u64, Script), PartFault>
+fn plan_of<'t>(
+    alloc: Global,
+    text: &'t [u8],
+    reused: &mut Reused<'t>,
+) -> Result<(u64, Script), PartFault>
     ensures { PartGives (λ p. p) result (plan_at text.now) }
 {
     let (delay, rest) = field(text, 0, MOST_DELAY)?;
-    let script = script_of(alloc, rest)?;
+    let script = reused.script_of(alloc, rest)?;
     Ok((delay, script))
 }
 
@@ -168,7 +172,7 @@ fn newcomer_of(alloc: Global, text: &[u8]) -> Result<(Newcomer, &[u8]), PartFaul
 /// What follows the client in an `admit` line.
 #[inline(never)]
 #[tactic(auto, unfolding(crate::specs::private::Reading::admit_at))]
-fn admit_of(alloc: Global, text: &[u8]) -> Result<Kept, PartFault>
+fn admit_of<'t>(alloc: Global, text: &'t [u8], reused: &mut Reused<'t>) -> Result<Kept, PartFault>
     ensures { PartGives call_kept result (admit_at text.now) }
 {
     let (newcomer, rest) = newcomer_of(alloc, text)?;
@@ -177,7 +181,7 @@ fn admit_of(alloc: Global, text: &[u8]) -> Result<Kept, PartFault>
         name,
         params,
     } = newcomer;
-    let (delay, script) = plan_of(alloc, rest)?;
+    let (delay, script) = plan_of(alloc, rest, reused)?;
     let call = Call::Admit {
         number,
         name,
@@ -185,13 +189,13 @@ fn admit_of(alloc: Global, text: &[u8]) -> Result<Kept, PartFault>
         delay,
         script,
     };
-    Kept::long(alloc, call)
+    reused.long(alloc, call)
 }
 
 /// What follows the client in an `arrive` line.
 #[inline(never)]
 #[tactic(auto, unfolding(crate::specs::private::Reading::arrive_at))]
-fn arrive_of(alloc: Global, text: &[u8]) -> Result<Kept, PartFault>
+fn arrive_of<'t>(alloc: Global, text: &'t [u8], reused: &mut Reused<'t>) -> Result<Kept, PartFault>
     ensures { PartGives call_kept result (arrive_at text.now) }
 {
     let (newcomer, rest) = newcomer_of(alloc, text)?;
@@ -200,14 +204,14 @@ fn arrive_of(alloc: Global, text: &[u8]) -> Result<Kept, PartFault>
         name,
         params,
     } = newcomer;
-    let script = script_of(alloc, rest)?;
+    let script = reused.script_of(alloc, rest)?;
     let call = Call::Arrive {
         number,
         name,
         params,
         script,
     };
-    Kept::long(alloc, call)
+    reused.long(alloc, call)
 }
 
 /// The number with which the bandwidth word refused, from what stands behind the flag of a
@@ -239,7 +243,7 @@ fn answer_of(text: &[u8]) -> Result<(bool, Option<u64>), PartFault>
 /// What follows the client in a `regrade` line.
 #[inline(never)]
 #[tactic(auto, unfolding(crate::specs::private::Reading::regrade_at))]
-fn regrade_of(alloc: Global, text: &[u8]) -> Result<Kept, PartFault>
+fn regrade_of(alloc: Global, text: &[u8], reused: &mut Reused<'_>) -> Result<Kept, PartFault>
     ensures { PartGives call_kept result (regrade_at text.now) }
 {
     let (number, rest) = field(text, 1, MOST_NUMBER)?;
@@ -251,7 +255,7 @@ fn regrade_of(alloc: Global, text: &[u8]) -> Result<Kept, PartFault>
         params,
         word,
     };
-    Kept::long(alloc, call)
+    reused.long(alloc, call)
 }
 
 /// What follows the client in a `wake` line.
@@ -307,11 +311,11 @@ fn change_of(text: &[u8]) -> Result<(u64, Option<u64>), PartFault>
 /// What follows the client in a `limit` line.
 #[inline(never)]
 #[tactic(auto, unfolding(crate::specs::private::Reading::limit_at))]
-fn limit_of(alloc: Global, text: &[u8]) -> Result<Kept, PartFault>
+fn limit_of(alloc: Global, text: &[u8], reused: &mut Reused<'_>) -> Result<Kept, PartFault>
     ensures { PartGives call_kept result (limit_at text.now) }
 {
     let (limit, word) = change_of(text)?;
-    Kept::long(alloc, Call::Limit { limit, word })
+    reused.long(alloc, Call::Limit { limit, word })
 }
 
 /// The word at the front of a call's line.
@@ -365,41 +369,55 @@ fn word_first(line: &[u8]) -> Option<(Word, &[u8])>
 /// What follows the client in a line of this word.
 #[inline(always)]
 #[tactic(auto, unfolding(crate::specs::private::Reading::worded_at))]
-fn worded(alloc: Global, word: Word, text: &[u8]) -> Result<Kept, PartFault>
+fn worded<'t>(
+    alloc: Global,
+    word: Word,
+    text: &'t [u8],
+    reused: &mut Reused<'t>,
+) -> Result<Kept, PartFault>
     ensures { PartGives call_kept result (worded_at (word_spelled word) text.now) }
 {
     match word {
-        Word::Admit => admit_of(alloc, text),
-        Word::Regrade => regrade_of(alloc, text),
+        Word::Admit => admit_of(alloc, text, reused),
+        Word::Regrade => regrade_of(alloc, text, reused),
         Word::Wake => wake_of(text),
         Word::Leave => leave_of(text),
         Word::Advance => advance_of(text),
-        Word::Limit => limit_of(alloc, text),
+        Word::Limit => limit_of(alloc, text, reused),
         Word::Depart => depart_of(text),
-        Word::Arrive => arrive_of(alloc, text),
+        Word::Arrive => arrive_of(alloc, text, reused),
     }
 }
 
 /// The client and the call that stand behind this word and its space.
 #[inline(always)]
-fn called(alloc: Global, word: Word, text: &[u8]) -> Result<(u32, Kept), PartFault>
+fn called<'t>(
+    alloc: Global,
+    word: Word,
+    text: &'t [u8],
+    reused: &mut Reused<'t>,
+) -> Result<(u32, Kept), PartFault>
     ensures gives { PartGives (λ p. (p.0, call_kept p.1)) result
         (called_at (word_spelled word) text.now) }
     ensures within { IfOk result (λ p. (1 ≤ p.0) × (p.0 ≤ 64)) }
 {
     let (client, rest) = field(text, 1, MOST_CLIENT)?;
-    let kept = worded(alloc, word, rest)?;
+    let kept = worded(alloc, word, rest, reused)?;
     Ok((client as u32, kept))
 }
 
 /// The client and the call that a line spells.
 #[inline(always)]
-fn kept_of(alloc: Global, line: &[u8]) -> Result<(u32, Kept), PartFault>
+fn kept_of<'t>(
+    alloc: Global,
+    line: &'t [u8],
+    reused: &mut Reused<'t>,
+) -> Result<(u32, Kept), PartFault>
     ensures gives { PartGives (λ p. (p.0, call_kept p.1)) result (call_at line.now) }
     ensures within { IfOk result (λ p. (1 ≤ p.0) × (p.0 ≤ 64)) }
 {
     match word_first(line) {
-        Some((word, rest)) => called(alloc, word, rest),
+        Some((word, rest)) => called(alloc, word, rest, reused),
         None => Err(PartFault::Bad),
     }
 }
@@ -408,11 +426,16 @@ fn kept_of(alloc: Global, line: &[u8]) -> Result<(u32, Kept), PartFault>
 /// has none.
 #[inline(always)]
 #[tactic(auto, unfolding(crate::specs::private::Reading::known_at))]
-pub(crate) fn known_call(alloc: Global, line: &[u8], later: bool) -> Result<(u32, Kept), PartFault>
+pub(crate) fn known_call<'t>(
+    alloc: Global,
+    line: &'t [u8],
+    later: bool,
+    reused: &mut Reused<'t>,
+) -> Result<(u32, Kept), PartFault>
     ensures gives { PartGives (λ p. (p.0, call_kept p.1)) result (known_at later line.now) }
     ensures within { IfOk result (λ p. (1 ≤ p.0) × (p.0 ≤ 64)) }
 {
-    let (client, kept) = kept_of(alloc, line)?;
+    let (client, kept) = kept_of(alloc, line, reused)?;
     if kept.is_later() && !later {
         return Err(PartFault::Bad);
     }

@@ -1,4 +1,4 @@
-ghost use Rattle.std.specs.Prelude.{◌≡◌, ◌≤◌, ℕ, List, [], ◌∷◌, ◌++◌, IfOk, IfErr, MatchResult};
+ghost use Rattle.std.specs.Prelude.{◌≡◌, ◌≤◌, ℕ, List, [], ◌∷◌, ◌++◌, length, IfOk, IfErr, MatchResult};
 ghost use Rattle.std.specs.Option.{option_map};
 ghost use Rattle.calls_text.specs.declared.fault.PartFault.TheVariants as PartFault;
 ghost use Rattle.task_script.specs.script.Segments.{rounds_of, IsLoops};
@@ -20,6 +20,8 @@ const MOST_ITEMS: u64 = 64;
 const ROOM: usize = 2;
 /// The most events behind the first ones.
 const MOST_MORE: usize = 62;
+/// Commas are counted in pieces of so many bytes.
+const PIECE: usize = 255;
 
 /// `rN`, `sN`, `tN` or `w` at the front of a text, and what follows.
 #[inline(always)]
@@ -67,28 +69,46 @@ fn add(phases: &mut Vec<Phase>, phase: Phase, is_last: bool) -> Result<(), PartF
     Ok(())
 }
 
-/// The number of commas in a text, up to the most events that may follow.
+/// The number of commas in a short text.
+fn few_commas(text: &[u8]) -> u8
+    requires { length text.now ≤ 255 }
+{
+    let mut count: u8 = 0;
+    for b in text {
+        count += u8::from(*b == b',');
+    }
+    count
+}
+
+/// The number of commas in a text, up to the most events that may follow. They are counted in short
+/// pieces: such a count fits into a byte, so many bytes are counted at a time.
 fn commas(text: &[u8]) -> usize
     ensures { result ≤ 62 }
 {
-    text.iter().filter(|b| **b == b',').count().min(MOST_MORE)
+    let mut count: usize = 0;
+    let mut rest = text;
+    while rest.len() > PIECE {
+        let (piece, behind) = rest.split_at(PIECE);
+        count = count.saturating_add(usize::from(few_commas(piece)));
+        rest = behind;
+    }
+    count
+        .saturating_add(usize::from(few_commas(rest)))
+        .min(MOST_MORE)
 }
 
-/// Room for one event more, and for those that stand behind it. Room for a long phase is made once.
-#[inline(always)]
+/// Room for the events from the third on: one, and those behind it. Room for a long phase is made
+/// once.
+#[inline(never)]
 fn make_room(events: &mut Vec<Event>, behind: Option<&[u8]>) -> Result<(), PartFault>
     ensures items { IfOk result (λ _. events.new.items ≡ events.old.items) }
     ensures fault { IfErr result (λ e. e ≡ PartFault.Memory) }
 {
-    if events.is_empty() {
-        events.try_reserve_exact(if behind.is_none() { 1 } else { ROOM })?;
-    } else if events.len() == ROOM {
-        let others = match behind {
-            Some(text) => 1 + commas(text),
-            None => 0,
-        };
-        events.try_reserve_exact(1 + others)?;
-    }
+    let others = match behind {
+        Some(text) => 1 + commas(text),
+        None => 0,
+    };
+    events.try_reserve_exact(1 + others)?;
     Ok(())
 }
 
@@ -98,7 +118,13 @@ fn put(events: &mut Vec<Event>, event: Event, behind: Option<&[u8]>) -> Result<(
     ensures items { IfOk result (λ _. events.new.items ≡ events.old.items ++ event ∷ []) }
     ensures fault { IfErr result (λ e. e ≡ PartFault.Memory) }
 {
-    make_room(events, behind)?;
+    if events.len() == events.capacity() {
+        if events.is_empty() {
+            events.try_reserve_exact(if behind.is_none() { 1 } else { ROOM })?;
+        } else {
+            make_room(events, behind)?;
+        }
+    }
     events.push(event)?;
     Ok(())
 }

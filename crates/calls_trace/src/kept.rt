@@ -5,7 +5,7 @@ ghost use Rattle.std.specs.String.{string_bytes};
 ghost use Rattle.calls_trace.specs.private.NameGiven.{name_given};
 
 use crate::named_run::text_of;
-use calls_text::Kept;
+use calls_text::{Kept, Reused};
 use domain_run::{Call, NoMemory};
 use std::alloc::Global;
 use std::marker::Model;
@@ -153,8 +153,13 @@ impl KeptCalls {
         Ok(())
     }
 
-    /// One call more, behind the others. The block that it stands in is given back.
-    pub(crate) fn push(&mut self, alloc: Global, kept: Kept) -> Result<(), NoMemory>
+    /// One call more, behind the others. The block that it stands in is used again.
+    pub(crate) fn push(
+        &mut self,
+        alloc: Global,
+        kept: Kept,
+        reused: &mut Reused<'_>,
+    ) -> Result<(), NoMemory>
         requires { IsCall (call_kept kept) }
         ensures { OnOk result (self.new ≡ self.old ++ call_kept kept ∷ []) }
     {
@@ -165,7 +170,7 @@ impl KeptCalls {
             Kept::Advance { ticks } => self.push_short(Place::Advance {
                 ticks: ticks as u32,
             }),
-            Kept::Long(call) => self.push_long(spelled_of(alloc, Box::into_inner(call))?),
+            long => self.push_long(spelled_of(alloc, reused.into_call(long))?),
         }
     }
 

@@ -14,7 +14,7 @@ ghost use Rattle.calls_trace.specs.private.Replaying.{IsRunOf, IsToldOf};
 use crate::kept::KeptCalls;
 use crate::named_run::RunWithNames;
 use crate::read_runs::next_of;
-use calls_text::{CallsReader, Kept};
+use calls_text::{CallsReader, Kept, Reused};
 use domain_run::{Call, NoMemory};
 use std::alloc::Global;
 
@@ -42,16 +42,16 @@ fn is_advance(kept: &Kept) -> bool
 impl KeptSection {
     /// One call more: it is made, or kept behind an advance.
     #[inline(always)]
-    fn take(&mut self, alloc: Global, kept: Kept) -> Result<(), NoMemory>
+    fn take(&mut self, alloc: Global, kept: Kept, reused: &mut Reused<'_>) -> Result<(), NoMemory>
         requires call { IsCall (call_kept kept) }
         requires kept { KeepsCalls self.old }
         ensures { OnOk result (IsOneMore self.old (call_kept kept) self.new) }
     {
         if self.calls.is_empty() && !is_advance(&kept) {
-            self.run.make_kept(alloc, kept)?;
+            self.run.make_kept(alloc, kept, reused)?;
             return Ok(());
         }
-        self.calls.push(alloc, kept)?;
+        self.calls.push(alloc, kept, reused)?;
         Ok(())
     }
 
@@ -94,18 +94,22 @@ pub(crate) fn section_read(
         run: RunWithNames::open(alloc, cpus, limit, false)?,
         calls: KeptCalls::new(alloc),
     };
-    // The section is let go of by one call: its parts would be written out on each way.
-    'calls: while let Some(kept) = match next_of(alloc, reader) {
+    let mut reused = Reused::none();
+    // Both are let go of by one call: their parts would be written out on each way.
+    'calls: while let Some(kept) = match next_of(alloc, reader, &mut reused) {
         Ok(found) => found,
         Err(error) => {
+            drop(reused);
             drop(section);
             return Err(error);
         }
     } {
-        if let Err(error) = section.take(alloc, kept) {
+        if let Err(error) = section.take(alloc, kept, &mut reused) {
+            drop(reused);
             drop(section);
             return Err(error);
         }
     }
+    drop(reused);
     Ok(section)
 }

@@ -21,7 +21,7 @@ ghost use Rattle.calls_trace.specs.private.Recorded.{names_given_by, given_by_al
 
 use crate::laid_out::lay_out_if_admitted;
 use attr_check::Params;
-use calls_text::{Entry, Kept, Section};
+use calls_text::{Entry, Kept, Reused, Section};
 use domain_run::{Call, Log, Name, NoMemory, Reply, Script, State};
 use indexmap::IndexMap;
 use std::alloc::Global;
@@ -231,6 +231,7 @@ impl RunWithNames {
     }
 
     /// Makes a call; the log is told what it tells.
+    #[inline(always)]
     pub(crate) fn make(&mut self, alloc: Global, call: Call) -> Result<(), NoMemory>
         requires call { IsCall call }
         requires early { self.old.state.time + 60000000 ≤ 2 ^ 42 }
@@ -280,8 +281,14 @@ impl RunWithNames {
         }
     }
 
-    /// As `make`, of a call in little room. What is short is made in place.
-    pub(crate) fn make_kept(&mut self, alloc: Global, kept: Kept) -> Result<(), NoMemory>
+    /// As `make`, of a call in little room. What is short is made in place. The block of another
+    /// call is used again.
+    pub(crate) fn make_kept(
+        &mut self,
+        alloc: Global,
+        kept: Kept,
+        reused: &mut Reused<'_>,
+    ) -> Result<(), NoMemory>
         requires call { IsCall (call_kept kept) }
         requires early { self.old.state.time + 60000000 ≤ 2 ^ 42 }
         requires named { AdmittedHaveNames self.old.state self.old.names }
@@ -304,7 +311,7 @@ impl RunWithNames {
             Kept::Leave { number } => self.leave(number),
             Kept::Depart { number } => self.depart(number),
             Kept::Advance { ticks } => self.advance(ticks),
-            Kept::Long(call) => self.make(alloc, Box::into_inner(call)),
+            long => self.make(alloc, reused.into_call(long)),
         }
     }
 

@@ -129,9 +129,9 @@ impl NamedDomain {
         }
     }
 
-    /// Makes a call, of an advance no tick; answers how many ticks it has still to make.
-    #[inline(always)]
-    fn make(&mut self, call: Call, text: String) -> u64
+    /// As `make`, of any call.
+    #[inline(never)]
+    fn make_any(&mut self, call: Call, text: String) -> u64
         requires call { IsCallReady call }
         requires text { string_bytes text ≡ name_given call }
         requires room { room_of call ≤ spare self.old.names }
@@ -180,6 +180,39 @@ impl NamedDomain {
             } => self.admit(number, name, params, 0, script, text),
         }
         0
+    }
+
+    /// Makes a call, of an advance no tick; answers how many ticks it has still to make. A short
+    /// one is made in place.
+    #[inline(always)]
+    fn make(&mut self, call: Call, text: String) -> u64
+        requires call { IsCallReady call }
+        requires text { string_bytes text ≡ name_given call }
+        requires room { room_of call ≤ spare self.old.names }
+        requires called { AdmittedHaveNames self.old.domain self.old.names }
+        ensures domain { ticks result self.new.domain ≡ after_call self.old.domain call }
+        ensures names { MapGives self.new.names
+            (names_after self.old.domain call (name_of_task self.old.names)) }
+        ensures called { AdmittedHaveNames self.new.domain self.new.names }
+        ensures room { spare self.old.names ≤ spare self.new.names + room_of call }
+        ensures most { result ≤ 60000000 }
+    {
+        match call {
+            Call::Advance { ticks } => ticks,
+            Call::Wake { number } => {
+                self.domain.wake(number);
+                0
+            }
+            Call::Leave { number } => {
+                self.domain.leave(number);
+                0
+            }
+            Call::Depart { number } => {
+                self.domain.depart(number);
+                0
+            }
+            long => self.make_any(long, text),
+        }
     }
 }
 

@@ -8,13 +8,17 @@ ghost use Rattle.calls_text.specs.Reader.{IsWithin, empty_section, bytes_left};
 ghost use Rattle.calls_trace.specs.private.ReadRuns.{IsBegun, IsReadRun};
 
 use crate::named_run::RunWithNames;
-use calls_text::{CallsReader, Kept};
+use calls_text::{CallsReader, Kept, Reused};
 use domain_run::NoMemory;
 use std::alloc::Global;
 
 /// The next call of a section; none behind its last one.
 #[inline(always)]
-pub(crate) fn next_of(alloc: Global, reader: &mut CallsReader<'_>) -> Result<Option<Kept>, NoMemory>
+pub(crate) fn next_of<'t>(
+    alloc: Global,
+    reader: &mut CallsReader<'t>,
+    reused: &mut Reused<'t>,
+) -> Result<Option<Kept>, NoMemory>
     ensures next { (text : List ℕ) (before : List SectionView) (section : SectionView)
         → IsWithin text before section reader.old
         → IfOk result (λ found. IsNextKept text before section reader.new (Ok found)) }
@@ -23,7 +27,7 @@ pub(crate) fn next_of(alloc: Global, reader: &mut CallsReader<'_>) -> Result<Opt
         (λ found. IfSome found (λ _. bytes_left reader.new < bytes_left reader.old)) }
     ensures never_more { bytes_left reader.new ≤ bytes_left reader.old }
 {
-    match reader.next_kept(alloc) {
+    match reader.next_kept(alloc, reused) {
         Ok(found) => Ok(found),
         Err(_) => Err(NoMemory),
     }
@@ -43,19 +47,23 @@ pub(crate) fn run_read(
         → IfOk result (IsReadRun text before cpus wanted reader.new) }
     ensures never_more { bytes_left reader.new ≤ bytes_left reader.old }
 {
-    // The run is let go of by one call: its parts would be written out on each way.
+    // Both are let go of by one call: their parts would be written out on each way.
     let mut run = RunWithNames::open(alloc, cpus, limit, wanted)?;
-    'calls: while let Some(kept) = match next_of(alloc, reader) {
+    let mut reused = Reused::none();
+    'calls: while let Some(kept) = match next_of(alloc, reader, &mut reused) {
         Ok(found) => found,
         Err(error) => {
+            drop(reused);
             drop(run);
             return Err(error);
         }
     } {
-        if let Err(error) = run.make_kept(alloc, kept) {
+        if let Err(error) = run.make_kept(alloc, kept, &mut reused) {
+            drop(reused);
             drop(run);
             return Err(error);
         }
     }
+    drop(reused);
     Ok(run)
 }
