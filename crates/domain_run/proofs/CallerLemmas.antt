@@ -42,6 +42,11 @@ pub use Rattle.domain_run.proofs.ToldRising.{IsBeginning, IsEnd, beginning_is, e
 pub use Rattle.domain_run.proofs.ToldSorted.{pairs_first, pairs_rest, length-in_order}
 pub use Rattle.domain_run.proofs.ToldFew.{ticks_few, told_few, event_few, begun_switches}
 pub use Rattle.domain_run.proofs.Tracing.{AllPairs-append, before_time}
+pub use Rattle.domain_run.proofs.Keeping.{same_replenished, same_settled, same_unblocked, same_ran, AllPairs-map, length-filter_least}
+pub use Rattle.domain_run.proofs.Seating.{AreCandidates, placed_is}
+pub use Rattle.domain_run.proofs.Placing.{ready_in, stands_at, one_index}
+pub use Rattle.domain_run.proofs.KeptKeys.{ticked_numbered}
+pub use Rattle.domain_run.proofs.OrderTicks.{prepared_apart}
 
 and_left : (a b : Bool) → (a && b) ≡ true → a ≡ true
 and_left true b e = refl

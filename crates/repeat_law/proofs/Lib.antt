@@ -1,0 +1,16 @@
+mod Lists
+mod Serving
+mod Rounds
+mod Asking
+mod Parts
+mod Paces
+mod Choosing
+mod Dating
+mod Ticking
+mod Telling
+mod Lasting
+mod Repeating
+mod Keeping
+mod Marking
+mod Figuring
+mod Finding

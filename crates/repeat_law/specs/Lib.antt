@@ -1,0 +1,5 @@
+pub mod Later
+pub mod Shift
+pub mod Repeats
+pub mod Marks
+pub mod Examples
