@@ -14,8 +14,8 @@ use crate::admitting::admit_all;
 use crate::fault::SessionFault;
 use crate::printing::{wanted_for, write_run};
 use call_book::NoMemory;
-use json_order::{JsonFault, JsonKind, read};
-use rtapp_scenario::{Scenario, ScenarioFault, TaskSpec, parse};
+use json_order::{JsonFault, JsonKind, read_lent};
+use rtapp_scenario::{Scenario, ScenarioFault, TaskSpec, parse_lent};
 use session::{
     Client, Finished, Names, Options, Parts, Report, Session, Turnstile, Wanted, end_run,
 };
@@ -62,11 +62,11 @@ fn read_scenario<R: Read>(alloc: Global, reader: &mut Counted<R>) -> Result<Scen
         Err(ReadFault::Failed) => return Err(SessionFault::Read),
         Err(ReadFault::Memory) => return Err(SessionFault::Memory),
     };
-    let tree = match read(alloc, &text) {
+    let tree = match read_lent(alloc, &text) {
         Ok(tree) => tree,
         Err(fault) => return Err(json_fault(fault)),
     };
-    match parse(alloc, &tree) {
+    match parse_lent(alloc, &tree) {
         Ok(scenario) => Ok(scenario),
         Err(fault) => Err(scenario_fault(fault)),
     }

@@ -2,14 +2,13 @@
 use Rattle.std.specs.Prelude.{◌==◌, nat_lt, if◌then◌else◌, encode_utf8, encode_utf8_all}
 use Rattle.std.specs.Str.{IsUtf8}
 use Rattle.std.specs.Char.{is_ascii_digit}
-use Rattle.std.specs.declared.string.String.{String}
-use Rattle.std.specs.declared.alloc.Global.{Global}
-use Rattle.std.proofs.Common.{ℕ, ◌+◌, ◌<◌, ◌≤◌, ◌≡◌, true, false, List, [], ◌∷◌, ◌++◌, length, take, drop, string_bytes, refl, sym, ap, ◌∙◌, subst, arith, Option, Some, None, Result, Ok, Err, IfOk, IfSome, append-nil, append_assoc, length-append}
+use Rattle.std.proofs.Common.{ℕ, ◌+◌, ◌<◌, ◌≤◌, ◌≡◌, true, false, List, [], ◌∷◌, ◌++◌, length, take, drop, refl, sym, ap, ◌∙◌, subst, arith, Option, Some, None, Result, Ok, Err, IfOk, IfSome, append-nil, append_assoc, length-append}
 use Rattle.std.proofs.lemmas.Bool.Decides.{nat_tests}
 use Rattle.std.proofs.lemmas.List.{map_push}
 use Rattle.std.proofs.lemmas.Str.{encode_ascii, encodes-append}
 use Rattle.json_order.specs.Json.{Json, string, array, object, no_items, no_members, number}
-use Rattle.json_order.specs.Seen.{json_of, items_with, members_with}
+use Rattle.json_order.specs.Lent.{text_bytes, lent_json}
+use Rattle.json_order.specs.Seen.{items_with, members_with}
 use Rattle.json_order.specs.Grammar.{is_space, is_mark, AreSpaces, IsSpaced, has_key}
 use Rattle.json_order.specs.Fault.{strict, Spells}
 use Rattle.json_order.specs.private.Entries.{keys_of}
@@ -22,7 +21,8 @@ use Rattle.json_order.specs.declared.place.Escape.TheVariants.{Outside}
 use Rattle.json_order.specs.declared.place.Part.{Part}
 use Rattle.json_order.specs.declared.place.Part.TheVariants.{Minus, Zero, Whole, Dot, Fraction, Mark, Sign, Exponent}
 use Rattle.json_order.specs.declared.word.Word.{Word}
-use Rattle.json_order.specs.declared.tree.Tree.{Tree}
+use Rattle.json_order.specs.declared.lent.LentText.{LentText}
+use Rattle.json_order.specs.declared.lent.LentTree.{LentTree}
 use Rattle.json_order.proofs.AtOnce.{run_append, takes_number, front_more, back_more, word_run, word_ascii}
 use Rattle.json_order.proofs.Bytes.{end_value}
 use Rattle.json_order.proofs.Numbers.{is_eq}
@@ -210,7 +210,7 @@ quote_begins : (es : Entries) (fs : List Frame) → step strict (before_key es f
 quote_begins [] fs = refl
 quote_begins (e ∷ es) fs = refl
 
-pub key_read : (ms : List (String Global × Tree)) (text : List ℕ) (rest begun mid colon next after : List ℕ) →
+pub key_read : (ms : List (LentText × LentTree)) (text : List ℕ) (rest begun mid colon next after : List ℕ) →
     rest ≡ encode_utf8 34 ++ begun → IsQuoted text begun mid → IsSpaced mid colon → colon ≡ encode_utf8 58 ++ next → has_key (keys_of ms) text ≡ false → IsSpaced next after → ReadsKey (entries_of_tree ms) text rest after
 key_read ms text rest begun mid colon next after e q w f fresh z =
     let es = entries_of_tree ms in
@@ -265,8 +265,8 @@ object_more d es key v rest left begun mid next after k n r e w =
 
 -- the last member and the brace
 -- an object of some members and a last one, by what it has of keys and values
-pub object_pushed : (v : Json) (ms : List (String Global × Tree)) (m : String Global × Tree) → v ≡ object (members_with (entries_of_tree (ms ++ m ∷ [])) no_members) → v ≡ object (members_with (entries_of_tree ms ++ (string_bytes m.0, json_of m.1) ∷ []) no_members)
-object_pushed v ms m h = h ∙ ap (λ es. object (members_with es no_members)) (map_push (λ m. (string_bytes m.0, json_of m.1)) ms m)
+pub object_pushed : (v : Json) (ms : List (LentText × LentTree)) (m : LentText × LentTree) → v ≡ object (members_with (entries_of_tree (ms ++ m ∷ [])) no_members) → v ≡ object (members_with (entries_of_tree ms ++ (text_bytes m.0, lent_json m.1) ∷ []) no_members)
+object_pushed v ms m h = h ∙ ap (λ es. object (members_with es no_members)) (map_push (λ m. (text_bytes m.0, lent_json m.1)) ms m)
 
 pub object_whole : (d : ℕ) (es : Entries) (key : List ℕ) (v : Json) (rest left begun mid after : List ℕ) → Crosses (d + 1) (state at_first_key) (before_key es) rest left → ReadsKey es key left begun → ReadsValue d v begun mid → mid ≡ encode_utf8 125 ++ after → Crosses (d + 1) (state at_first_key) (state (behind (object (members_with (es ++ (key, v) ∷ []) no_members)))) rest after
 object_whole d es key v rest left begun mid after k n r e =

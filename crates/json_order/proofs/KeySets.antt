@@ -1,5 +1,5 @@
 -- Sets of keys: what stands in the table, and a key more.
-use Rattle.std.specs.Prelude.{if◌then◌else◌, ◌==◌, string_bytes}
+use Rattle.std.specs.Prelude.{if◌then◌else◌, ◌==◌}
 use Rattle.std.specs.List.{All}
 use Rattle.std.specs.Str.{bytes_eq}
 use Rattle.std.specs.BTreeSet.{BTreeSet, contains_text}
@@ -14,12 +14,14 @@ use Rattle.std.proofs.lemmas.List.Elements.{All-set, All-weaker, All-replicate, 
 use Rattle.std.proofs.lemmas.Slice.Eq.{bytes_eq-Decides}
 use Rattle.std.proofs.Common.{ℕ, zero, suc, ◌+◌, ◌-◌, ◌<◌, ◌≤◌, ◌≡◌, ◌⊎◌, inl, inr, Bool, true, false, cond, ◌&&◌, ◌||◌, List, [], ◌∷◌, ◌++◌, length, get_or, take, drop, Some, refl, sym, ap, ◌∙◌, subst, arith}
 use Rattle.json_order.specs.Grammar.{has_key}
+use Rattle.json_order.specs.Lent.{text_bytes}
 use Rattle.json_order.specs.private.Entries.{keys_of}
 use Rattle.json_order.specs.private.Marks.{mark_of}
 use Rattle.json_order.specs.private.KeySets.{is_key_named, is_key_at, slots_taken, finds, start_of, window, or_beside, has_text, Table, HasKeys}
 use Rattle.json_order.specs.declared.key_set.KeySet.{KeySet}
 use Rattle.json_order.specs.declared.key_set.Slot.{Slot}
-use Rattle.json_order.specs.declared.tree.Tree.{Tree}
+use Rattle.json_order.specs.declared.lent.LentText.{LentText}
+use Rattle.json_order.specs.declared.lent.LentTree.{LentTree}
 use Rattle.json_order.proofs.Keys.{keys_push}
 
 pub none_of : {X : Type 0} (xs : List X) → length xs ≡ 0 → xs ≡ []
@@ -43,9 +45,9 @@ eq_by false false f g = refl
 
 -- KEYS BY THEIR PLACES
 
-pub named_at : (ms : List (String Global × Tree)) (i : ℕ) (m : String Global × Tree) (key : List ℕ) → i < length ms → m ≡ get_or ms i m → is_key_named (keys_of ms) i key ≡ bytes_eq (string_bytes m.0) key
+pub named_at : (ms : List (LentText × LentTree)) (i : ℕ) (m : LentText × LentTree) (key : List ℕ) → i < length ms → m ≡ get_or ms i m → is_key_named (keys_of ms) i key ≡ bytes_eq (text_bytes m.0) key
 named_at [] i m key l e = absurd (omega arith)
-named_at (x ∷ ms) zero m key l e = ap (λ y. bytes_eq (string_bytes y.0) key) (sym e)
+named_at (x ∷ ms) zero m key l e = ap (λ y. bytes_eq (text_bytes y.0) key) (sym e)
 named_at (x ∷ ms) (suc i) m key l e = named_at ms i m key (omega arith) e
 
 named_has : (ks : List (List ℕ)) (i : ℕ) (key : List ℕ) → is_key_named ks i key ≡ true → has_key ks key ≡ true
@@ -282,12 +284,12 @@ empty_table slots others count free e z l none = record {
 
 -- THE KEYS OF MEMBERS
 
-pub keys_length : (ms : List (String Global × Tree)) → length (keys_of ms) ≡ length ms
+pub keys_length : (ms : List (LentText × LentTree)) → length (keys_of ms) ≡ length ms
 keys_length [] = refl
 keys_length (m ∷ ms) = ap suc (keys_length ms)
 
 -- the keys of some members, and of the one behind them
-pub keys_more : (ms : List (String Global × Tree)) (place : ℕ) (m : String Global × Tree) → place < length ms → m ≡ get_or ms place m → keys_of (take (place + 1) ms) ≡ keys_of (take place ms) ++ string_bytes m.0 ∷ []
+pub keys_more : (ms : List (LentText × LentTree)) (place : ℕ) (m : LentText × LentTree) → place < length ms → m ≡ get_or ms place m → keys_of (take (place + 1) ms) ≡ keys_of (take place ms) ++ text_bytes m.0 ∷ []
 keys_more ms place m l e = ap keys_of (take_more ms place m l ∙ ap (λ x. take place ms ++ x ∷ []) (sym e)) ∙ keys_push (take place ms) m.0 m.1
 
 -- a key more in the table, behind those slots that are taken
@@ -303,7 +305,7 @@ added_beside slots others more ks k n used t q u v add =
     put_beside slots others more ks k t full add
 
 -- the numbers in the slots for a mark are those of members
-pub window_numbers : (slots : List Slot) (others : BTreeSet (String Global)) (ms : List (String Global × Tree)) (mark : ℕ) → Table slots others (keys_of ms) → All (λ s. s.number ≤ length ms) (window mark slots)
+pub window_numbers : (slots : List Slot) (others : BTreeSet (String Global)) (ms : List (LentText × LentTree)) (mark : ℕ) → Table slots others (keys_of ms) → All (λ s. s.number ≤ length ms) (window mark slots)
 window_numbers slots others ms mark t =
     let all : All (λ s. s.number ≤ length ms) slots = subst (λ n. All (λ s. s.number ≤ n) slots) (keys_length ms) t.numbers in
     All-take (λ s. s.number ≤ length ms) 8 (drop (start_of (length slots) mark) slots) (All-drop (λ s. s.number ≤ length ms) (start_of (length slots) mark) slots all)

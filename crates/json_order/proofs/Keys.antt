@@ -1,8 +1,6 @@
 -- The keys of an object with one member more.
 use Rattle.std.specs.Str.{bytes_eq}
-use Rattle.std.specs.Prelude.{string_bytes, Result, Ok, Err, OnOk, OnErr, ◌⊎◌}
-use Rattle.std.specs.declared.string.String.{String}
-use Rattle.std.specs.declared.alloc.Global.{Global}
+use Rattle.std.specs.Prelude.{Result, Ok, Err, OnOk, OnErr, ◌⊎◌}
 use Rattle.std.specs.Ordering.{nat_cmp, is_lt, is_eq}
 use Rattle.std.specs.Cmp.Lexicographic.{slice_cmp}
 use Rattle.std.proofs.lemmas.Cmp.{nat_list_cmp_total}
@@ -12,19 +10,21 @@ use Rattle.std.specs.declared.cmp.Ordering.{Ordering}
 use Rattle.std.specs.declared.cmp.Ordering.TheVariants.{Less, Equal, Greater}
 use Rattle.std.proofs.Common.{inl, inr, length, get_or, take, sym, ◌+◌, ℕ, ◌≡◌, Bool, true, false, cond, ◌||◌, ◌&&◌, arith, List, [], ◌∷◌, ◌++◌, refl, ap, ◌∙◌}
 use Rattle.json_order.specs.Grammar.{has_key}
+use Rattle.json_order.specs.Lent.{text_bytes}
 use Rattle.json_order.specs.private.Entries.{keys_of, key_precedes, all_before, last_before}
 use Rattle.json_order.specs.declared.key_order.KeyOrder.{KeyOrder}
 use Rattle.json_order.specs.declared.key_order.KeyOrder.TheVariants.{Rising, Falling}
 use Rattle.std.proofs.lemmas.Slice.Eq.{bytes_eq-Decides}
-use Rattle.json_order.specs.declared.tree.Tree.{Tree}
+use Rattle.json_order.specs.declared.lent.LentText.{LentText}
+use Rattle.json_order.specs.declared.lent.LentTree.{LentTree}
 
-pub has_push : (ms : List (String Global × Tree)) (k : String Global) (v : Tree) (key : List ℕ) → has_key (keys_of (ms ++ (k, v) ∷ [])) key ≡ cond (bytes_eq (string_bytes k) key) true (has_key (keys_of ms) key)
-has_push [] k v key = go (bytes_eq (string_bytes k) key)
+pub has_push : (ms : List (LentText × LentTree)) (k : LentText) (v : LentTree) (key : List ℕ) → has_key (keys_of (ms ++ (k, v) ∷ [])) key ≡ cond (bytes_eq (text_bytes k) key) true (has_key (keys_of ms) key)
+has_push [] k v key = go (bytes_eq (text_bytes k) key)
   where
     go : (b : Bool) → (b || false) ≡ cond b true false
     go true = refl
     go false = refl
-has_push (m ∷ ms) k v key = ap (λ b. bytes_eq (string_bytes m.0) key || b) (has_push ms k v key) ∙ go (bytes_eq (string_bytes m.0) key) (bytes_eq (string_bytes k) key) (has_key (keys_of ms) key)
+has_push (m ∷ ms) k v key = ap (λ b. bytes_eq (text_bytes m.0) key || b) (has_push ms k v key) ∙ go (bytes_eq (text_bytes m.0) key) (bytes_eq (text_bytes k) key) (has_key (keys_of ms) key)
   where
     go : (a b d : Bool) → (a || cond b true d) ≡ cond b true (a || d)
     go true true d = refl
@@ -33,9 +33,9 @@ has_push (m ∷ ms) k v key = ap (λ b. bytes_eq (string_bytes m.0) key || b) (h
     go false false d = refl
 
 -- a key of the first members is one of all of them
-pub has_front : (xs ys : List (String Global × Tree)) (key : List ℕ) → has_key (keys_of xs) key ≡ true → has_key (keys_of (xs ++ ys)) key ≡ true
+pub has_front : (xs ys : List (LentText × LentTree)) (key : List ℕ) → has_key (keys_of xs) key ≡ true → has_key (keys_of (xs ++ ys)) key ≡ true
 has_front [] ys key h = cc
-has_front (m ∷ xs) ys key h = go (bytes_eq (string_bytes m.0) key) h (λ e. has_front xs ys key e)
+has_front (m ∷ xs) ys key h = go (bytes_eq (text_bytes m.0) key) h (λ e. has_front xs ys key e)
   where
     go : (b : Bool) → (b || has_key (keys_of xs) key) ≡ true → (has_key (keys_of xs) key ≡ true → has_key (keys_of (xs ++ ys)) key ≡ true) → (b || has_key (keys_of (xs ++ ys)) key) ≡ true
     go true h more = refl
@@ -99,19 +99,19 @@ last_push o [] x key = refl
 last_push o (k ∷ []) x key = refl
 last_push o (k ∷ l ∷ ks) x key = last_push o (l ∷ ks) x key
 
-pub keys_push : (ms : List (String Global × Tree)) (k : String Global) (v : Tree) → keys_of (ms ++ (k, v) ∷ []) ≡ keys_of ms ++ string_bytes k ∷ []
+pub keys_push : (ms : List (LentText × LentTree)) (k : LentText) (v : LentTree) → keys_of (ms ++ (k, v) ∷ []) ≡ keys_of ms ++ text_bytes k ∷ []
 keys_push [] k v = refl
-keys_push (m ∷ ms) k v = ap (λ ks. string_bytes m.0 ∷ ks) (keys_push ms k v)
+keys_push (m ∷ ms) k v = ap (λ ks. text_bytes m.0 ∷ ks) (keys_push ms k v)
 
 -- the last of the members by its place
-pub last_at : (o : KeyOrder) (ms : List (String Global × Tree)) (i : ℕ) (m : String Global × Tree) (key : List ℕ) → i + 1 ≡ length ms → m ≡ get_or ms i m → last_before o (keys_of ms) key ≡ key_precedes o (string_bytes m.0) key
+pub last_at : (o : KeyOrder) (ms : List (LentText × LentTree)) (i : ℕ) (m : LentText × LentTree) (key : List ℕ) → i + 1 ≡ length ms → m ≡ get_or ms i m → last_before o (keys_of ms) key ≡ key_precedes o (text_bytes m.0) key
 last_at o ms i m key e g =
     let whole : ms ≡ take i ms ++ m ∷ [] = sym (take_all (i + 1) ms (omega arith)) ∙ take_more ms i m (omega arith) ∙ ap (λ x. take i ms ++ x ∷ []) (sym g) in
-    ap (λ x. last_before o (keys_of x) key) whole ∙ ap (λ ks. last_before o ks key) (keys_push (take i ms) m.0 m.1) ∙ last_push o (keys_of (take i ms)) (string_bytes m.0) key
+    ap (λ x. last_before o (keys_of x) key) whole ∙ ap (λ ks. last_before o ks key) (keys_push (take i ms) m.0 m.1) ∙ last_push o (keys_of (take i ms)) (text_bytes m.0) key
 
 -- one key more, which follows the last
-pub ordered_more : (o : KeyOrder) (ms : List (String Global × Tree)) (k : String Global) (v : Tree) → ((key : List ℕ) → last_before o (keys_of ms) key ≡ true → all_before o (keys_of ms) key ≡ true) → last_before o (keys_of ms) (string_bytes k) ≡ true → (key : List ℕ) → last_before o (keys_of (ms ++ (k, v) ∷ [])) key ≡ true → all_before o (keys_of (ms ++ (k, v) ∷ [])) key ≡ true
+pub ordered_more : (o : KeyOrder) (ms : List (LentText × LentTree)) (k : LentText) (v : LentTree) → ((key : List ℕ) → last_before o (keys_of ms) key ≡ true → all_before o (keys_of ms) key ≡ true) → last_before o (keys_of ms) (text_bytes k) ≡ true → (key : List ℕ) → last_before o (keys_of (ms ++ (k, v) ∷ [])) key ≡ true → all_before o (keys_of (ms ++ (k, v) ∷ [])) key ≡ true
 ordered_more o ms k v h g key l =
-    let x = string_bytes k in
+    let x = text_bytes k in
     let here : key_precedes o x key ≡ true = sym (last_push o (keys_of ms) x key) ∙ sym (ap (λ ks. last_before o ks key) (keys_push ms k v)) ∙ l in
     ap (λ ks. all_before o ks key) (keys_push ms k v) ∙ all_push o (keys_of ms) x key (all_trans o (keys_of ms) x key (h x g) here) here

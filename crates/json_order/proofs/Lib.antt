@@ -12,6 +12,7 @@ pub mod Bytes
 pub mod Keys
 pub mod KeySets
 pub mod Trees
+pub mod Copies
 pub mod Frames
 pub mod PlainRuns
 pub mod AtOnce

@@ -1,5 +1,6 @@
 pub mod Json
 pub mod Seen
+pub mod Lent
 pub mod Grammar
 pub mod Fault
 pub mod Examples

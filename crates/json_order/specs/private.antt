@@ -6,3 +6,4 @@ pub mod Marks
 pub mod KeySets
 pub mod Whole
 pub mod Findings
+pub mod Copies

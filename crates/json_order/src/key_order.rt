@@ -1,7 +1,7 @@
 ghost use Rattle.std.specs.Prelude.{◌≡◌, IfSome, IsTrue};
 ghost use Rattle.json_order.specs.private.Entries.{keys_of, last_before, AreOrdered};
 
-use crate::tree::Tree;
+use crate::lent::LentMember;
 
 /// How keys follow one another.
 #[derive(Clone, Copy)]
@@ -15,7 +15,7 @@ pub(crate) enum KeyOrder {
 /// The key may follow these members in this order: the last of them, if there is one, has a lesser
 /// key, or a greater one if keys fall.
 #[inline(always)]
-pub(crate) fn is_behind(order: KeyOrder, members: &[(String, Tree)], key: &str) -> bool
+pub(crate) fn is_behind(order: KeyOrder, members: &[LentMember<'_>], key: &str) -> bool
     ensures { result ≡ last_before order (keys_of members.now) key.now }
 {
     let len = members.len();
@@ -30,7 +30,7 @@ pub(crate) fn is_behind(order: KeyOrder, members: &[(String, Tree)], key: &str) 
 }
 
 /// The keys of these members are in this order.
-fn are_ordered(order: KeyOrder, members: &[(String, Tree)]) -> bool
+fn are_ordered(order: KeyOrder, members: &[LentMember<'_>]) -> bool
     ensures { IsTrue result → AreOrdered order (keys_of members.now) }
 {
     for (i, (name, _)) in members.iter().enumerate() {
@@ -43,7 +43,7 @@ fn are_ordered(order: KeyOrder, members: &[(String, Tree)]) -> bool
 
 /// The order of these members by their keys, if they have one.
 #[inline(never)]
-pub(crate) fn order_of(members: &[(String, Tree)]) -> Option<KeyOrder>
+pub(crate) fn order_of(members: &[LentMember<'_>]) -> Option<KeyOrder>
     ensures { IfSome result (λ order. AreOrdered order (keys_of members.now)) }
 {
     if are_ordered(KeyOrder::Rising, members) {

@@ -9,7 +9,7 @@ ghost use Rattle.json_order.specs.private.KeySets as sets;
 ghost use Rattle.json_order.specs.private.KeySets.{HasKeys, finds, slots_taken};
 
 use crate::fault::JsonKind;
-use crate::tree::Tree;
+use crate::lent::LentMember;
 use std::alloc::Global;
 use std::collections::BTreeSet;
 use std::hash::{FoldHasher, Hasher};
@@ -103,7 +103,7 @@ pub(crate) fn is_same(name: &str, key: &str) -> bool
 }
 
 /// The slot has the mark, and its member the key.
-fn is_at(slot: Slot, members: &[(String, Tree)], mark: u32, key: &str) -> bool
+fn is_at(slot: Slot, members: &[LentMember<'_>], mark: u32, key: &str) -> bool
     requires some { 0 < slot.number }
     requires within { slot.number ≤ length members.now }
     ensures { result ≡ sets.is_key_at (keys_of members.now) mark key.now slot }
@@ -116,7 +116,7 @@ fn is_at(slot: Slot, members: &[(String, Tree)], mark: u32, key: &str) -> bool
 }
 
 /// Whether the key stands in the taken slots in front; none where all are taken, and not by it.
-fn found_in(window: &[Slot], members: &[(String, Tree)], mark: u32, key: &str) -> Option<bool>
+fn found_in(window: &[Slot], members: &[LentMember<'_>], mark: u32, key: &str) -> Option<bool>
     requires { All (λ s. s.number ≤ length members.now) window.now }
     ensures { result ≡ finds window.now (keys_of members.now) mark key.now }
 {
@@ -159,7 +159,7 @@ impl KeySet {
 
     /// The key with this mark is one of those of the members.
     #[inline(never)]
-    pub(crate) fn has(&self, members: &[(String, Tree)], mark: u32, key: &str) -> bool
+    pub(crate) fn has(&self, members: &[LentMember<'_>], mark: u32, key: &str) -> bool
         requires mark { mark ≡ marks.mark_of key.now }
         requires keys { HasKeys self.now (keys_of members.now) }
         ensures { result ≡ has_key (keys_of members.now) key.now }
@@ -175,7 +175,7 @@ impl KeySet {
     pub(crate) fn add(
         &mut self,
         alloc: Global,
-        members: &[(String, Tree)],
+        members: &[LentMember<'_>],
         mark: u32,
         key: &str,
     ) -> Result<(), JsonKind>
@@ -200,7 +200,7 @@ impl KeySet {
 }
 
 /// The keys of these members.
-pub(crate) fn set_of(alloc: Global, members: &[(String, Tree)]) -> Result<KeySet, JsonKind>
+pub(crate) fn set_of(alloc: Global, members: &[LentMember<'_>]) -> Result<KeySet, JsonKind>
     ensures ok { IfOk result (λ set. HasKeys set (keys_of members.now)) }
     ensures err { IfErr result (λ k. k ≡ Memory) }
 {

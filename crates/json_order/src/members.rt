@@ -1,4 +1,5 @@
-ghost use Rattle.std.specs.Prelude.{◌≡◌, ◌++◌, [], ◌∷◌, ◌+◌, ◌<◌, ◌≤◌, true, length, slice_index_or, IfOk, OnOk, IfErr, OnErr, string_bytes};
+ghost use Rattle.std.specs.Prelude.{◌≡◌, ◌++◌, [], ◌∷◌, ◌+◌, ◌<◌, ◌≤◌, true, length, slice_index_or, IfOk, OnOk, IfErr, OnErr};
+ghost use Rattle.json_order.specs.Lent.{text_bytes};
 ghost use Rattle.std.specs.Vec.{vec_len, vec_capacity};
 ghost use Rattle.json_order.specs.declared.fault.JsonKind.TheVariants.{Memory};
 ghost use Rattle.json_order.specs.declared.key_set.KeySet.{KeySet};
@@ -11,8 +12,8 @@ ghost use Rattle.json_order.specs.private.Marks.{mark_of as mark_of_key};
 use crate::fault::JsonKind;
 use crate::key_order::{KeyOrder, is_behind, order_of};
 use crate::key_set::{KeySet, is_same, mark_of, set_of};
+use crate::lent::{LentMember, LentText, LentTree};
 use crate::new_key::{Finding, NewKey};
-use crate::tree::Tree;
 use std::alloc::Global;
 
 /// Up to so many members, a key is compared with each of them.
@@ -24,8 +25,8 @@ const MANY: usize = 64;
 /// The members of an object so far, in the order of the text. If they are more than a few and their
 /// keys neither rise nor fall, a set of the keys finds a repeated one without a look at each.
 #[derive(Drop)]
-pub(crate) struct Members {
-    pub(crate) list: Vec<(String, Tree)>,
+pub(crate) struct Members<'a> {
+    pub(crate) list: Vec<LentMember<'a>>,
     /// One set of all keys. It is empty if they are few, or if they are in the order below.
     pub(crate) sets: Vec<KeySet>,
     /// The order of the keys of more than a few members without a set. A key that follows the last
@@ -37,8 +38,8 @@ pub(crate) struct Members {
         → HasKeys (slice_index_or sets.items 0 d) (keys_of list.items) },
 }
 
-impl Members {
-    pub(crate) fn new(alloc: Global) -> Members
+impl<'a> Members<'a> {
+    pub(crate) fn new(alloc: Global) -> Members<'a>
         ensures { result.list.items ≡ [] }
     {
         Members {
@@ -82,11 +83,11 @@ impl Members {
     /// Adds a member with a key that was looked for. If memory runs out the members stay as they
     /// were.
     #[inline(always)]
-    pub(crate) fn push(&mut self, key: NewKey, value: Tree) -> Result<(), JsonKind>
-        requires { IsKeyFinding self.old.order (keys_of self.old.list.items) (string_bytes key.text)
+    pub(crate) fn push(&mut self, key: NewKey<'a>, value: LentTree<'a>) -> Result<(), JsonKind>
+        requires { IsKeyFinding self.old.order (keys_of self.old.list.items) (text_bytes key.text)
             key.finding }
         ensures ok { OnOk result
-            (self.new.list.items ≡ self.old.list.items ++ (key.text, value) ∷ []) }
+            (self.new.list.items ≡ self.old.list.items ++ (key.entry.text, value.entry) ∷ []) }
         ensures err { IfErr result (λ k. k ≡ Memory) }
     {
         let NewKey { text, finding } = key;
@@ -130,13 +131,14 @@ impl Members {
 
     /// Adds a member to few, or one whose key follows the others in their order.
     #[inline(always)]
-    fn push_behind(&mut self, key: String, value: Tree) -> Result<(), JsonKind>
+    fn push_behind(&mut self, key: LentText<'a>, value: LentTree<'a>) -> Result<(), JsonKind>
         requires none { self.old.sets.items ≡ [] }
         requires ordered { 15 < length self.old.list.items
             → AreOrdered self.old.order (keys_of self.old.list.items) }
         requires last { 15 < length self.old.list.items
-            → last_before self.old.order (keys_of self.old.list.items) (string_bytes key) ≡ true }
-        ensures ok { OnOk result (self.new.list.items ≡ self.old.list.items ++ (key, value) ∷ []) }
+            → last_before self.old.order (keys_of self.old.list.items) (text_bytes key) ≡ true }
+        ensures ok { OnOk result
+            (self.new.list.items ≡ self.old.list.items ++ (key.entry, value.entry) ∷ []) }
         ensures err { IfErr result (λ k. k ≡ Memory) }
     {
         add_member(&mut self.list, key, value)
@@ -144,9 +146,10 @@ impl Members {
 
     /// Adds a member that needs a set, and makes it.
     #[inline(never)]
-    fn push_scattered(&mut self, key: String, value: Tree) -> Result<(), JsonKind>
+    fn push_scattered(&mut self, key: LentText<'a>, value: LentTree<'a>) -> Result<(), JsonKind>
         requires none { self.old.sets.items ≡ [] }
-        ensures ok { OnOk result (self.new.list.items ≡ self.old.list.items ++ (key, value) ∷ []) }
+        ensures ok { OnOk result
+            (self.new.list.items ≡ self.old.list.items ++ (key.entry, value.entry) ∷ []) }
         ensures err { IfErr result (λ k. k ≡ Memory) }
     {
         let alloc = *self.list.allocator();
@@ -158,10 +161,16 @@ impl Members {
 
     /// Adds a member, and its key with its mark to the set.
     #[inline(never)]
-    fn push_known(&mut self, key: String, mark: u32, value: Tree) -> Result<(), JsonKind>
-        requires mark { mark ≡ mark_of_key (string_bytes key) }
+    fn push_known(
+        &mut self,
+        key: LentText<'a>,
+        mark: u32,
+        value: LentTree<'a>,
+    ) -> Result<(), JsonKind>
+        requires mark { mark ≡ mark_of_key (text_bytes key) }
         requires some { 0 < length self.old.sets.items }
-        ensures ok { OnOk result (self.new.list.items ≡ self.old.list.items ++ (key, value) ∷ []) }
+        ensures ok { OnOk result
+            (self.new.list.items ≡ self.old.list.items ++ (key.entry, value.entry) ∷ []) }
         ensures err { IfErr result (λ k. k ≡ Memory) }
     {
         let alloc = *self.list.allocator();
@@ -190,7 +199,7 @@ fn marked(finding: Finding, key: &str) -> u32
 
 /// One of these members has this key.
 #[inline(never)]
-fn is_among(members: &[(String, Tree)], key: &str) -> bool
+fn is_among(members: &[LentMember<'_>], key: &str) -> bool
     ensures { result ≡ has_key (keys_of members.now) key.now }
 {
     for (name, _) in members {
@@ -204,7 +213,7 @@ fn is_among(members: &[(String, Tree)], key: &str) -> bool
 /// Makes room for more members: for two, then for the few, then for four times as many. From there
 /// on it doubles.
 #[inline(never)]
-fn grow(list: &mut Vec<(String, Tree)>) -> Result<(), JsonKind>
+fn grow(list: &mut Vec<LentMember<'_>>) -> Result<(), JsonKind>
     ensures items { list.new.items ≡ list.old.items }
     ensures ok { OnOk result (vec_len list.new < vec_capacity list.new) }
     ensures err { IfErr result (λ k. k ≡ Memory) }
@@ -224,7 +233,7 @@ fn grow(list: &mut Vec<(String, Tree)>) -> Result<(), JsonKind>
 
 /// Room for one more member.
 #[inline(always)]
-fn make_room(list: &mut Vec<(String, Tree)>) -> Result<(), JsonKind>
+fn make_room(list: &mut Vec<LentMember<'_>>) -> Result<(), JsonKind>
     ensures items { list.new.items ≡ list.old.items }
     ensures ok { OnOk result (vec_len list.new < vec_capacity list.new) }
     ensures err { IfErr result (λ k. k ≡ Memory) }
@@ -237,9 +246,13 @@ fn make_room(list: &mut Vec<(String, Tree)>) -> Result<(), JsonKind>
 
 /// Adds a member to a list of them.
 #[inline(always)]
-fn add_member(list: &mut Vec<(String, Tree)>, key: String, value: Tree) -> Result<(), JsonKind>
+fn add_member<'a>(
+    list: &mut Vec<LentMember<'a>>,
+    key: LentText<'a>,
+    value: LentTree<'a>,
+) -> Result<(), JsonKind>
     ensures len { length list.new.items ≤ length list.old.items + 1 }
-    ensures ok { OnOk result (list.new.items ≡ list.old.items ++ (key, value) ∷ []) }
+    ensures ok { OnOk result (list.new.items ≡ list.old.items ++ (key.entry, value.entry) ∷ []) }
     ensures kept { OnErr result (list.new.items ≡ list.old.items) }
     ensures err { IfErr result (λ k. k ≡ Memory) }
 {
@@ -250,12 +263,12 @@ fn add_member(list: &mut Vec<(String, Tree)>, key: String, value: Tree) -> Resul
 
 /// Adds a list's last member. If more than half of the room is left over, it is given back.
 #[inline(always)]
-pub(crate) fn add_last_member(
-    list: &mut Vec<(String, Tree)>,
-    key: String,
-    value: Tree,
+pub(crate) fn add_last_member<'a>(
+    list: &mut Vec<LentMember<'a>>,
+    key: LentText<'a>,
+    value: LentTree<'a>,
 ) -> Result<(), JsonKind>
-    ensures ok { OnOk result (list.new.items ≡ list.old.items ++ (key, value) ∷ []) }
+    ensures ok { OnOk result (list.new.items ≡ list.old.items ++ (key.entry, value.entry) ∷ []) }
     ensures err { IfErr result (λ k. k ≡ Memory) }
 {
     if list.len() == list.capacity() {
@@ -269,8 +282,13 @@ pub(crate) fn add_last_member(
 }
 
 /// The members with one more behind them.
-pub(crate) fn with_member(members: Members, key: String, value: Tree) -> Result<Members, JsonKind>
-    ensures ok { IfOk result (λ m. m.list.items ≡ members.list.items ++ (key, value) ∷ []) }
+pub(crate) fn with_member<'a>(
+    members: Members<'a>,
+    key: LentText<'a>,
+    value: LentTree<'a>,
+) -> Result<Members<'a>, JsonKind>
+    ensures ok { IfOk result (λ m. m.list.items
+        ≡ members.entry.list.items ++ (key.entry, value.entry) ∷ []) }
     ensures err { IfErr result (λ k. k ≡ Memory) }
 {
     let mut more = members;

@@ -1,3 +1,5 @@
+use crate::lent::LentText;
+
 /// What was found out about a key that no member has. It is not looked for again when its member is
 /// added.
 #[derive(Clone, Copy)]
@@ -12,7 +14,7 @@ pub(crate) enum Finding {
 
 /// A key that no member has.
 #[derive(Drop)]
-pub(crate) struct NewKey {
-    pub(crate) text: String,
+pub(crate) struct NewKey<'a> {
+    pub(crate) text: LentText<'a>,
     pub(crate) finding: Finding,
 }

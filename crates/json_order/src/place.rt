@@ -1,5 +1,5 @@
+use crate::lent::LentTree;
 use crate::members::Members;
-use crate::tree::Tree;
 use crate::word::Word;
 
 /// How far an escape in a string is read. Numbers are units of UTF-16, or the front digits of one.
@@ -47,21 +47,21 @@ pub(crate) enum Part {
 
 /// Where in a text the reader stands, apart from what is open around it.
 #[derive(Drop)]
-pub(crate) enum Place {
+pub(crate) enum Place<'a> {
     /// Before a value.
     Value,
     /// Behind a `[`, before its first item or its `]`.
     FirstItem,
     /// Behind a value.
-    Behind(Tree),
+    Behind(LentTree<'a>),
     /// Behind a `{`, before its first key or its `}`.
     FirstKey,
     /// Behind a comma in an object, before a key.
-    NextKey(Members),
+    NextKey(Members<'a>),
     /// In a key behind these members, with its text so far.
-    Key(Members, String, Escape),
+    Key(Members<'a>, String, Escape),
     /// Behind a key, before its colon.
-    Colon(Members, String),
+    Colon(Members<'a>, String),
     /// In a string, with its text so far.
     Text(String, Escape),
     /// In a number, with its text so far.
@@ -72,9 +72,9 @@ pub(crate) enum Place {
 
 /// A list or an object around the place where the reader stands.
 #[derive(Drop)]
-pub(crate) enum Frame {
+pub(crate) enum Frame<'a> {
     /// A list with its items so far.
-    List(Vec<Tree>),
+    List(Vec<LentTree<'a>>),
     /// An object with its members so far, and the key of the value that is being read.
-    Object(Members, String),
+    Object(Members<'a>, String),
 }

@@ -3,17 +3,18 @@ ghost use Rattle.json_order.specs.declared.fault.JsonKind.TheVariants.{Memory};
 ghost use Rattle.json_order.specs.declared.place.Escape.TheVariants.{Outside};
 ghost use Rattle.json_order.specs.Fault.{strict};
 ghost use Rattle.json_order.specs.Grammar as grammar;
-ghost use Rattle.json_order.specs.Json.{array, no_items, object, no_members};
+ghost use Rattle.json_order.specs.Json.{number, string, array, no_items, object, no_members as nothing};
 ghost use Rattle.json_order.specs.private.Machine.{Frame as StackFrame, IsFine, IsFinePlace, state, under_rules, step as machine_step, move, at_first_item, at_first_key, at_next_key, in_key, behind_key, in_string, in_number, in_word, value_move, next_move, behind_move};
 ghost use Rattle.json_order.specs.private.Places.{code_place, frames_of, code_state, entries_of_tree, letters_from, value_of, OutcomeSays, IsInObject, IsMoving};
-ghost use Rattle.json_order.specs.Seen.{json_of, items_with, members_with};
+ghost use Rattle.json_order.specs.Lent.{lent_json};
+ghost use Rattle.json_order.specs.Seen.{items_with, members_with};
 
 use crate::fault::JsonKind;
+use crate::lent::{LentMember, LentText, LentTree};
 use crate::members::{Members, add_last_member, with_member};
 use crate::number::{is_done, part_step};
 use crate::place::{Escape, Frame, Part, Place};
 use crate::quote::{Quote, quote_step};
-use crate::tree::Tree;
 use crate::word::Word;
 use std::alloc::Global;
 use std::mem;
@@ -42,8 +43,8 @@ fn one(alloc: Global, c: char) -> Result<String, JsonKind>
 
 /// The reader goes on there.
 #[inline(always)]
-fn go_to(place: &mut Place, next: Place) -> Result<(), JsonKind>
-    ensures { IsOk result × (place.new ≡ next) }
+fn go_to<'a>(place: &mut Place<'a>, next: Place<'a>) -> Result<(), JsonKind>
+    ensures { IsOk result × (place.new ≡ next.entry) }
 {
     *place = next;
     Ok(())
@@ -51,9 +52,10 @@ fn go_to(place: &mut Place, next: Place) -> Result<(), JsonKind>
 
 /// Behind the quote of a key.
 #[inline(always)]
-fn begin_key(alloc: Global, place: &mut Place, members: Members) -> Result<(), JsonKind>
+fn begin_key<'a>(alloc: Global, place: &mut Place<'a>, members: Members<'a>) -> Result<(), JsonKind>
     ensures ok { IsOk result }
-    ensures place { code_place place.new ≡ in_key (entries_of_tree members.list.items) [] Outside }
+    ensures place { code_place place.new
+        ≡ in_key (entries_of_tree members.entry.list.items) [] Outside }
 {
     go_to(
         place,
@@ -63,7 +65,12 @@ fn begin_key(alloc: Global, place: &mut Place, members: Members) -> Result<(), J
 
 /// A value's first character.
 #[inline(always)]
-fn value_step(alloc: Global, place: &mut Place, stack: &Vec<Frame>, c: char) -> Result<(), JsonKind>
+fn value_step<'a>(
+    alloc: Global,
+    place: &mut Place<'a>,
+    stack: &Vec<Frame<'a>>,
+    c: char,
+) -> Result<(), JsonKind>
     ensures ok { OnOk result (under_rules strict (value_move (frames_of stack.now.items) c)
         ≡ Ok (code_state place.new stack.now.items)) }
     ensures err { IfErr result
@@ -85,8 +92,8 @@ fn value_step(alloc: Global, place: &mut Place, stack: &Vec<Frame>, c: char) -> 
 }
 
 /// Adds a list's last item. Where it is the only one, room is taken for it alone.
-fn add_last(items: &mut Vec<Tree>, value: Tree) -> Result<(), JsonKind>
-    ensures ok { OnOk result (items.new.items ≡ items.old.items ++ value ∷ []) }
+fn add_last<'a>(items: &mut Vec<LentTree<'a>>, value: LentTree<'a>) -> Result<(), JsonKind>
+    ensures ok { OnOk result (items.new.items ≡ items.old.items ++ value.entry ∷ []) }
     ensures err { IfErr result (λ k. k ≡ Memory) }
 {
     if items.is_empty() {
@@ -97,17 +104,22 @@ fn add_last(items: &mut Vec<Tree>, value: Tree) -> Result<(), JsonKind>
 }
 
 /// The object of these members.
-pub(crate) fn object_of(list: Vec<(String, Tree)>) -> Tree
-    ensures { json_of result ≡ object (members_with (entries_of_tree list.items) no_members) }
+pub(crate) fn object_of<'a>(list: Vec<LentMember<'a>>) -> LentTree<'a>
+    ensures { lent_json result
+        ≡ object (members_with (entries_of_tree list.entry.items) nothing) }
 {
-    Tree::Object(list)
+    LentTree::Object(list)
 }
 
 /// The object of these members and a last one.
 #[inline(always)]
-pub(crate) fn whole_object(members: Members, key: String, value: Tree) -> Result<Tree, JsonKind>
-    ensures ok { IfOk result (λ t. json_of t ≡ object (members_with
-        (entries_of_tree (members.list.items ++ (key, value) ∷ [])) no_members)) }
+pub(crate) fn whole_object<'a>(
+    members: Members<'a>,
+    key: LentText<'a>,
+    value: LentTree<'a>,
+) -> Result<LentTree<'a>, JsonKind>
+    ensures ok { IfOk result (λ t. lent_json t ≡ object (members_with
+        (entries_of_tree (members.entry.list.items ++ (key.entry, value.entry) ∷ [])) nothing)) }
     ensures err { IfErr result (λ k. k ≡ Memory) }
 {
     let Members { mut list, .. } = members;
@@ -118,13 +130,17 @@ pub(crate) fn whole_object(members: Members, key: String, value: Tree) -> Result
 /// A comma behind a value: the list goes on, into which the value is put where it stands, or the
 /// object does.
 #[inline(always)]
-fn push_item(place: &mut Place, stack: &mut Vec<Frame>, value: Tree) -> Result<(), JsonKind>
+fn push_item<'a>(
+    place: &mut Place<'a>,
+    stack: &mut Vec<Frame<'a>>,
+    value: LentTree<'a>,
+) -> Result<(), JsonKind>
     ensures ok { OnOk result (under_rules strict
-        (next_move (json_of value) (frames_of stack.old.items) 44)
+        (next_move (lent_json value.entry) (frames_of stack.old.items) 44)
         ≡ Ok (code_state place.new stack.new.items)) }
     ensures err { IfErr result
         (OutcomeSays
-        (under_rules strict (next_move (json_of value) (frames_of stack.old.items) 44))) }
+        (under_rules strict (next_move (lent_json value.entry) (frames_of stack.old.items) 44))) }
 {
     let open = stack.len();
     if open == 0 {
@@ -141,18 +157,25 @@ fn push_item(place: &mut Place, stack: &mut Vec<Frame>, value: Tree) -> Result<(
 
 /// A comma behind the value of a member.
 #[inline(always)]
-fn push_member(place: &mut Place, stack: &mut Vec<Frame>, value: Tree) -> Result<(), JsonKind>
+fn push_member<'a>(
+    place: &mut Place<'a>,
+    stack: &mut Vec<Frame<'a>>,
+    value: LentTree<'a>,
+) -> Result<(), JsonKind>
     requires { IsInObject (frames_of stack.old.items) }
     ensures ok { OnOk result (under_rules strict
-        (next_move (json_of value) (frames_of stack.old.items) 44)
+        (next_move (lent_json value.entry) (frames_of stack.old.items) 44)
         ≡ Ok (code_state place.new stack.new.items)) }
     ensures err { IfErr result
         (OutcomeSays
-        (under_rules strict (next_move (json_of value) (frames_of stack.old.items) 44))) }
+        (under_rules strict (next_move (lent_json value.entry) (frames_of stack.old.items) 44))) }
 {
     match stack.pop() {
         Some(Frame::Object(members, key)) => {
-            go_to(place, Place::NextKey(with_member(members, key, value)?))
+            go_to(
+                place,
+                Place::NextKey(with_member(members, LentText::Copied(key), value)?),
+            )
         }
         _ => unreachable!(),
     }
@@ -160,29 +183,32 @@ fn push_member(place: &mut Place, stack: &mut Vec<Frame>, value: Tree) -> Result
 
 /// The list of these items and a last one.
 #[inline(always)]
-pub(crate) fn whole_list(mut items: Vec<Tree>, value: Tree) -> Result<Tree, JsonKind>
-    ensures ok { IfOk result (λ t. json_of t ≡ array (items_with
-        (map json_of items.items ++ json_of value ∷ []) no_items)) }
+pub(crate) fn whole_list<'a>(
+    mut items: Vec<LentTree<'a>>,
+    value: LentTree<'a>,
+) -> Result<LentTree<'a>, JsonKind>
+    ensures ok { IfOk result (λ t. lent_json t ≡ array (items_with
+        (map lent_json items.entry.items ++ lent_json value.entry ∷ []) no_items)) }
     ensures err { IfErr result (λ k. k ≡ Memory) }
 {
     add_last(&mut items, value)?;
-    Ok(Tree::List(items))
+    Ok(LentTree::List(items))
 }
 
 /// Behind a value and its white space.
 #[inline(always)]
-fn next_step(
-    place: &mut Place,
-    stack: &mut Vec<Frame>,
-    value: Tree,
+fn next_step<'a>(
+    place: &mut Place<'a>,
+    stack: &mut Vec<Frame<'a>>,
+    value: LentTree<'a>,
     c: char,
 ) -> Result<(), JsonKind>
     ensures ok { OnOk result (under_rules strict
-        (next_move (json_of value) (frames_of stack.old.items) c)
+        (next_move (lent_json value.entry) (frames_of stack.old.items) c)
         ≡ Ok (code_state place.new stack.new.items)) }
     ensures err { IfErr result
         (OutcomeSays
-        (under_rules strict (next_move (json_of value) (frames_of stack.old.items) c))) }
+        (under_rules strict (next_move (lent_json value.entry) (frames_of stack.old.items) c))) }
 {
     match c {
         ',' => push_item(place, stack, value),
@@ -192,7 +218,10 @@ fn next_step(
         },
         '}' => match stack.pop() {
             Some(Frame::Object(members, key)) => {
-                go_to(place, Place::Behind(whole_object(members, key, value)?))
+                go_to(
+                    place,
+                    Place::Behind(whole_object(members, LentText::Copied(key), value)?),
+                )
             }
             _ => Err(JsonKind::Syntax),
         },
@@ -201,18 +230,18 @@ fn next_step(
 }
 
 /// Behind a value.
-fn behind_step(
-    place: &mut Place,
-    stack: &mut Vec<Frame>,
-    value: Tree,
+fn behind_step<'a>(
+    place: &mut Place<'a>,
+    stack: &mut Vec<Frame<'a>>,
+    value: LentTree<'a>,
     c: char,
 ) -> Result<(), JsonKind>
     ensures ok { OnOk result (under_rules strict
-        (behind_move (json_of value) (frames_of stack.old.items) c)
+        (behind_move (lent_json value.entry) (frames_of stack.old.items) c)
         ≡ Ok (code_state place.new stack.new.items)) }
     ensures err { IfErr result
         (OutcomeSays
-        (under_rules strict (behind_move (json_of value) (frames_of stack.old.items) c))) }
+        (under_rules strict (behind_move (lent_json value.entry) (frames_of stack.old.items) c))) }
 {
     if is_space(c) {
         return go_to(place, Place::Behind(value));
@@ -221,17 +250,17 @@ fn behind_step(
 }
 
 /// A list without items.
-pub(crate) fn empty_list(alloc: Global) -> Tree
-    ensures { json_of result ≡ array no_items }
+pub(crate) fn empty_list<'a>(alloc: Global) -> LentTree<'a>
+    ensures { lent_json result ≡ array no_items }
 {
-    Tree::List(Vec::new(alloc))
+    LentTree::List(Vec::new(alloc))
 }
 
 /// Behind a `[`.
-fn first_item_step(
+fn first_item_step<'a>(
     alloc: Global,
-    place: &mut Place,
-    stack: &mut Vec<Frame>,
+    place: &mut Place<'a>,
+    stack: &mut Vec<Frame<'a>>,
     c: char,
 ) -> Result<(), JsonKind>
     ensures ok { OnOk result (under_rules strict (move at_first_item (frames_of stack.old.items) c)
@@ -249,8 +278,22 @@ fn first_item_step(
     value_step(alloc, place, stack, c)
 }
 
+/// An object without members.
+pub(crate) fn empty_object<'a>(alloc: Global) -> LentTree<'a>
+    ensures { lent_json result ≡ object nothing }
+{
+    object_of(Vec::new(alloc))
+}
+
+/// No members yet.
+fn no_members<'a>(alloc: Global) -> Members<'a>
+    ensures { result.list.items ≡ [] }
+{
+    Members::new(alloc)
+}
+
 /// Behind a `{`.
-fn first_key_step(alloc: Global, place: &mut Place, c: char) -> Result<(), JsonKind>
+fn first_key_step<'a>(alloc: Global, place: &mut Place<'a>, c: char) -> Result<(), JsonKind>
     ensures ok { OnOk result ((fs : List StackFrame) → under_rules strict (move at_first_key fs c)
         ≡ Ok (state (code_place place.new) fs)) }
     ensures err { IfErr result (λ k. (fs : List StackFrame)
@@ -258,25 +301,25 @@ fn first_key_step(alloc: Global, place: &mut Place, c: char) -> Result<(), JsonK
 {
     match c {
         ' ' | '\t' | '\n' | '\r' => go_to(place, Place::FirstKey),
-        '"' => begin_key(alloc, place, Members::new(alloc)),
-        '}' => go_to(place, Place::Behind(Tree::Object(Vec::new(alloc)))),
+        '"' => begin_key(alloc, place, no_members(alloc)),
+        '}' => go_to(place, Place::Behind(empty_object(alloc))),
         _ => Err(JsonKind::Syntax),
     }
 }
 
 /// Behind a comma in an object.
-fn next_key_step(
+fn next_key_step<'a>(
     alloc: Global,
-    place: &mut Place,
-    members: Members,
+    place: &mut Place<'a>,
+    members: Members<'a>,
     c: char,
 ) -> Result<(), JsonKind>
     ensures ok { OnOk result ((fs : List StackFrame)
-        → under_rules strict (move (at_next_key (entries_of_tree members.list.items)) fs c)
+        → under_rules strict (move (at_next_key (entries_of_tree members.entry.list.items)) fs c)
         ≡ Ok (state (code_place place.new) fs)) }
     ensures err { IfErr result (λ k. (fs : List StackFrame)
-        → OutcomeSays
-        (under_rules strict (move (at_next_key (entries_of_tree members.list.items)) fs c)) k) }
+        → OutcomeSays (under_rules strict
+        (move (at_next_key (entries_of_tree members.entry.list.items)) fs c)) k) }
 {
     match c {
         ' ' | '\t' | '\n' | '\r' => go_to(place, Place::NextKey(members)),
@@ -287,19 +330,20 @@ fn next_key_step(
 
 /// In a key.
 #[inline(always)]
-fn key_step(
-    place: &mut Place,
-    members: Members,
+fn key_step<'a>(
+    place: &mut Place<'a>,
+    members: Members<'a>,
     mut text: String,
     mut escape: Escape,
     c: char,
 ) -> Result<(), JsonKind>
     requires fine { IsFine escape }
     ensures ok { OnOk result ((fs : List StackFrame)
-        → under_rules strict (move (in_key (entries_of_tree members.list.items)
+        → under_rules strict (move (in_key (entries_of_tree members.entry.list.items)
         (string_bytes text) escape) fs c) ≡ Ok (state (code_place place.new) fs)) }
     ensures err { IfErr result (λ k. (fs : List StackFrame) → OutcomeSays (under_rules strict
-        (move (in_key (entries_of_tree members.list.items) (string_bytes text) escape) fs c)) k) }
+        (move (in_key (entries_of_tree members.entry.list.items)
+        (string_bytes text) escape) fs c)) k) }
 {
     match quote_step(&mut text, &mut escape, c)? {
         Quote::Going => go_to(place, Place::Key(members, text, escape)),
@@ -314,19 +358,20 @@ fn key_step(
 }
 
 /// Behind a key.
-fn colon_step(
-    place: &mut Place,
-    stack: &mut Vec<Frame>,
-    members: Members,
+fn colon_step<'a>(
+    place: &mut Place<'a>,
+    stack: &mut Vec<Frame<'a>>,
+    members: Members<'a>,
     key: String,
     c: char,
 ) -> Result<(), JsonKind>
     ensures ok { OnOk result
-        (under_rules strict (move (behind_key (entries_of_tree members.list.items)
+        (under_rules strict (move (behind_key (entries_of_tree members.entry.list.items)
         (string_bytes key)) (frames_of stack.old.items) c)
         ≡ Ok (code_state place.new stack.new.items)) }
     ensures err { IfErr result (OutcomeSays (under_rules strict (move (behind_key
-        (entries_of_tree members.list.items) (string_bytes key)) (frames_of stack.old.items) c))) }
+        (entries_of_tree members.entry.list.items) (string_bytes key))
+        (frames_of stack.old.items) c))) }
 {
     match c {
         ' ' | '\t' | '\n' | '\r' => go_to(place, Place::Colon(members, key)),
@@ -338,10 +383,17 @@ fn colon_step(
     }
 }
 
+/// A string with this text.
+fn string_of<'a>(text: String) -> LentTree<'a>
+    ensures { lent_json result ≡ string (string_bytes text) }
+{
+    LentTree::Text(LentText::Copied(text))
+}
+
 /// In a string.
 #[inline(always)]
-fn text_step(
-    place: &mut Place,
+fn text_step<'a>(
+    place: &mut Place<'a>,
     mut text: String,
     mut escape: Escape,
     c: char,
@@ -355,15 +407,22 @@ fn text_step(
 {
     match quote_step(&mut text, &mut escape, c)? {
         Quote::Going => go_to(place, Place::Text(text, escape)),
-        Quote::Closed => go_to(place, Place::Behind(Tree::Text(text))),
+        Quote::Closed => go_to(place, Place::Behind(string_of(text))),
     }
+}
+
+/// A number with this text.
+pub(crate) fn number_of<'a>(text: String) -> LentTree<'a>
+    ensures { lent_json result ≡ number (string_bytes text) }
+{
+    LentTree::Number(LentText::Copied(text))
 }
 
 /// In a number, which ends where a character does not go on with it.
 #[inline(always)]
-fn number_step(
-    place: &mut Place,
-    stack: &mut Vec<Frame>,
+fn number_step<'a>(
+    place: &mut Place<'a>,
+    stack: &mut Vec<Frame<'a>>,
     mut text: String,
     part: Part,
     c: char,
@@ -381,17 +440,24 @@ fn number_step(
         }
         None => {
             if is_done(part) {
-                return behind_step(place, stack, Tree::Number(text), c);
+                return behind_step(place, stack, number_of(text), c);
             }
             Err(JsonKind::Syntax)
         }
     }
 }
 
+/// The value of a word.
+pub(crate) fn word_of<'a>(word: Word) -> LentTree<'a>
+    ensures { lent_json result ≡ value_of word }
+{
+    word.tree()
+}
+
 /// In a word.
-fn word_step(
-    place: &mut Place,
-    stack: &mut Vec<Frame>,
+fn word_step<'a>(
+    place: &mut Place<'a>,
+    stack: &mut Vec<Frame<'a>>,
     word: Word,
     read: usize,
     c: char,
@@ -409,16 +475,16 @@ fn word_step(
             }
             Err(JsonKind::Syntax)
         }
-        None => behind_step(place, stack, word.tree(), c),
+        None => behind_step(place, stack, word_of(word), c),
     }
 }
 
 /// The same where the place holds what is read so far, which moves on.
 #[inline(always)]
-fn turn_moving(
+fn turn_moving<'a>(
     alloc: Global,
-    place: &mut Place,
-    stack: &mut Vec<Frame>,
+    place: &mut Place<'a>,
+    stack: &mut Vec<Frame<'a>>,
     c: char,
 ) -> Result<(), JsonKind>
     requires moving { IsMoving place.old }
@@ -441,10 +507,10 @@ fn turn_moving(
 
 /// The place and the stack once c follows. On an error they are left as they may be.
 #[inline(always)]
-pub(crate) fn turn(
+pub(crate) fn turn<'a>(
     alloc: Global,
-    place: &mut Place,
-    stack: &mut Vec<Frame>,
+    place: &mut Place<'a>,
+    stack: &mut Vec<Frame<'a>>,
     c: char,
 ) -> Result<(), JsonKind>
     requires fine { IsFinePlace (code_place place.old) }

@@ -1,12 +1,14 @@
 ghost use Rattle.std.specs.Prelude.{◌≡◌, true, ◌≤◌, [], ◌++◌, Some, IfOk, OnOk, IfErr, IfSome, length, take, string_bytes, encode_utf8};
 ghost use Rattle.std.specs.Char.{is_ascii_digit};
 ghost use Rattle.std.specs.List.{All};
+ghost use Rattle.json_order.specs.Lent.{text_bytes};
 ghost use Rattle.json_order.specs.declared.fault.JsonKind.TheVariants.{Memory};
 ghost use Rattle.json_order.specs.private.AtOnce.{TakesQuoted, MovesPlain, parts_after};
 ghost use Rattle.json_order.specs.declared.place.Escape.TheVariants.{Outside};
 
 use crate::escape::escape_of;
 use crate::fault::JsonKind;
+use crate::lent::LentText;
 use crate::number::{is_in_digits, part_step};
 use crate::place::Part;
 use crate::plain::plain_len;
@@ -63,44 +65,30 @@ fn take_characters<'a>(text: &mut String, rest: &'a str) -> Result<&'a str, Json
     }
 }
 
-/// A copy of a text, in exact room. One byte is copied by a store here too.
+/// The plain characters in front, and what stands behind them.
 #[inline(always)]
-pub(crate) fn copy_of(alloc: Global, text: &str) -> Result<String, JsonKind>
-    ensures ok { IfOk result (λ s. string_bytes s ≡ text.now) }
-    ensures err { IfErr result (λ k. k ≡ Memory) }
+fn plain_front<'a>(rest: &'a str) -> (&'a str, &'a str)
+    ensures { MovesPlain [] result.0.now rest.now result.1.now }
 {
-    if text.len() == 1 {
-        let (whole, _) = text.split_at(1);
-        return Ok(String::from_str(alloc, whole)?);
-    }
-    Ok(String::from_str(alloc, text)?)
+    rest.split_at(plain_len(rest.as_bytes()))
 }
 
-/// The text of the plain characters in front, in exact room, and what stands behind them.
+/// The text of the plain characters and the whole escapes in front, and what stands behind them. It
+/// is copied only if there is an escape.
 #[inline(always)]
-fn plain_text<'a>(alloc: Global, rest: &'a str) -> Result<(String, &'a str), JsonKind>
-    ensures ok { IfOk result (λ t. MovesPlain [] (string_bytes t.0) rest.now t.1.now) }
-    ensures err { IfErr result (λ k. k ≡ Memory) }
-{
-    let (front, after) = rest.split_at(plain_len(rest.as_bytes()));
-    let text = copy_of(alloc, front)?;
-    Ok((text, after))
-}
-
-/// The text of the plain characters and the whole escapes in front, and what stands behind them.
-#[inline(always)]
-pub(crate) fn text_of<'a>(alloc: Global, rest: &'a str) -> Result<(String, &'a str), JsonKind>
-    ensures ok { IfOk result (λ t. TakesQuoted [] Outside (string_bytes t.0) Outside
+pub(crate) fn text_of<'a>(alloc: Global, rest: &'a str) -> Result<(LentText<'a>, &'a str), JsonKind>
+    ensures ok { IfOk result (λ t. TakesQuoted [] Outside (text_bytes t.0) Outside
         rest.now t.1.now) }
     ensures err { IfErr result (λ k. k ≡ Memory) }
 {
-    let (mut text, after) = plain_text(alloc, rest)?;
+    let (front, after) = plain_front(rest);
     let bytes = after.as_bytes();
     if bytes.is_empty() || bytes[0] != b'\\' {
-        return Ok((text, after));
+        return Ok((LentText::InPlace(front), after));
     }
+    let mut text = String::from_str(alloc, front)?;
     let behind = take_characters(&mut text, after)?;
-    Ok((text, behind))
+    Ok((LentText::Copied(text), behind))
 }
 
 /// How many digits stand in front.

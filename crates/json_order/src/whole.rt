@@ -1,26 +1,27 @@
 //! A text that is read whole, value by value, as long as nothing stands there that ends the
-//! reading. None says that something does, or that the text ends; [`read`](crate::read) then goes
-//! through it character by character, and finds which fault it is, and where.
-ghost use Rattle.std.specs.Prelude.{ℕ, List, ◌≡◌, ◌⊎◌, ◌<◌, ◌+◌, [], ◌∷◌, ◌++◌, Ok, IfOk, IfErr, IfSome, string_bytes, encode_utf8};
+//! reading. None says that something does, or that the text ends;
+//! [`read_lent`](crate::read_lent) then goes through it character by character, and finds which
+//! fault it is, and where.
+ghost use Rattle.std.specs.Prelude.{ℕ, List, ◌≡◌, ◌⊎◌, ◌<◌, ◌+◌, [], ◌∷◌, ◌++◌, Ok, IfOk, IfErr, IfSome, encode_utf8};
+ghost use Rattle.json_order.specs.Lent.{text_bytes, lent_json};
 ghost use Rattle.json_order.specs.declared.fault.JsonKind.TheVariants.{Memory};
 ghost use Rattle.json_order.specs.Fault.{strict};
 ghost use Rattle.json_order.specs.Grammar.{IsSpaced};
-ghost use Rattle.json_order.specs.Json.{string, object as object_value, no_members};
+ghost use Rattle.json_order.specs.Json.{string};
 ghost use Rattle.json_order.specs.private.Machine.{Frame as StackFrame, state, step, at_value, at_first_item, at_first_key, behind as behind_value, in_number};
 ghost use Rattle.json_order.specs.private.Entries.{keys_of};
 ghost use Rattle.json_order.specs.private.Findings.{IsKeyFinding};
 ghost use Rattle.json_order.specs.private.Places.{entries_of_tree, value_of};
 ghost use Rattle.json_order.specs.private.Whole.{Crosses, IsQuoted, ReadsKey, ReadsNumber, ReadsValue, ReadsWord, IsWholeText};
-ghost use Rattle.json_order.specs.Seen.{json_of};
 
 use crate::fault::JsonKind;
+use crate::lent::{LentText, LentTree};
 use crate::members::Members;
 use crate::new_key::NewKey;
 use crate::number::is_done;
 use crate::place::Part;
-use crate::step::{DEPTH, empty_list, is_space, object_of, whole_list, whole_object};
-use crate::taking::{behind_char, copy_of, number_run, text_of};
-use crate::tree::Tree;
+use crate::step::{DEPTH, empty_list, empty_object, is_space, whole_list, whole_object};
+use crate::taking::{behind_char, number_run, text_of};
 use crate::word::Word;
 use std::alloc::Global;
 
@@ -46,8 +47,8 @@ fn behind_space<'a>(rest: &'a str) -> &'a str
 
 /// A string behind its first quote.
 #[inline(always)]
-fn quoted<'a>(alloc: Global, rest: &'a str) -> Whole<'a, String>
-    ensures ok { IfOk result (λ o. IfSome o (λ t. IsQuoted (string_bytes t.0) rest.now t.1.now)) }
+fn quoted<'a>(alloc: Global, rest: &'a str) -> Whole<'a, LentText<'a>>
+    ensures ok { IfOk result (λ o. IfSome o (λ t. IsQuoted (text_bytes t.0) rest.now t.1.now)) }
     ensures err { IfErr result (λ k. k ≡ Memory) }
 {
     let (text, behind) = text_of(alloc, rest)?;
@@ -59,13 +60,13 @@ fn quoted<'a>(alloc: Global, rest: &'a str) -> Whole<'a, String>
 
 /// A string as a value, behind its first quote.
 #[inline(always)]
-fn text<'a>(alloc: Global, rest: &'a str) -> Whole<'a, Tree>
-    ensures ok { IfOk result (λ o. IfSome o (λ t. (bytes : List ℕ) × (json_of t.0 ≡ string bytes)
+fn text<'a>(alloc: Global, rest: &'a str) -> Whole<'a, LentTree<'a>>
+    ensures ok { IfOk result (λ o. IfSome o (λ t. (bytes : List ℕ) × (lent_json t.0 ≡ string bytes)
         × IsQuoted bytes rest.now t.1.now)) }
     ensures err { IfErr result (λ k. k ≡ Memory) }
 {
     match quoted(alloc, rest)? {
-        Some((text, after)) => Ok(Some((Tree::Text(text), after))),
+        Some((text, after)) => Ok(Some((LentTree::Text(text), after))),
         None => Ok(None),
     }
 }
@@ -87,41 +88,43 @@ fn first_part(c: char) -> Option<Part>
 
 /// A number that begins with this character, which `behind` follows.
 #[inline(always)]
-fn number<'a>(alloc: Global, c: char, rest: &'a str, behind: &str) -> Whole<'a, Tree>
+fn number<'a>(c: char, rest: &'a str, behind: &str) -> Option<(LentTree<'a>, &'a str)>
     requires { rest.now ≡ encode_utf8 c ++ behind.now }
-    ensures ok { IfOk result (λ o. IfSome o (λ t. ReadsNumber (json_of t.0) rest.now t.1.now)) }
-    ensures err { IfErr result (λ k. k ≡ Memory) }
+    ensures { IfSome result (λ t. ReadsNumber (lent_json t.0) rest.now t.1.now) }
 {
     let Some(part) = first_part(c) else {
-        return Ok(None);
+        return None;
     };
     let (len, read) = number_run(behind.as_bytes(), part);
     if !is_done(read) {
-        return Ok(None);
+        return None;
     }
-    let (front, after) = rest.split_at(len + 1);
-    let text = copy_of(alloc, front)?;
-    Ok(Some((Tree::Number(text), after)))
+    let (text, after) = rest.split_at(len + 1);
+    Some((LentTree::Number(LentText::InPlace(text)), after))
 }
 
 /// A word behind its first letter.
 #[inline(always)]
-fn word<'a>(word: Word, rest: &'a str) -> Option<(Tree, &'a str)>
-    ensures { IfSome result (λ t. (json_of t.0 ≡ value_of word) × ReadsWord word rest.now t.1.now) }
+fn word<'a>(word: Word, rest: &'a str) -> Option<(LentTree<'a>, &'a str)>
+    ensures { IfSome result (λ t. (lent_json t.0 ≡ value_of word)
+        × ReadsWord word rest.now t.1.now) }
 {
     match rest.strip_prefix(word.tail()) {
-        Some(after) => Some((word.tree(), after)),
+        Some(after) => {
+            let tree = word.tree();
+            Some((tree, after))
+        }
         None => None,
     }
 }
 
 /// A new key behind these members, its colon and the white space behind it.
 #[inline(always)]
-fn key<'a>(alloc: Global, members: &Members, rest: &'a str) -> Whole<'a, NewKey>
+fn key<'a>(alloc: Global, members: &Members<'_>, rest: &'a str) -> Whole<'a, NewKey<'a>>
     ensures ok { IfOk result (λ o. IfSome o (λ t. ReadsKey (entries_of_tree members.now.list.items)
-        (string_bytes t.0.text) rest.now t.1.now)) }
+        (text_bytes t.0.text) rest.now t.1.now)) }
     ensures found { IfOk result (λ o. IfSome o (λ t. IsKeyFinding members.now.order
-        (keys_of members.now.list.items) (string_bytes t.0.text) t.0.finding)) }
+        (keys_of members.now.list.items) (text_bytes t.0.text) t.0.finding)) }
     ensures err { IfErr result (λ k. k ≡ Memory) }
 {
     let Some(begun) = behind_char('"', rest) else {
@@ -139,19 +142,12 @@ fn key<'a>(alloc: Global, members: &Members, rest: &'a str) -> Whole<'a, NewKey>
     Ok(Some((NewKey { text, finding }, behind_space(after))))
 }
 
-/// An object without members.
-fn empty_object(alloc: Global) -> Tree
-    ensures { json_of result ≡ object_value no_members }
-{
-    object_of(Vec::new(alloc))
-}
-
 /// A list behind its `[`; so many more may be open in it.
 #[cycle(value)]
 #[inline(never)]
-fn list<'a>(alloc: Global, rest: &'a str, depth: usize) -> Whole<'a, Tree>
+fn list<'a>(alloc: Global, rest: &'a str, depth: usize) -> Whole<'a, LentTree<'a>>
     ensures ok { IfOk result (λ o. IfSome o (λ t. Crosses (depth + 1) (state at_first_item)
-        (state (behind_value (json_of t.0))) rest.now t.1.now)) }
+        (state (behind_value (lent_json t.0))) rest.now t.1.now)) }
     ensures err { IfErr result (λ k. k ≡ Memory) }
 {
     let mut left = behind_space(rest);
@@ -178,9 +174,9 @@ fn list<'a>(alloc: Global, rest: &'a str, depth: usize) -> Whole<'a, Tree>
 /// An object behind its `{`; so many more may be open in it.
 #[cycle(value)]
 #[inline(never)]
-fn object<'a>(alloc: Global, rest: &'a str, depth: usize) -> Whole<'a, Tree>
+fn object<'a>(alloc: Global, rest: &'a str, depth: usize) -> Whole<'a, LentTree<'a>>
     ensures ok { IfOk result (λ o. IfSome o (λ t. Crosses (depth + 1) (state at_first_key)
-        (state (behind_value (json_of t.0))) rest.now t.1.now)) }
+        (state (behind_value (lent_json t.0))) rest.now t.1.now)) }
     ensures err { IfErr result (λ k. k ≡ Memory) }
 {
     let mut left = behind_space(rest);
@@ -211,10 +207,10 @@ fn object<'a>(alloc: Global, rest: &'a str, depth: usize) -> Whole<'a, Tree>
 /// in memory. It is taken apart here, and so the other results of [`value`] stay in registers.
 #[cycle(value)]
 #[inline(always)]
-fn nested<'a>(alloc: Global, c: char, rest: &'a str, depth: usize) -> Whole<'a, Tree>
+fn nested<'a>(alloc: Global, c: char, rest: &'a str, depth: usize) -> Whole<'a, LentTree<'a>>
     requires { (c ≡ 91) ⊎ (c ≡ 123) }
     ensures ok { IfOk result (λ o. IfSome o (λ t.
-        ReadsValue (depth + 1) (json_of t.0) (encode_utf8 c ++ rest.now) t.1.now)) }
+        ReadsValue (depth + 1) (lent_json t.0) (encode_utf8 c ++ rest.now) t.1.now)) }
     ensures err { IfErr result (λ k. k ≡ Memory) }
 {
     let read = if c == '[' {
@@ -231,9 +227,9 @@ fn nested<'a>(alloc: Global, c: char, rest: &'a str, depth: usize) -> Whole<'a, 
 /// A value; so many lists and objects may be open in it.
 #[cycle(value)]
 #[inline(always)]
-fn value<'a>(alloc: Global, rest: &'a str, depth: usize) -> Whole<'a, Tree>
+fn value<'a>(alloc: Global, rest: &'a str, depth: usize) -> Whole<'a, LentTree<'a>>
     ensures ok { IfOk result (λ o. IfSome o (λ t.
-        ReadsValue depth (json_of t.0) rest.now t.1.now)) }
+        ReadsValue depth (lent_json t.0) rest.now t.1.now)) }
     ensures err { IfErr result (λ k. k ≡ Memory) }
 {
     let mut chars = rest.chars();
@@ -247,13 +243,13 @@ fn value<'a>(alloc: Global, rest: &'a str, depth: usize) -> Whole<'a, Tree>
         'n' => Ok(word(Word::Null, after)),
         't' => Ok(word(Word::True, after)),
         'f' => Ok(word(Word::False, after)),
-        _ => number(alloc, c, rest, after),
+        _ => Ok(number(c, rest, after)),
     }
 }
 
 /// The value that a text spells, with white space around it.
-pub(crate) fn whole_text(alloc: Global, text: &str) -> Result<Option<Tree>, JsonKind>
-    ensures ok { IfOk result (λ o. IfSome o (λ tree. IsWholeText text.now (json_of tree))) }
+pub(crate) fn whole_text<'a>(alloc: Global, text: &'a str) -> Result<Option<LentTree<'a>>, JsonKind>
+    ensures ok { IfOk result (λ o. IfSome o (λ tree. IsWholeText text.now (lent_json tree))) }
     ensures err { IfErr result (λ k. k ≡ Memory) }
 {
     let left = behind_space(text);

@@ -1,8 +1,8 @@
 ghost use Rattle.std.specs.Prelude.{◌≡◌, ◌+◌, ◌<◌, [], ◌∷◌, MatchOption, IfSome};
-ghost use Rattle.json_order.specs.Seen.{json_of};
+ghost use Rattle.json_order.specs.Lent.{lent_json};
 ghost use Rattle.json_order.specs.private.Places.{letters_from, value_of};
 
-use crate::tree::Tree;
+use crate::lent::LentTree;
 
 /// A value that is a word.
 #[derive(Clone, Copy)]
@@ -48,13 +48,13 @@ impl Word {
         }
     }
 
-    pub(crate) fn tree(self) -> Tree
-        ensures { json_of result ≡ value_of self }
+    pub(crate) fn tree<'a>(self) -> LentTree<'a>
+        ensures { lent_json result ≡ value_of self }
     {
         match self {
-            Word::Null => Tree::Null,
-            Word::True => Tree::Bool(true),
-            Word::False => Tree::Bool(false),
+            Word::Null => LentTree::Null,
+            Word::True => LentTree::Bool(true),
+            Word::False => LentTree::Bool(false),
         }
     }
 }

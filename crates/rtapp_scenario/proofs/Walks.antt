@@ -1,13 +1,11 @@
 -- Loops over members in text order.
-use Rattle.std.specs.Prelude.{string_bytes}
-use Rattle.std.specs.declared.string.String.{String}
-use Rattle.std.specs.declared.alloc.Global.{Global}
 use Rattle.std.proofs.Common.{ℕ, ◌≡◌, ◌<◌, ◌≤◌, ◌+◌, ◌||◌, Bool, true, false, List, [], ◌∷◌, ◌++◌, map, length, get_or, drop, take, refl, sym, ap, ◌∙◌, Option, Some, None}
 use Rattle.std.proofs.lemmas.List.{at_drop_more, at_drop_all, take_more, map-append}
 use Rattle.std.specs.List.{list_any}
 use Rattle.std.specs.Str.{bytes_eq}
-use Rattle.json_order.specs.Seen.{json_of}
-use Rattle.json_order.specs.declared.tree.Tree.{Tree}
+use Rattle.json_order.specs.Lent.{text_bytes, lent_json}
+use Rattle.json_order.specs.declared.lent.LentText.{LentText}
+use Rattle.json_order.specs.declared.lent.LentTree.{LentTree}
 use Rattle.rtapp_scenario.specs.Values.{Member, member_of, members_of, at}
 use Rattle.rtapp_scenario.specs.Faults.{Fault, first, first_fault_in}
 
@@ -23,15 +21,15 @@ any_of_map test f (x ∷ xs) = ap (λ b. test (f x) || b) (any_of_map test f xs)
 
 -- ---- the value at a key
 
-pub at_found : (key : List ℕ) (ms : List (String Global × Tree)) (i : ℕ) (m : String Global × Tree) → i < length ms → m ≡ get_or ms i m → bytes_eq (string_bytes m.0) key ≡ true
-    → at key (members_of (drop i ms)) ≡ at key (members_of ms) → Some (json_of m.1) ≡ at key (members_of ms)
+pub at_found : (key : List ℕ) (ms : List (LentText × LentTree)) (i : ℕ) (m : LentText × LentTree) → i < length ms → m ≡ get_or ms i m → bytes_eq (text_bytes m.0) key ≡ true
+    → at key (members_of (drop i ms)) ≡ at key (members_of ms) → Some (lent_json m.1) ≡ at key (members_of ms)
 unfolding at
 at_found key ms i m h e same so_far =
     let step : at key (members_of (drop i ms)) ≡ at key (members_of (m ∷ drop (i + 1) ms)) = here (λ xs. at key (members_of xs)) ms i m h e in
-    let now : at key (members_of (m ∷ drop (i + 1) ms)) ≡ Some (json_of m.1) = rw same refl in
+    let now : at key (members_of (m ∷ drop (i + 1) ms)) ≡ Some (lent_json m.1) = rw same refl in
     sym now ∙ sym step ∙ so_far
 
-pub at_passed : (key : List ℕ) (ms : List (String Global × Tree)) (i : ℕ) (m : String Global × Tree) → i < length ms → m ≡ get_or ms i m → bytes_eq (string_bytes m.0) key ≡ false
+pub at_passed : (key : List ℕ) (ms : List (LentText × LentTree)) (i : ℕ) (m : LentText × LentTree) → i < length ms → m ≡ get_or ms i m → bytes_eq (text_bytes m.0) key ≡ false
     → at key (members_of (drop i ms)) ≡ at key (members_of ms) → at key (members_of (drop (i + 1) ms)) ≡ at key (members_of ms)
 unfolding at
 at_passed key ms i m h e other so_far =
@@ -39,7 +37,7 @@ at_passed key ms i m h e other so_far =
     let on : at key (members_of (m ∷ drop (i + 1) ms)) ≡ at key (members_of (drop (i + 1) ms)) = rw other refl in
     sym on ∙ sym step ∙ so_far
 
-pub at_end : (key : List ℕ) (ms : List (String Global × Tree)) (i : ℕ) → length ms ≤ i → at key (members_of (drop i ms)) ≡ at key (members_of ms) → None ≡ at key (members_of ms)
+pub at_end : (key : List ℕ) (ms : List (LentText × LentTree)) (i : ℕ) → length ms ≤ i → at key (members_of (drop i ms)) ≡ at key (members_of ms) → None ≡ at key (members_of ms)
 unfolding at
 at_end key ms i h so_far = sym (at_drop_all (λ xs. at key (members_of xs)) ms i h) ∙ so_far
 
@@ -66,7 +64,7 @@ first_end f xs i h so_far = sym (at_drop_all (λ ys. first (map f ys)) xs i h) �
 
 -- ---- the first fault in text order, by what stands before
 
-pub order_found : (test : List Member → Member → Option Fault) (ms : List (String Global × Tree)) (i : ℕ) (m : String Global × Tree) (fault : Fault) → i < length ms → m ≡ get_or ms i m
+pub order_found : (test : List Member → Member → Option Fault) (ms : List (LentText × LentTree)) (i : ℕ) (m : LentText × LentTree) (fault : Fault) → i < length ms → m ≡ get_or ms i m
     → test (members_of (take i ms)) (member_of m) ≡ Some fault
     → first_fault_in test (members_of (take i ms)) (members_of (drop i ms)) ≡ first_fault_in test [] (members_of ms) → Some fault ≡ first_fault_in test [] (members_of ms)
 order_found test ms i m fault h e found so_far =
@@ -75,19 +73,19 @@ order_found test ms i m fault h e found so_far =
     let now : first_fault_in test (members_of (take i ms)) (members_of (m ∷ drop (i + 1) ms)) ≡ Some fault = rw found refl in
     sym now ∙ sym step ∙ so_far
 
-pub order_end : (test : List Member → Member → Option Fault) (ms : List (String Global × Tree)) (i : ℕ) → length ms ≤ i
+pub order_end : (test : List Member → Member → Option Fault) (ms : List (LentText × LentTree)) (i : ℕ) → length ms ≤ i
     → first_fault_in test (members_of (take i ms)) (members_of (drop i ms)) ≡ first_fault_in test [] (members_of ms) → None ≡ first_fault_in test [] (members_of ms)
 order_end test ms i h so_far = sym (at_drop_all (λ xs. first_fault_in test (members_of (take i ms)) (members_of xs)) ms i h) ∙ so_far
 
 -- one member more stands before
-pub before_more : (ms : List (String Global × Tree)) (i : ℕ) (m : String Global × Tree) → i < length ms → m ≡ get_or ms i m → members_of (take (i + 1) ms) ≡ members_of (take i ms) ++ member_of m ∷ []
+pub before_more : (ms : List (LentText × LentTree)) (i : ℕ) (m : LentText × LentTree) → i < length ms → m ≡ get_or ms i m → members_of (take (i + 1) ms) ≡ members_of (take i ms) ++ member_of m ∷ []
 before_more ms i m h e = ap (λ xs. members_of xs) (take_more ms i m h) ∙ map-append member_of (take i ms) (get_or ms i m ∷ []) ∙ ap (λ x. members_of (take i ms) ++ member_of x ∷ []) (sym e)
 
 pub first_none : {X : Type 0} (o : Option X) → first (o ∷ []) ≡ o
 first_none None = refl
 first_none (Some x) = refl
 
-pub order_passed : (test : List Member → Member → Option Fault) (ms : List (String Global × Tree)) (i : ℕ) (m : String Global × Tree) → i < length ms → m ≡ get_or ms i m
+pub order_passed : (test : List Member → Member → Option Fault) (ms : List (LentText × LentTree)) (i : ℕ) (m : LentText × LentTree) → i < length ms → m ≡ get_or ms i m
     → test (members_of (take i ms)) (member_of m) ≡ None
     → first_fault_in test (members_of (take i ms)) (members_of (drop i ms)) ≡ first_fault_in test [] (members_of ms)
     → first_fault_in test (members_of (take (i + 1) ms)) (members_of (drop (i + 1) ms)) ≡ first_fault_in test [] (members_of ms)

@@ -3,8 +3,8 @@ use Rattle.std.specs.Prelude.{ℕ, ◌≡◌, List, [], Option, Some, None, Resu
 use Rattle.rtapp_scenario.specs.ScenarioView.{ScenarioView}
 use denote.Ref.{Bor}
 use Rattle.json_order.specs.Json.{Json}
-use Rattle.json_order.specs.Seen.{json_of}
-use Rattle.json_order.specs.declared.tree.Tree.{Tree}
+use Rattle.json_order.specs.Lent.{lent_json}
+use Rattle.json_order.specs.declared.lent.LentTree.{LentTree}
 use Rattle.rtapp_scenario.specs.Faults.{Fault, no_tasks, duration, unsupported, value, name, policy, too_many, idle}
 use Rattle.rtapp_scenario.specs.declared.flaw.Flaw.{Flaw}
 use Rattle.rtapp_scenario.specs.declared.flaw.Flaw.TheVariants as flaws
@@ -83,6 +83,6 @@ ref_seen None = None
 ref_seen (Some text) = Some text.now
 
 -- a value that lies in the tree
-abbrev pub tree_seen : Option (Bor Tree) → Option Json
+abbrev pub tree_seen : Option (Bor LentTree) → Option Json
 tree_seen None = None
-tree_seen (Some tree) = Some (json_of tree.now)
+tree_seen (Some tree) = Some (lent_json tree.now)

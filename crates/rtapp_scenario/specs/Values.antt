@@ -1,15 +1,14 @@
 -- JSON values as the profile reads them.
-use Rattle.std.specs.Prelude.{ℕ, ◌^◌, Bool, ◌&&◌, nat_lt, nat_le, if◌then◌else◌, List, [], ◌∷◌, length, map, find, Option, Some, None, is_some, option_and_then, unwrap_or, codes, string_bytes}
+use Rattle.std.specs.Prelude.{ℕ, ◌^◌, Bool, ◌&&◌, nat_lt, nat_le, if◌then◌else◌, List, [], ◌∷◌, length, map, find, Option, Some, None, is_some, option_and_then, unwrap_or, codes}
 use Rattle.std.specs.Option.{option_map}
 use Rattle.std.specs.Char.{is_ascii_digit}
 use Rattle.std.specs.List.{list_all}
 use Rattle.std.specs.Str.{bytes_eq}
 use Rattle.std.specs.Str.Parse.{digits_value}
-use Rattle.std.specs.declared.string.String.{String}
-use Rattle.std.specs.declared.alloc.Global.{Global}
 use Rattle.json_order.specs.Json.{Json, null, boolean, number, string, array, object, Items, no_items, item, Members, no_members, member}
-use Rattle.json_order.specs.declared.tree.Tree.{Tree}
-use Rattle.json_order.specs.Seen.{json_of}
+use Rattle.json_order.specs.declared.lent.LentText.{LentText}
+use Rattle.json_order.specs.declared.lent.LentTree.{LentTree}
+use Rattle.json_order.specs.Lent.{text_bytes, lent_json}
 
 -- a key and its value
 pub record Member : Type 0 where
@@ -98,8 +97,8 @@ abbrev pub members_at : List ℕ → List Member → List Member
 members_at key ms = members (unwrap_or (at key ms) null)
 
 -- members as the code has them
-abbrev pub member_of : String Global × Tree → Member
-member_of m = record { key = string_bytes m.0; value = json_of m.1 }
+abbrev pub member_of : LentText × LentTree → Member
+member_of m = record { key = text_bytes m.0; value = lent_json m.1 }
 
-abbrev pub members_of : List (String Global × Tree) → List Member
+abbrev pub members_of : List (LentText × LentTree) → List Member
 members_of ms = map member_of ms

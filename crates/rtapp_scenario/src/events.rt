@@ -10,20 +10,20 @@ use crate::key::{
     EventKind, MOST, check_timer_key, check_timer_missing, is_text, is_whole, unless,
 };
 use crate::value::{is, object};
-use json_order::Tree;
+use json_order::LentMember;
 
 /// The most events of a phase, and the most phases of a thread.
 pub(crate) const MOST_ITEMS: usize = 64;
 
 /// A timer's `ref` is that of the thread's first timer.
 #[tactic(auto, unfolding(crate::specs::Keys::takes))]
-fn check_ref<'a>(first_ref: Option<&str>, member: &'a (String, Tree)) -> Result<(), Flaw<'a>>
+fn check_ref<'a>(first_ref: Option<&str>, member: &'a LentMember<'_>) -> Result<(), Flaw<'a>>
     ensures { flaw_of result ≡ other_ref (ref_seen first_ref.entry) (member_of member.now) }
 {
     let Some(first_ref) = first_ref else {
         return Ok(());
     };
-    if !is(&member.0, "ref") {
+    if !is(member.0.as_str(), "ref") {
         return Ok(());
     }
     unless(is_text(&member.1, first_ref), Flaw::Unsupported("ref"))
@@ -31,7 +31,7 @@ fn check_ref<'a>(first_ref: Option<&str>, member: &'a (String, Tree)) -> Result<
 
 fn check_timer_member<'a>(
     first_ref: Option<&str>,
-    member: &'a (String, Tree),
+    member: &'a LentMember<'_>,
 ) -> Result<(), Flaw<'a>>
     ensures { flaw_of result
         ≡ timer_member_fault (ref_seen first_ref.entry) [] (member_of member.now) }
@@ -42,7 +42,7 @@ fn check_timer_member<'a>(
 
 fn check_timer_members<'a>(
     first_ref: Option<&str>,
-    members: &'a [(String, Tree)],
+    members: &'a [LentMember<'_>],
 ) -> Result<(), Flaw<'a>>
     ensures { flaw_of result
         ≡ first_fault_in (timer_member_fault (ref_seen first_ref.entry)) []
@@ -56,12 +56,12 @@ fn check_timer_members<'a>(
 
 // Apart, as timers are rare beside other events.
 #[inline(never)]
-fn check_timer<'a>(first_ref: Option<&str>, member: &'a (String, Tree)) -> Result<(), Flaw<'a>>
+fn check_timer<'a>(first_ref: Option<&str>, member: &'a LentMember<'_>) -> Result<(), Flaw<'a>>
     ensures { flaw_of result ≡ timer_fault (ref_seen first_ref.entry)
         (object_of (member_of member.now).value) (member_of member.now) }
 {
     let Some(members) = object(&member.1) else {
-        return Err(Flaw::Value(&member.0));
+        return Err(Flaw::Value(member.0.as_str()));
     };
     check_timer_members(first_ref, members)?;
     check_timer_missing(members)
@@ -73,7 +73,7 @@ fn check_timer<'a>(first_ref: Option<&str>, member: &'a (String, Tree)) -> Resul
 fn check_event_value<'a>(
     first_ref: Option<&str>,
     kind: EventKind,
-    member: &'a (String, Tree),
+    member: &'a LentMember<'_>,
 ) -> Result<(), Flaw<'a>>
     ensures { flaw_of result
         ≡ event_value_fault (ref_seen first_ref.entry) (Some kind) (member_of member.now) }
@@ -81,7 +81,7 @@ fn check_event_value<'a>(
     match kind {
         EventKind::Run | EventKind::Sleep => unless(
             is_whole(&member.1, 0, MOST),
-            Flaw::Value(&member.0),
+            Flaw::Value(member.0.as_str()),
         ),
         EventKind::Timer => check_timer(first_ref, member),
     }
@@ -94,7 +94,7 @@ pub(crate) fn check_event<'a>(
     first_ref: Option<&str>,
     events: usize,
     kind: EventKind,
-    member: &'a (String, Tree),
+    member: &'a LentMember<'_>,
 ) -> Result<(), Flaw<'a>>
     requires { kind_of (member_of member.now).key ≡ Some kind }
     ensures fault { (before : List Member) → count_by is_event before ≡ events

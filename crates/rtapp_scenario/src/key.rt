@@ -1,5 +1,5 @@
 ghost use Rattle.std.specs.Prelude.{◌≡◌, Some, None, if◌then◌else◌, [], map};
-ghost use Rattle.json_order.specs.Seen.{json_of};
+ghost use Rattle.json_order.specs.Lent.{lent_json};
 ghost use Rattle.rtapp_scenario.specs.Values.{member_of, members_of, has};
 ghost use Rattle.rtapp_scenario.specs.Keys.{takes, whole, loops, this_text, any_text, cpu_list, are_cpus, thread_keys, phase_keys, timer_keys, key_fault, missing_fault, kind_of, begins_with};
 ghost use Rattle.rtapp_scenario.specs.Threads.{is_timer};
@@ -10,7 +10,7 @@ ghost use Rattle.rtapp_scenario.specs.Faults.{unless};
 
 use crate::flaw::Flaw;
 use crate::value::{are_digits, at, is, list, natural_within, number, text};
-use json_order::Tree;
+use json_order::{LentMember, LentTree};
 
 /// What an event's key begins with.
 #[derive(Clone, Copy)]
@@ -72,22 +72,22 @@ pub(crate) fn is_timer(key: &str) -> bool
     }
 }
 
-pub(crate) fn has(key: &str, members: &[(String, Tree)]) -> bool
+pub(crate) fn has(key: &str, members: &[LentMember<'_>]) -> bool
     ensures { result ≡ has key.now (members_of members.now) }
 {
     at(key, members).is_some()
 }
 
 #[tactic(auto, unfolding(crate::specs::Keys::takes))]
-pub(crate) fn is_whole(tree: &Tree, least: u64, most: u64) -> bool
-    ensures { result ≡ takes (whole least most) (json_of tree.now) }
+pub(crate) fn is_whole(tree: &LentTree<'_>, least: u64, most: u64) -> bool
+    ensures { result ≡ takes (whole least most) (lent_json tree.now) }
 {
     natural_within(tree, least, most).is_some()
 }
 
 #[tactic(auto, unfolding(crate::specs::Keys::takes))]
-fn is_loops(tree: &Tree) -> bool
-    ensures { result ≡ takes loops (json_of tree.now) }
+fn is_loops(tree: &LentTree<'_>) -> bool
+    ensures { result ≡ takes loops (lent_json tree.now) }
 {
     if let Some(text) = number(tree)
         && is(text, "-1")
@@ -98,8 +98,8 @@ fn is_loops(tree: &Tree) -> bool
 }
 
 #[tactic(auto, unfolding(crate::specs::Keys::takes))]
-pub(crate) fn is_text(tree: &Tree, word: &str) -> bool
-    ensures { result ≡ takes (this_text word.now) (json_of tree.now) }
+pub(crate) fn is_text(tree: &LentTree<'_>, word: &str) -> bool
+    ensures { result ≡ takes (this_text word.now) (lent_json tree.now) }
 {
     match text(tree) {
         Some(text) => is(text, word),
@@ -108,17 +108,17 @@ pub(crate) fn is_text(tree: &Tree, word: &str) -> bool
 }
 
 #[tactic(auto, unfolding(crate::specs::Keys::takes))]
-fn is_any_text(tree: &Tree) -> bool
-    ensures { result ≡ takes any_text (json_of tree.now) }
+fn is_any_text(tree: &LentTree<'_>) -> bool
+    ensures { result ≡ takes any_text (lent_json tree.now) }
 {
     text(tree).is_some()
 }
 
 /// Each item is a whole number 0 to 511 that does not stand before it. The marks are of numbers
 /// that stood before.
-fn are_new_cpus(items: &[Tree], seen: &mut [bool; 512]) -> bool
+fn are_new_cpus(items: &[LentTree<'_>], seen: &mut [bool; 512]) -> bool
     requires { AreMarks seen.old [] }
-    ensures { result ≡ cpus_after [] (map json_of items.now) }
+    ensures { result ≡ cpus_after [] (map lent_json items.now) }
 {
     for item in items {
         let Some(n) = natural_within(item, 0, 511) else {
@@ -134,8 +134,8 @@ fn are_new_cpus(items: &[Tree], seen: &mut [bool; 512]) -> bool
 
 /// The list is of one or more different whole numbers 0 to 511.
 #[tactic(auto, unfolding(crate::specs::Keys::are_cpus))]
-fn are_cpus(items: &[Tree]) -> bool
-    ensures { result ≡ are_cpus (map json_of items.now) }
+fn are_cpus(items: &[LentTree<'_>]) -> bool
+    ensures { result ≡ are_cpus (map lent_json items.now) }
 {
     if items.is_empty() {
         return false;
@@ -145,8 +145,8 @@ fn are_cpus(items: &[Tree]) -> bool
 }
 
 #[tactic(auto, unfolding(crate::specs::Keys::takes))]
-fn is_cpu_list(tree: &Tree) -> bool
-    ensures { result ≡ takes cpu_list (json_of tree.now) }
+fn is_cpu_list(tree: &LentTree<'_>) -> bool
+    ensures { result ≡ takes cpu_list (lent_json tree.now) }
 {
     match list(tree) {
         Some(items) => are_cpus(items),
@@ -163,7 +163,7 @@ pub(crate) fn unless<'a>(passes: bool, flaw: Flaw<'a>) -> Result<(), Flaw<'a>>
 
 /// A member of a timer by the table: `ref`, `period` and `mode`.
 #[tactic(auto, unfolding(crate::specs::Keys::key_fault))]
-pub(crate) fn check_timer_key(member: &(String, Tree)) -> Result<(), Flaw<'_>>
+pub(crate) fn check_timer_key<'a>(member: &'a LentMember<'_>) -> Result<(), Flaw<'a>>
     ensures { flaw_of result ≡ key_fault timer_keys (member_of member.now) }
 {
     let key = member.0.as_str();
@@ -182,7 +182,7 @@ pub(crate) fn check_timer_key(member: &(String, Tree)) -> Result<(), Flaw<'_>>
 
 /// What a timer lacks: `ref`, then `period`.
 #[tactic(auto, unfolding(crate::specs::Keys::missing_fault))]
-pub(crate) fn check_timer_missing(members: &[(String, Tree)]) -> Result<(), Flaw<'_>>
+pub(crate) fn check_timer_missing<'a>(members: &'a [LentMember<'_>]) -> Result<(), Flaw<'a>>
     ensures { flaw_of result ≡ missing_fault timer_keys (members_of members.now) }
 {
     unless(has("ref", members), Flaw::Value("ref"))?;
@@ -191,7 +191,7 @@ pub(crate) fn check_timer_missing(members: &[(String, Tree)]) -> Result<(), Flaw
 
 /// A member of a phase that is no event, by the table: `loop`.
 #[tactic(auto, unfolding(crate::specs::Keys::key_fault))]
-pub(crate) fn check_phase_key(member: &(String, Tree)) -> Result<(), Flaw<'_>>
+pub(crate) fn check_phase_key<'a>(member: &'a LentMember<'_>) -> Result<(), Flaw<'a>>
     ensures { flaw_of result ≡ key_fault phase_keys (member_of member.now) }
 {
     let key = member.0.as_str();
@@ -203,7 +203,7 @@ pub(crate) fn check_phase_key(member: &(String, Tree)) -> Result<(), Flaw<'_>>
 
 /// A member of a thread that is neither `phases` nor an event, by the table.
 #[tactic(auto, unfolding(crate::specs::Keys::key_fault, crate::specs::Keys::takes))]
-pub(crate) fn check_thread_key(member: &(String, Tree)) -> Result<(), Flaw<'_>>
+pub(crate) fn check_thread_key<'a>(member: &'a LentMember<'_>) -> Result<(), Flaw<'a>>
     ensures { flaw_of result ≡ key_fault thread_keys (member_of member.now) }
 {
     let key = member.0.as_str();
@@ -240,7 +240,7 @@ pub(crate) fn check_thread_key(member: &(String, Tree)) -> Result<(), Flaw<'_>>
 
 /// What a thread lacks: `policy`, then `dl-runtime`.
 #[tactic(auto, unfolding(crate::specs::Keys::missing_fault))]
-pub(crate) fn check_thread_missing(members: &[(String, Tree)]) -> Result<(), Flaw<'_>>
+pub(crate) fn check_thread_missing<'a>(members: &'a [LentMember<'_>]) -> Result<(), Flaw<'a>>
     ensures { flaw_of result ≡ missing_fault thread_keys (members_of members.now) }
 {
     unless(has("policy", members), Flaw::Policy)?;

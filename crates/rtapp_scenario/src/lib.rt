@@ -5,7 +5,8 @@
 //! `specs/Tests.antt`: which tests it has to pass, in their order; `specs/Keys.antt`: the keys with
 //! what they take, as tables). To the crates above it promises that [`parse`] is Ok exactly with
 //! the definition's scenario and Err with its first fault, want of memory aside, and that every
-//! [`TaskSpec`] and its script are within their limits.
+//! [`TaskSpec`] and its script are within their limits. [`parse_lent`] promises the same of a tree
+//! whose texts lie elsewhere.
 #![tactic(auto)]
 
 mod events;
@@ -22,5 +23,5 @@ mod threads;
 mod value;
 
 pub use fault::ScenarioFault;
-pub use parsing::parse;
+pub use parsing::{parse, parse_lent};
 pub use scenario::{Scenario, TaskSpec};

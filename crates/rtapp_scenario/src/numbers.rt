@@ -5,11 +5,11 @@ ghost use Rattle.rtapp_scenario.specs.Threads as of;
 
 use crate::key::{MOST, MOST_TASKS, MOST_TIME};
 use crate::value::{at, natural_within};
-use json_order::Tree;
+use json_order::LentMember;
 
 /// The number at a key, from the least to the most; else the default.
 #[tactic(auto, unfolding(crate::specs::Threads::number_at))]
-fn number_at(key: &str, least: u64, most: u64, default: u64, members: &[(String, Tree)]) -> u64
+fn number_at(key: &str, least: u64, most: u64, default: u64, members: &[LentMember<'_>]) -> u64
     requires least { least ≤ default }
     requires most { default ≤ most }
     ensures value { result ≡ number_at key.now least most default (members_of members.now) }
@@ -26,7 +26,7 @@ fn number_at(key: &str, least: u64, most: u64, default: u64, members: &[(String,
 }
 
 /// How many tasks a thread is.
-pub(crate) fn instances(members: &[(String, Tree)]) -> u64
+pub(crate) fn instances(members: &[LentMember<'_>]) -> u64
     ensures value { result ≡ instances (members_of members.now) }
     ensures some { 1 ≤ result }
     ensures most { result ≤ 256 }
@@ -35,7 +35,7 @@ pub(crate) fn instances(members: &[(String, Tree)]) -> u64
 }
 
 /// Microseconds from the admission to the start.
-pub(crate) fn delay(members: &[(String, Tree)]) -> u64
+pub(crate) fn delay(members: &[LentMember<'_>]) -> u64
     ensures value { result ≡ delay (members_of members.now) }
     ensures most { result ≤ 1000000000 }
 {
@@ -43,7 +43,7 @@ pub(crate) fn delay(members: &[(String, Tree)]) -> u64
 }
 
 /// Microseconds.
-pub(crate) fn runtime(members: &[(String, Tree)]) -> u64
+pub(crate) fn runtime(members: &[LentMember<'_>]) -> u64
     ensures value { result ≡ runtime (members_of members.now) }
     ensures most { result ≤ 9000000000000000 }
 {
@@ -51,7 +51,7 @@ pub(crate) fn runtime(members: &[(String, Tree)]) -> u64
 }
 
 /// Microseconds; by default the runtime, which is given.
-pub(crate) fn period(runtime: u64, members: &[(String, Tree)]) -> u64
+pub(crate) fn period(runtime: u64, members: &[LentMember<'_>]) -> u64
     requires runtime { runtime ≡ of.runtime (members_of members.now) }
     requires most { runtime ≤ 9000000000000000 }
     ensures value { result ≡ of.period (members_of members.now) }
@@ -61,7 +61,7 @@ pub(crate) fn period(runtime: u64, members: &[(String, Tree)]) -> u64
 }
 
 /// Microseconds; by default the period, which is given.
-pub(crate) fn deadline(period: u64, members: &[(String, Tree)]) -> u64
+pub(crate) fn deadline(period: u64, members: &[LentMember<'_>]) -> u64
     requires period { period ≡ of.period (members_of members.now) }
     requires most { period ≤ 9000000000000000 }
     ensures value { result ≡ of.deadline (members_of members.now) }
@@ -71,7 +71,7 @@ pub(crate) fn deadline(period: u64, members: &[(String, Tree)]) -> u64
 }
 
 /// Rounds over the phases; none for no end.
-pub(crate) fn rounds(members: &[(String, Tree)]) -> Option<u64>
+pub(crate) fn rounds(members: &[LentMember<'_>]) -> Option<u64>
     ensures value { result ≡ rounds (members_of members.now) }
     ensures within { IfSome result (λ n. (1 ≤ n) × (n ≤ 1000000000)) }
 {
@@ -79,7 +79,7 @@ pub(crate) fn rounds(members: &[(String, Tree)]) -> Option<u64>
 }
 
 /// Repetitions of a phase.
-pub(crate) fn count(members: &[(String, Tree)]) -> u64
+pub(crate) fn count(members: &[LentMember<'_>]) -> u64
     ensures value { result ≡ count (members_of members.now) }
     ensures some { 1 ≤ result }
     ensures most { result ≤ 1000000000 }

@@ -10,11 +10,11 @@ ghost use Rattle.rtapp_scenario.specs.Scenario.{phase_of, member_phase, phases, 
 use crate::numbers::{count, rounds};
 use crate::threads::event_at;
 use crate::value::{at, members};
-use json_order::Tree;
+use json_order::LentMember;
 use std::alloc::{AllocError, Global};
 use task_script::{Event, Phase, Script};
 
-fn events_of(alloc: Global, members: &[(String, Tree)]) -> Result<Vec<Event>, AllocError>
+fn events_of(alloc: Global, members: &[LentMember<'_>]) -> Result<Vec<Event>, AllocError>
     ensures { IfOk result (λ v. v.items ≡ filter_map event_of_member (members_of members.now)) }
 {
     let mut events = Vec::with_capacity(alloc, members.len())?;
@@ -27,14 +27,14 @@ fn events_of(alloc: Global, members: &[(String, Tree)]) -> Result<Vec<Event>, Al
 }
 
 #[tactic(auto, unfolding(crate::specs::Scenario::phase_of))]
-fn phase_of(alloc: Global, count: u64, members: &[(String, Tree)]) -> Result<Phase, AllocError>
+fn phase_of(alloc: Global, count: u64, members: &[LentMember<'_>]) -> Result<Phase, AllocError>
     ensures { IfOk result (λ p. p ≡ phase_of count (members_of members.now)) }
 {
     let events = events_of(alloc, members)?;
     Ok(Phase { count, events })
 }
 
-fn phases_in(alloc: Global, phases: &[(String, Tree)]) -> Result<Vec<Phase>, AllocError>
+fn phases_in(alloc: Global, phases: &[LentMember<'_>]) -> Result<Vec<Phase>, AllocError>
     ensures { IfOk result (λ v. v.items ≡ map member_phase (members_of phases.now)) }
 {
     let mut made = Vec::with_capacity(alloc, phases.len())?;
@@ -45,7 +45,7 @@ fn phases_in(alloc: Global, phases: &[(String, Tree)]) -> Result<Vec<Phase>, All
     Ok(made)
 }
 
-fn phases_of(alloc: Global, members: &[(String, Tree)]) -> Result<Vec<Phase>, AllocError>
+fn phases_of(alloc: Global, members: &[LentMember<'_>]) -> Result<Vec<Phase>, AllocError>
     ensures { IfOk result (λ v. v.items ≡ phases (members_of members.now)) }
 {
     if let Some(phases) = at("phases", members) {
@@ -82,7 +82,7 @@ fn made(loops: i64, phases: Vec<Phase>) -> Script
 
 /// The script of a thread that passed its tests, to share.
 #[tactic(auto, unfolding(crate::specs::Scenario::script))]
-pub(crate) fn script_of(alloc: Global, members: &[(String, Tree)]) -> Result<Script, AllocError>
+pub(crate) fn script_of(alloc: Global, members: &[LentMember<'_>]) -> Result<Script, AllocError>
     requires { members_fault (members_of members.now) ≡ None }
     ensures value { IfOk result (λ s. s ≡ script (members_of members.now)) }
     ensures within { IfOk result IsScript }

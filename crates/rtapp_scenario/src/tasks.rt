@@ -1,5 +1,5 @@
 ghost use Rattle.std.specs.Prelude.{◌≡◌, ◌==◌, ◌≤◌, ◌<◌, ◌+◌, ◌++◌, ℕ, take, [], map, length, if◌then◌else◌, true, None, codes, decimal, All, IfOk, IfErr, OnOk, string_bytes, unwrap_or};
-ghost use Rattle.json_order.specs.Seen.{json_of};
+ghost use Rattle.json_order.specs.Lent.{lent_json};
 ghost use Rattle.std.specs.Option.{option_map};
 ghost use Rattle.task_script.specs.NameView.{IsName, IsNameByte};
 ghost use Rattle.rtapp_scenario.specs.Values.{Member, natural_within, member_of, members_of, members};
@@ -20,7 +20,7 @@ use crate::script::script_of;
 use crate::threads::{check_beside, check_thread, thread_ref};
 use crate::value::{at, list, members, natural_within};
 use attr_check::SchedAttr;
-use json_order::Tree;
+use json_order::{LentMember, LentTree};
 use std::alloc::{AllocError, Global};
 use std::fmt::Write;
 use task_script::{Name, Script};
@@ -61,8 +61,8 @@ fn task_name(alloc: Global, name: &str, instances: u64, k: u64) -> Result<Name, 
     Ok(short_name(long_name(alloc, name, instances, k)?))
 }
 
-fn numbers_of(alloc: Global, items: &[Tree]) -> Result<Vec<u32>, AllocError>
-    ensures value { IfOk result (λ v. v.items ≡ numbers_in (map json_of items.now)) }
+fn numbers_of(alloc: Global, items: &[LentTree<'_>]) -> Result<Vec<u32>, AllocError>
+    ensures value { IfOk result (λ v. v.items ≡ numbers_in (map lent_json items.now)) }
     ensures placed { IfOk result (λ v. All (λ cpu. cpu ≤ 511) v.items) }
 {
     let mut numbers = Vec::with_capacity(alloc, items.len())?;
@@ -73,8 +73,8 @@ fn numbers_of(alloc: Global, items: &[Tree]) -> Result<Vec<u32>, AllocError>
 }
 
 /// The number of a CPU.
-fn number_of(item: &Tree) -> u32
-    ensures value { result ≡ unwrap_or (natural_within 0 511 (json_of item.now)) 0 }
+fn number_of(item: &LentTree<'_>) -> u32
+    ensures value { result ≡ unwrap_or (natural_within 0 511 (lent_json item.now)) 0 }
     ensures placed { result ≤ 511 }
 {
     match natural_within(item, 0, 511) {
@@ -83,7 +83,7 @@ fn number_of(item: &Tree) -> u32
     }
 }
 
-fn cpus_of(alloc: Global, members: &[(String, Tree)]) -> Result<Option<Vec<u32>>, AllocError>
+fn cpus_of(alloc: Global, members: &[LentMember<'_>]) -> Result<Option<Vec<u32>>, AllocError>
     ensures value { IfOk result (λ o. option_map (λ v. v.items) o ≡ cpus (members_of members.now)) }
     ensures placed { IfOk result (λ o. AreCpus (option_map (λ v. v.items) o)) }
 {
@@ -96,7 +96,7 @@ fn cpus_of(alloc: Global, members: &[(String, Tree)]) -> Result<Option<Vec<u32>>
     }
 }
 
-fn attr_of(members: &[(String, Tree)]) -> SchedAttr
+fn attr_of(members: &[LentMember<'_>]) -> SchedAttr
     ensures { result ≡ attr (members_of members.now) }
 {
     let runtime = runtime(members);
@@ -119,7 +119,7 @@ struct Shape {
     script: Script,
 }
 
-fn shape_of(alloc: Global, members: &[(String, Tree)]) -> Result<Shape, AllocError>
+fn shape_of(alloc: Global, members: &[LentMember<'_>]) -> Result<Shape, AllocError>
     requires { members_fault (members_of members.now) ≡ None }
     ensures is { IfOk result (IsShape (members_of members.now)) }
     ensures fits { IfOk result FitsTask }
@@ -177,7 +177,7 @@ fn task_of(alloc: Global, shape: &Shape, name: Name, number: u64) -> Result<Task
 #[tactic(auto, unfolding(crate::specs::Scenario::thread_tasks))]
 fn add_thread(
     alloc: Global,
-    thread: &(String, Tree),
+    thread: &LentMember<'_>,
     instances: u64,
     others: u64,
     tasks: &mut Vec<TaskSpec>,
@@ -191,7 +191,7 @@ fn add_thread(
 {
     let shape = shape_of(alloc, members(&thread.1))?;
     for k in 0..instances {
-        let name = task_name(alloc, &thread.0, instances, k)?;
+        let name = task_name(alloc, thread.0.as_str(), instances, k)?;
         tasks.push(task_of(alloc, &shape, name, others + 1 + k)?)?;
     }
     Ok(())
@@ -200,7 +200,7 @@ fn add_thread(
 /// The tasks of threads, or the first fault.
 pub(crate) fn tasks_of(
     alloc: Global,
-    threads: &[(String, Tree)],
+    threads: &[LentMember<'_>],
 ) -> Result<Vec<TaskSpec>, ScenarioFault>
     ensures passed { OnOk result (first_fault_in thread_fault [] (members_of threads.now) ≡ None) }
     ensures found { IfOk result (λ v. v.items ≡ tasks_from 1 (members_of threads.now)) }

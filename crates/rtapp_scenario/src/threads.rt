@@ -1,6 +1,6 @@
 ghost use Rattle.std.specs.Prelude.{◌≡◌, ◌+◌, ◌≤◌, ◌&&◌, nat_le, List, [], ◌∷◌, ◌++◌, map, not, IfOk, OnOk};
 ghost use Rattle.std.specs.List.{list_any, list_all};
-ghost use Rattle.json_order.specs.Seen.{json_of};
+ghost use Rattle.json_order.specs.Lent.{lent_json};
 ghost use Rattle.rtapp_scenario.specs.Values.{Member, member_of, members_of, members};
 ghost use Rattle.rtapp_scenario.specs.Faults.{first_fault_in, first};
 ghost use Rattle.rtapp_scenario.specs.Keys.{is_text};
@@ -17,22 +17,22 @@ use crate::key::{
 };
 use crate::phases::check_phases;
 use crate::value::{at, is, members, natural_within, object, text};
-use json_order::Tree;
+use json_order::{LentMember, LentTree};
 use task_script::Event;
 
 /// The value of a member that is a timer.
 #[tactic(auto, unfolding(crate::specs::Threads::timer_at))]
-fn timer_at(member: &(String, Tree)) -> Option<&Tree>
+fn timer_at<'a, 'b>(member: &'a LentMember<'b>) -> Option<&'a LentTree<'b>>
     ensures { tree_seen result ≡ timer_at (member_of member.now) }
 {
-    if is_timer(&member.0) {
+    if is_timer(member.0.as_str()) {
         Some(&member.1)
     } else {
         None
     }
 }
 
-fn first_timer_in(members: &[(String, Tree)]) -> Option<&Tree>
+fn first_timer_in<'a, 'b>(members: &'a [LentMember<'b>]) -> Option<&'a LentTree<'b>>
     ensures { tree_seen result ≡ first_timer_in (members_of members.now) }
 {
     for member in members {
@@ -43,7 +43,7 @@ fn first_timer_in(members: &[(String, Tree)]) -> Option<&Tree>
     None
 }
 
-fn first_timer_of_phases(phases: &[(String, Tree)]) -> Option<&Tree>
+fn first_timer_of_phases<'a, 'b>(phases: &'a [LentMember<'b>]) -> Option<&'a LentTree<'b>>
     ensures { tree_seen result
         ≡ first (map (λ phase. first_timer_in (members phase.value)) (members_of phases.now)) }
 {
@@ -57,16 +57,16 @@ fn first_timer_of_phases(phases: &[(String, Tree)]) -> Option<&Tree>
 
 /// The first timer of `phases`, or of a member of the thread's own.
 #[tactic(auto, unfolding(crate::specs::Threads::timer_of))]
-fn timer_of(member: &(String, Tree)) -> Option<&Tree>
+fn timer_of<'a, 'b>(member: &'a LentMember<'b>) -> Option<&'a LentTree<'b>>
     ensures { tree_seen result ≡ timer_of (member_of member.now) }
 {
-    if is(&member.0, "phases") {
+    if is(member.0.as_str(), "phases") {
         return first_timer_of_phases(members(&member.1));
     }
     timer_at(member)
 }
 
-fn first_timer(members: &[(String, Tree)]) -> Option<&Tree>
+fn first_timer<'a, 'b>(members: &'a [LentMember<'b>]) -> Option<&'a LentTree<'b>>
     ensures { tree_seen result ≡ first (map timer_of (members_of members.now)) }
 {
     for member in members {
@@ -77,15 +77,15 @@ fn first_timer(members: &[(String, Tree)]) -> Option<&Tree>
     None
 }
 
-fn ref_of(timer: &Tree) -> Option<&str>
-    ensures { ref_seen result ≡ ref_of (json_of timer.now) }
+fn ref_of<'a>(timer: &'a LentTree<'_>) -> Option<&'a str>
+    ensures { ref_seen result ≡ ref_of (lent_json timer.now) }
 {
     text(at("ref", members(timer))?)
 }
 
 /// The `ref` of a thread's first timer, in text order.
 #[tactic(auto, unfolding(crate::specs::Threads::thread_ref))]
-pub(crate) fn thread_ref(members: &[(String, Tree)]) -> Option<&str>
+pub(crate) fn thread_ref<'a>(members: &'a [LentMember<'_>]) -> Option<&'a str>
     ensures { ref_seen result ≡ thread_ref (members_of members.now) }
 {
     ref_of(first_timer(members)?)
@@ -93,8 +93,8 @@ pub(crate) fn thread_ref(members: &[(String, Tree)]) -> Option<&str>
 
 // Apart, as timers are rare beside other events.
 #[inline(never)]
-fn timer_event(value: &Tree) -> Option<Event>
-    ensures { result ≡ event_of (Some EventKind.Timer) (json_of value.now) }
+fn timer_event(value: &LentTree<'_>) -> Option<Event>
+    ensures { result ≡ event_of (Some EventKind.Timer) (lent_json value.now) }
 {
     let period = at("period", members(value))?;
     Some(Event::Timer(natural_within(period, 1, MOST)?))
@@ -103,24 +103,29 @@ fn timer_event(value: &Tree) -> Option<Event>
 /// The event of a member, none for one of 0 us.
 #[inline(always)]
 #[tactic(auto, unfolding(crate::specs::Threads::event_of_member))]
-pub(crate) fn event_at(member: &(String, Tree)) -> Option<Event>
+pub(crate) fn event_at(member: &LentMember<'_>) -> Option<Event>
     ensures { result ≡ event_of_member (member_of member.now) }
 {
     let value = &member.1;
-    match kind(&member.0)? {
+    match kind(member.0.as_str())? {
         EventKind::Run => Some(Event::Run(natural_within(value, 1, MOST)?)),
         EventKind::Sleep => Some(Event::Sleep(natural_within(value, 1, MOST)?)),
         EventKind::Timer => timer_event(value),
     }
 }
 
-fn has_event(members: &[(String, Tree)]) -> bool
+fn has_event(members: &[LentMember<'_>]) -> bool
     ensures { result ≡ has_event (members_of members.now) }
 {
-    members.iter().any(|m| event_at(m).is_some())
+    for member in members {
+        if event_at(member).is_some() {
+            return true;
+        }
+    }
+    false
 }
 
-fn is_idle_phases(phases: &[(String, Tree)]) -> bool
+fn is_idle_phases(phases: &[LentMember<'_>]) -> bool
     ensures { result
         ≡ list_any (λ phase. not (has_event phase))
         (map (λ phase. members phase.value) (members_of phases.now)) }
@@ -129,7 +134,7 @@ fn is_idle_phases(phases: &[(String, Tree)]) -> bool
 }
 
 /// A phase has no event left.
-fn is_idle(members: &[(String, Tree)]) -> bool
+fn is_idle(members: &[LentMember<'_>]) -> bool
     ensures { result ≡ is_idle (members_of members.now) }
 {
     match at("phases", members) {
@@ -152,7 +157,7 @@ struct Before {
 fn check_member<'a>(
     first_ref: Option<&str>,
     before: Before,
-    member: &'a (String, Tree),
+    member: &'a LentMember<'_>,
 ) -> Result<Before, Flaw<'a>>
     requires { before.events ≤ 64 }
     ensures fault { (ms : List Member) → IsBefore ms before
@@ -163,9 +168,9 @@ fn check_member<'a>(
     ensures few { IfOk result (λ b. b.events ≤ 64) }
 {
     let Before { events, phases } = before;
-    if is(&member.0, "phases") {
+    if is(member.0.as_str(), "phases") {
         if events > 0 {
-            return Err(Flaw::Unsupported(&member.0));
+            return Err(Flaw::Unsupported(member.0.as_str()));
         }
         check_phases(first_ref, member)?;
         return Ok(Before {
@@ -173,12 +178,12 @@ fn check_member<'a>(
             phases: true,
         });
     }
-    let Some(kind) = kind(&member.0) else {
+    let Some(kind) = kind(member.0.as_str()) else {
         check_thread_key(member)?;
         return Ok(before);
     };
     if phases {
-        return Err(Flaw::Unsupported(&member.0));
+        return Err(Flaw::Unsupported(member.0.as_str()));
     }
     check_event(first_ref, events, kind, member)?;
     Ok(Before {
@@ -187,7 +192,7 @@ fn check_member<'a>(
     })
 }
 
-fn check_members<'a>(first_ref: Option<&str>, members: &'a [(String, Tree)]) -> Result<(), Flaw<'a>>
+fn check_members<'a>(first_ref: Option<&str>, members: &'a [LentMember<'_>]) -> Result<(), Flaw<'a>>
     ensures { flaw_of result
         ≡ first_fault_in (thread_member_fault (ref_seen first_ref.entry)) []
         (members_of members.now) }
@@ -216,7 +221,7 @@ fn is_name(bytes: &[u8]) -> bool
 
 /// The members of a thread, what is missing, and a phase that is idle.
 #[tactic(auto, unfolding(crate::specs::Tests::members_fault))]
-fn check_object<'a>(first_ref: Option<&str>, members: &'a [(String, Tree)]) -> Result<(), Flaw<'a>>
+fn check_object<'a>(first_ref: Option<&str>, members: &'a [LentMember<'_>]) -> Result<(), Flaw<'a>>
     requires { ref_seen first_ref ≡ thread_ref (members_of members.now) }
     ensures { flaw_of result ≡ members_fault (members_of members.now) }
 {
@@ -230,17 +235,17 @@ fn check_object<'a>(first_ref: Option<&str>, members: &'a [(String, Tree)]) -> R
 #[tactic(auto, unfolding(crate::specs::Tests::own_fault))]
 pub(crate) fn check_thread<'a>(
     first_ref: Option<&str>,
-    thread: &'a (String, Tree),
+    thread: &'a LentMember<'_>,
 ) -> Result<(), Flaw<'a>>
     requires { ref_seen first_ref ≡ thread_ref (members (member_of thread.now).value) }
     ensures { flaw_of result ≡ own_fault (member_of thread.now) }
 {
-    if !is_name(thread.0.as_bytes()) {
+    if !is_name(thread.0.as_str().as_bytes()) {
         return Err(Flaw::Name);
     }
     match object(&thread.1) {
         Some(members) => check_object(first_ref, members),
-        None => Err(Flaw::Value(&thread.0)),
+        None => Err(Flaw::Value(thread.0.as_str())),
     }
 }
 

@@ -1,63 +1,70 @@
-ghost use Rattle.std.specs.Prelude.{◌≡◌, ◌≤◌, Some, None, if◌then◌else◌, IfSome, map};
+ghost use Rattle.std.specs.Prelude.{◌≡◌, ◌≤◌, [], Some, None, if◌then◌else◌, IfSome, map};
 ghost use Rattle.std.specs.Option.{option_map};
 ghost use Rattle.std.specs.Str.{bytes_eq};
 ghost use Rattle.std.specs.Str.Parse.{digits_value};
 ghost use Rattle.std.specs.List.{list_all};
 ghost use Rattle.std.specs.Char.{is_ascii_digit};
-ghost use Rattle.json_order.specs.Seen.{json_of};
+ghost use Rattle.json_order.specs.Lent.{lent_json};
 ghost use Rattle.rtapp_scenario.specs.Values.{members_of, object_of, list_of, text_value, numeral_of, is_natural, natural_in, natural_within, members, at};
 
-use json_order::Tree;
+use json_order::{LentMember, LentTree};
 
 /// The most that may stand before a last digit, within 64 signed bits.
 const MOST_BEFORE: u64 = 922_337_203_685_477_580;
 
 /// The members of an object, none of another value.
-pub(crate) fn object(tree: &Tree) -> Option<&[(String, Tree)]>
-    ensures { option_map (λ ms. members_of ms.now) result ≡ object_of (json_of tree.now) }
+pub(crate) fn object<'a, 'b>(tree: &'a LentTree<'b>) -> Option<&'a [LentMember<'b>]>
+    ensures { option_map (λ ms. members_of ms.now) result ≡ object_of (lent_json tree.now) }
 {
     match tree {
-        Tree::Object(members) => Some(members.as_slice()),
+        LentTree::Object(members) => Some(members.as_slice()),
         _ => None,
     }
 }
 
-/// The members of an object; another value has none.
-pub(crate) fn members(tree: &Tree) -> &[(String, Tree)]
-    ensures { members_of result.now ≡ members (json_of tree.now) }
+/// No members.
+pub(crate) fn no_members<'a, 'b>() -> &'a [LentMember<'b>]
+    ensures { result.now ≡ [] }
 {
-    match object(tree) {
-        Some(members) => members,
-        None => &[],
-    }
+    &[]
+}
+
+/// The members of an object; another value has none.
+pub(crate) fn members<'a, 'b>(tree: &'a LentTree<'b>) -> &'a [LentMember<'b>]
+    ensures { members_of result.now ≡ members (lent_json tree.now) }
+{
+    let Some(members) = object(tree) else {
+        return no_members();
+    };
+    members
 }
 
 /// The items of a list, none of another value.
-pub(crate) fn list(tree: &Tree) -> Option<&[Tree]>
-    ensures { option_map (λ items. map json_of items.now) result ≡ list_of (json_of tree.now) }
+pub(crate) fn list<'a, 'b>(tree: &'a LentTree<'b>) -> Option<&'a [LentTree<'b>]>
+    ensures { option_map (λ items. map lent_json items.now) result ≡ list_of (lent_json tree.now) }
 {
     match tree {
-        Tree::List(items) => Some(items.as_slice()),
+        LentTree::List(items) => Some(items.as_slice()),
         _ => None,
     }
 }
 
 /// A text, none of another value.
-pub(crate) fn text(tree: &Tree) -> Option<&str>
-    ensures { option_map (λ text. text.now) result ≡ text_value (json_of tree.now) }
+pub(crate) fn text<'a>(tree: &'a LentTree<'_>) -> Option<&'a str>
+    ensures { option_map (λ text. text.now) result ≡ text_value (lent_json tree.now) }
 {
     match tree {
-        Tree::Text(text) => Some(text.as_str()),
+        LentTree::Text(text) => Some(text.as_str()),
         _ => None,
     }
 }
 
 /// The text of a number, none of another value.
-pub(crate) fn number(tree: &Tree) -> Option<&str>
-    ensures { option_map (λ text. text.now) result ≡ numeral_of (json_of tree.now) }
+pub(crate) fn number<'a>(tree: &'a LentTree<'_>) -> Option<&'a str>
+    ensures { option_map (λ text. text.now) result ≡ numeral_of (lent_json tree.now) }
 {
     match tree {
-        Tree::Number(text) => Some(text.as_str()),
+        LentTree::Number(text) => Some(text.as_str()),
         _ => None,
     }
 }
@@ -111,8 +118,8 @@ fn natural(text: &str) -> Option<u64>
 
 /// A whole number from the least to the most.
 #[tactic(auto, unfolding(crate::specs::Values::natural_within))]
-pub(crate) fn natural_within(tree: &Tree, least: u64, most: u64) -> Option<u64>
-    ensures value { result ≡ natural_within least most (json_of tree.now) }
+pub(crate) fn natural_within(tree: &LentTree<'_>, least: u64, most: u64) -> Option<u64>
+    ensures value { result ≡ natural_within least most (lent_json tree.now) }
     ensures within { IfSome result (λ n. (least ≤ n) × (n ≤ most)) }
 {
     let n = natural(number(tree)?)?;
@@ -123,11 +130,11 @@ pub(crate) fn natural_within(tree: &Tree, least: u64, most: u64) -> Option<u64>
 }
 
 /// The value at a key: the first, where a key stands twice.
-pub(crate) fn at<'a>(key: &str, members: &'a [(String, Tree)]) -> Option<&'a Tree>
-    ensures { option_map (λ v. json_of v.now) result ≡ at key.now (members_of members.now) }
+pub(crate) fn at<'a, 'b>(key: &str, members: &'a [LentMember<'b>]) -> Option<&'a LentTree<'b>>
+    ensures { option_map (λ v. lent_json v.now) result ≡ at key.now (members_of members.now) }
 {
     for member in members {
-        if is(&member.0, key) {
+        if is(member.0.as_str(), key) {
             return Some(&member.1);
         }
     }

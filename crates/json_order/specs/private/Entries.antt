@@ -1,16 +1,16 @@
 -- The keys of an object's members, and their order.
-use Rattle.std.specs.Prelude.{ℕ, ◌≡◌, Bool, true, ◌&&◌, List, [], ◌∷◌, map, string_bytes}
+use Rattle.std.specs.Prelude.{ℕ, ◌≡◌, Bool, true, ◌&&◌, List, [], ◌∷◌, map}
 use Rattle.std.specs.Ordering.{nat_cmp, is_lt}
 use Rattle.std.specs.Cmp.Lexicographic.{slice_cmp}
-use Rattle.std.specs.declared.string.String.{String}
-use Rattle.std.specs.declared.alloc.Global.{Global}
 use Rattle.json_order.specs.declared.key_order.KeyOrder.{KeyOrder}
 use Rattle.json_order.specs.declared.key_order.KeyOrder.TheVariants.{Rising, Falling}
-use Rattle.json_order.specs.declared.tree.Tree.{Tree}
+use Rattle.json_order.specs.declared.lent.LentText.{LentText}
+use Rattle.json_order.specs.declared.lent.LentTree.{LentTree}
+use Rattle.json_order.specs.Lent.{text_bytes}
 
 -- the keys, as bytes
-abbrev pub keys_of : List (String Global × Tree) → List (List ℕ)
-keys_of ms = map (λ m. string_bytes m.0) ms
+abbrev pub keys_of : List (LentText × LentTree) → List (List ℕ)
+keys_of ms = map (λ m. text_bytes m.0) ms
 
 -- the first key may stand before the other, by the order of their bytes
 abbrev pub key_precedes : KeyOrder → List ℕ → List ℕ → Bool

@@ -3,9 +3,10 @@ use Rattle.std.specs.Prelude.{ℕ, ◌≡◌, true, false, List, [], ◌∷◌, 
 use Rattle.std.specs.declared.string.String.{String}
 use Rattle.std.specs.declared.alloc.Global.{Global}
 use Rattle.json_order.specs.Json.{Json, null, boolean}
-use Rattle.json_order.specs.Seen.{json_of}
+use Rattle.json_order.specs.Lent.{text_bytes, lent_json}
 use Rattle.json_order.specs.private.Machine.{Entries, Quote, going, closed, Place, at_value, at_first_item, behind, at_first_key, at_next_key, in_key, behind_key, in_string, in_number, in_word, Frame, in_list, in_object, State, state}
-use Rattle.json_order.specs.declared.tree.Tree.{Tree}
+use Rattle.json_order.specs.declared.lent.LentText.{LentText}
+use Rattle.json_order.specs.declared.lent.LentTree.{LentTree}
 use Rattle.json_order.specs.declared.fault.JsonKind.{JsonKind}
 use Rattle.json_order.specs.declared.fault.JsonKind.TheVariants.{Syntax, End, Depth, Duplicate, Utf8, Memory}
 use Rattle.json_order.specs.declared.word.Word.{Word}
@@ -44,13 +45,13 @@ Misses o Duplicate = ⊥
 Misses o Utf8 = ⊥
 
 -- members as keys and values
-abbrev pub entries_of_tree : List (String Global × Tree) → Entries
-entries_of_tree ms = map (λ m. (string_bytes m.0, json_of m.1)) ms
+abbrev pub entries_of_tree : List (LentText × LentTree) → Entries
+entries_of_tree ms = map (λ m. (text_bytes m.0, lent_json m.1)) ms
 
 abbrev pub code_place : CodePlace → Place
 code_place Value = at_value
 code_place FirstItem = at_first_item
-code_place (Behind t) = behind (json_of t)
+code_place (Behind t) = behind (lent_json t)
 code_place FirstKey = at_first_key
 code_place (NextKey ms) = at_next_key (entries_of_tree ms.list.items)
 code_place (Key ms s e) = in_key (entries_of_tree ms.list.items) (string_bytes s) e
@@ -60,7 +61,7 @@ code_place (Number s p) = in_number (string_bytes s) p
 code_place (WordPlace w n) = in_word (letters_from w n) (value_of w)
 
 abbrev pub frame_of : CodeFrame → Frame
-frame_of (ListFrame v) = in_list (map json_of v.items)
+frame_of (ListFrame v) = in_list (map lent_json v.items)
 frame_of (ObjectFrame ms key) = in_object (entries_of_tree ms.list.items) (string_bytes key)
 
 -- the last frame of the stack is the innermost

@@ -1,6 +1,6 @@
 use Rattle.std.proofs.Common.{subst}
 use Rattle.json_order.specs.Fault.{strict, Spells, IsJsonFault}
-use Rattle.json_order.specs.Seen.{json_of}
+use Rattle.json_order.specs.Lent.{lent_json}
 use Rattle.counted_io.specs.Sides.{side}
 use Rattle.calls_trace.specs.Answer.{streams}
 use Rattle.dl_session.proofs.Ran.{json_faulted, scenario_faulted}
@@ -13,6 +13,6 @@ returns-in-Err-clause-err g c = λ w o unwritten writes.
 
 pub returns-clause-err : goal.returns-clause-err
 returns-clause-err g c = λ w o unwritten writes.
-    scenario_faulted (streams (side g.R.Read.remaining c.args.reader.now c.read_all.new.self) w) o (json_of c.in-Ok-read.tree) c.in-Err-parse.fault c.scenario_fault.result
-    (record { text = c.in-Ok.text.items; input = record { all = c.in-Ok.ensures.all }; spelled = subst (λ t. Spells strict t (json_of c.in-Ok-read.tree)) c.deref.ensures.value c.in-Ok-read.ensures.found })
-    c.in-Err-parse.ensures.fault unwritten c.in-Ok.ensures.faults writes c.scenario_fault.ensures
+    scenario_faulted (streams (side g.R.Read.remaining c.args.reader.now c.read_all.new.self) w) o (lent_json c.in-Ok-read_lent.tree) c.in-Err-parse_lent.fault c.scenario_fault.result
+    (record { text = c.in-Ok.text.items; input = record { all = c.in-Ok.ensures.all }; spelled = subst (λ t. Spells strict t (lent_json c.in-Ok-read_lent.tree)) c.deref.ensures.value c.in-Ok-read_lent.ensures.found })
+    c.in-Err-parse_lent.ensures.fault unwritten c.in-Ok.ensures.faults writes c.scenario_fault.ensures

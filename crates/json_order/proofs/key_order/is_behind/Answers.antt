@@ -12,7 +12,7 @@ returns-in-Rising c =
     let i = length ms - 1 in
     let e : i + 1 ≡ length ms = omega arith in
     c.is_lt.ensures
-    ∙ ap is_lt (c.cmp.ensures ∙ ap (λ x. slice_cmp nat_cmp x c.args.key.now) c.as_str.ensures.value)
+    ∙ ap is_lt (c.cmp.ensures ∙ ap (λ x. slice_cmp nat_cmp x c.args.key.now) c.as_str.ensures)
     ∙ sym (last_at Rising ms i c.index-members-len.result c.args.key.now e c.index-members-len.is)
     ∙ ap (λ o. last_before o (keys_of ms) c.args.key.now) (sym c.in-Rising.is)
 
@@ -22,6 +22,6 @@ returns-in-Falling c =
     let i = length ms - 1 in
     let e : i + 1 ≡ length ms = omega arith in
     c.is_lt-in-Falling.ensures
-    ∙ ap is_lt (c.cmp-in-Falling.ensures ∙ ap (λ x. slice_cmp nat_cmp c.args.key.now x) c.as_str-in-Falling.ensures.value)
+    ∙ ap is_lt (c.cmp-in-Falling.ensures ∙ ap (λ x. slice_cmp nat_cmp c.args.key.now x) c.as_str-in-Falling.ensures)
     ∙ sym (last_at Falling ms i c.index-members-len.result c.args.key.now e c.index-members-len.is)
     ∙ ap (λ o. last_before o (keys_of ms) c.args.key.now) (sym c.in-Falling.is)

@@ -1,6 +1,6 @@
 use Rattle.std.proofs.Common.{◌≡◌, ◌+◌, ◌-◌, Ok, length, get_or, set, sym, subst, rules}
 use Rattle.json_order.specs.Fault.{strict}
-use Rattle.json_order.specs.Seen.{json_of}
+use Rattle.json_order.specs.Lent.{lent_json}
 use Rattle.json_order.specs.private.Machine.{under_rules, next_move}
 use Rattle.json_order.specs.private.Places.{frames_of, code_state}
 use Rattle.json_order.specs.declared.place.Frame.TheVariants.{List as ListFrame}
@@ -14,4 +14,4 @@ returns-in_ok-push-in-List-clause-ok c =
     let e : i + 1 ≡ length fs = search rules in
     let here : get_or fs i (ListFrame c.in-List.items) ≡ ListFrame c.in-List.items = sym (rw c.in-List.is at c.index_mut.ensures.value) in
     let h = item_pushed fs i c.in-List.items c.push.new.self c.args.value e here c.in_ok-push-in-List.ensures.items in
-    on_ok c.go_to.result (subst (λ p. under_rules strict (next_move (json_of c.args.value) (frames_of fs) 44) ≡ Ok (code_state p (set fs i (ListFrame c.push.new.self)))) (sym c.go_to.ensures.1) h)
+    on_ok c.go_to.result (subst (λ p. under_rules strict (next_move (lent_json c.args.value) (frames_of fs) 44) ≡ Ok (code_state p (set fs i (ListFrame c.push.new.self)))) (sym c.go_to.ensures.1) h)

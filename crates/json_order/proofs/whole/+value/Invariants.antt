@@ -1,7 +1,7 @@
 use denote.Shadow.{shadow}
 use denote.Text.{Utf8}
 use Rattle.std.proofs.Common.{◌+◌, ◌*◌, length, map}
-use Rattle.json_order.specs.Seen.{json_of}
+use Rattle.json_order.specs.Lent.{lent_json}
 use Rattle.json_order.specs.private.Machine.{at_first_item, at_first_key, state}
 use Rattle.json_order.specs.private.Places.{entries_of_tree}
 use Rattle.json_order.specs.private.Whole.{Crosses, before_item, before_key}
@@ -22,7 +22,7 @@ decreases-nested l = 3 * l.depth + 2
 abbrev pub invariant-list-items : goal.invariant-list-items
 invariant-list-items l =
     shadow (Utf8 l.left)
-    × Crosses (l.depth + 1) (state at_first_item) (before_item (map json_of l.items.items)) l.rest l.left
+    × Crosses (l.depth + 1) (state at_first_item) (before_item (map lent_json l.items.items)) l.rest l.left
 
 abbrev pub decreases-list-items : goal.decreases-list-items
 decreases-list-items l = length l.left

@@ -1,6 +1,5 @@
 use Rattle.std.proofs.Common.{◌≡◌, ◌+◌, ◌++◌, ◌∷◌, [], map, append_assoc, List, ℕ, ap, subst, ◌∙◌, arith}
-use Rattle.std.specs.Prelude.{string_bytes}
-use Rattle.json_order.specs.Seen.{json_of}
+use Rattle.json_order.specs.Lent.{text_bytes, lent_json}
 use Rattle.rtapp_scenario.specs.Threads.{instances}
 use Rattle.rtapp_scenario.specs.Scenario.{task_name}
 use Rattle.rtapp_scenario.specs.private.Shapes.{IsShape}
@@ -25,12 +24,12 @@ pub shape_of-requires : goal.shape_of-requires
 shape_of-requires c = rw c.members.ensures (members_pass (member_of c.args.thread.now) c.requires.passed)
 
 pub task_name-requires : goal.task_name-requires
-task_name-requires c = rw c.deref.ensures (name_passes (member_of c.args.thread.now) c.requires.passed)
+task_name-requires c = rw c.as_str.ensures (name_passes (member_of c.args.thread.now) c.requires.passed)
 
 pub loop-k-preserved : goal.loop-k-preserved
 loop-k-preserved c =
-    let shape : IsShape (members (json_of c.args.thread.now.1)) c.in_ok-shape.shape = subst (λ ms. IsShape ms c.in_ok-shape.shape) c.members.ensures c.in_ok-shape.ensures.is in
-    let name : c.in_ok-name.name ≡ task_name (string_bytes c.args.thread.now.0) (instances (members (json_of c.args.thread.now.1))) c.loop-k.k = c.in_ok-name.ensures.value ∙ ap (λ n. task_name n c.args.instances c.loop-k.k) c.deref.ensures ∙ ap (λ n. task_name (string_bytes c.args.thread.now.0) n c.loop-k.k) c.requires.instances in
+    let shape : IsShape (members (lent_json c.args.thread.now.1)) c.in_ok-shape.shape = subst (λ ms. IsShape ms c.in_ok-shape.shape) c.members.ensures c.in_ok-shape.ensures.is in
+    let name : c.in_ok-name.name ≡ task_name (text_bytes c.args.thread.now.0) (instances (members (lent_json c.args.thread.now.1))) c.loop-k.k = c.in_ok-name.ensures.value ∙ ap (λ n. task_name n c.args.instances c.loop-k.k) c.as_str.ensures ∙ ap (λ n. task_name (text_bytes c.args.thread.now.0) n c.loop-k.k) c.requires.instances in
     rw c.in_ok-push.ensures.items (record {
       made = grown _ _ _ c.loop-k.k c.in_ok-task_of.field-0 c.loop-k.invariant.made (c.in_ok-task_of.ensures.value (member_of c.args.thread.now) c.loop-k.k shape name);
       limits = λ all. more_within c.loop-k.tasks.items c.in_ok-task_of.field-0 c.in_ok-task_of.ensures.limits (c.loop-k.invariant.limits all);

@@ -1,10 +1,9 @@
-use Rattle.std.specs.declared.string.String.{String}
-use Rattle.std.specs.declared.alloc.Global.{Global}
 use Rattle.std.proofs.Common.{◌≡◌, ◌+◌, ◌++◌, ◌∷◌, [], ℕ, List, Option, Some, None, map, take, drop, refl, sym, ap, subst, ◌∙◌, arith}
 use Rattle.std.proofs.lemmas.List.{map-append, append_assoc}
 use Rattle.std.proofs.lemmas.List.Sums.{sum_by_push}
-use Rattle.json_order.specs.Seen.{json_of}
-use Rattle.json_order.specs.declared.tree.Tree.{Tree}
+use Rattle.json_order.specs.Lent.{lent_json}
+use Rattle.json_order.specs.declared.lent.LentText.{LentText}
+use Rattle.json_order.specs.declared.lent.LentTree.{LentTree}
 use Rattle.std.proofs.lemmas.Grind.{common_steps}
 use Rattle.rtapp_scenario.specs.Values.{Member, member_of, members_of, members}
 use Rattle.rtapp_scenario.specs.Faults.{Fault}
@@ -18,29 +17,29 @@ use Rattle.rtapp_scenario.proofs.tasks.tasks_of.Goals as goal
 
 pub loop-thread-preserved : goal.loop-thread-preserved
 loop-thread-preserved c =
-    let threads : List (String Global × Tree) = c.args.threads.now in
+    let threads : List (LentText × LentTree) = c.args.threads.now in
     let i : ℕ = c.loop-thread.thread-index in
-    let thread : String Global × Tree = c.thread-item.result in
+    let thread : LentText × LentTree = c.thread-item.result in
     let inv = c.loop-thread.invariant in
-    let left : List (String Global × Tree) = drop (i + 1) threads in
+    let left : List (LentText × LentTree) = drop (i + 1) threads in
     let before : List Member = members_of (take i threads) in
     let own_members : List Member = members_of c.members-members.result.now in
-    let same : own_members ≡ members (json_of thread.1) = c.members-members.ensures in
+    let same : own_members ≡ members (lent_json thread.1) = c.members-members.ensures in
     let own : own_fault (member_of thread) ≡ None = sym c.in_default.ensures in
     let seen : map ref_seen c.deref.result.now ≡ refs_in before = ap (map ref_seen) c.deref.ensures.value ∙ inv.refs in
-    let beside : beside_fault (refs_in before) (tasks_in before) (members (json_of thread.1)) ≡ None =
+    let beside : beside_fault (refs_in before) (tasks_in before) (members (lent_json thread.1)) ≡ None =
     sym (ap (λ (rs : List (Option (List ℕ))). beside_fault rs c.loop-thread.others own_members) seen ∙ ap (λ (n : ℕ). beside_fault (refs_in before) n own_members) inv.others ∙ ap (beside_fault (refs_in before) (tasks_in before)) same) ∙ sym (c.in_default-check_beside.ensures.flaw own_members c.instances-instances.ensures.value c.thread_ref-own_ref.ensures) in
     let none : thread_fault before (member_of thread) ≡ None = rw (own, beside) refl in
     let more : members_of (take (i + 1) threads) ≡ before ++ member_of thread ∷ [] = before_more threads i thread c.loop-thread-test.true c.thread-item.is in
-    let ref : ref_seen c.thread_ref-own_ref.result ≡ thread_ref (members (json_of thread.1)) = c.thread_ref-own_ref.ensures ∙ ap thread_ref same in
-    let count : c.instances-instances.result ≡ instances (members (json_of thread.1)) = c.instances-instances.ensures.value ∙ ap instances same in
+    let ref : ref_seen c.thread_ref-own_ref.result ≡ thread_ref (members (lent_json thread.1)) = c.thread_ref-own_ref.ensures ∙ ap thread_ref same in
+    let count : c.instances-instances.result ≡ instances (members (lent_json thread.1)) = c.instances-instances.ensures.value ∙ ap instances same in
     let made = thread_tasks (c.loop-thread.others + 1) (member_of thread) in
-    let next : (c.loop-thread.others + c.instances-instances.result) + 1 ≡ (c.loop-thread.others + 1) + instances (members (json_of thread.1)) = omega (arith, count) in
+    let next : (c.loop-thread.others + c.instances-instances.result) + 1 ≡ (c.loop-thread.others + 1) + instances (members (lent_json thread.1)) = omega (arith, count) in
     record {
       passed = order_passed thread_fault threads i thread c.loop-thread-test.true c.thread-item.is none inv.passed;
       made = ap (λ (ts : List TaskSpecView). ts ++ tasks_from ((c.loop-thread.others + c.instances-instances.result) + 1) (members_of left)) c.in_ok-add_thread.ensures.made
           ∙ ap (λ (n : ℕ). (c.loop-thread.tasks.items ++ made) ++ tasks_from n (members_of left)) next
-          ∙ append_assoc c.loop-thread.tasks.items made (tasks_from ((c.loop-thread.others + 1) + instances (members (json_of thread.1))) (members_of left))
+          ∙ append_assoc c.loop-thread.tasks.items made (tasks_from ((c.loop-thread.others + 1) + instances (members (lent_json thread.1))) (members_of left))
           ∙ sym (ap (λ (ts : List TaskSpecView). c.loop-thread.tasks.items ++ ts) (here (λ xs. tasks_from (c.loop-thread.others + 1) (members_of xs)) threads i thread c.loop-thread-test.true c.thread-item.is))
           ∙ inv.made;
       refs = ap (map ref_seen) c.in_ok-push.ensures.items ∙ map-append ref_seen c.loop-thread.refs.items (c.thread_ref-own_ref.result ∷ [])
@@ -54,9 +53,9 @@ loop-thread-preserved c =
 
 pub returns-in-Err-clause-fault : goal.returns-in-Err-clause-fault
 returns-in-Err-clause-fault c =
-    let threads : List (String Global × Tree) = c.args.threads.now in
+    let threads : List (LentText × LentTree) = c.args.threads.now in
     let i : ℕ = c.loop-thread.thread-index in
-    let thread : String Global × Tree = c.thread-item.result in
+    let thread : LentText × LentTree = c.thread-item.result in
     let fault : Fault = flaw_seen c.in-Err.flaw in
     let own : own_fault (member_of thread) ≡ Some fault = sym c.in-Err.ensures in
     let found : thread_fault (members_of (take i threads)) (member_of thread) ≡ Some fault = rw own refl in
@@ -64,16 +63,16 @@ returns-in-Err-clause-fault c =
 
 pub returns-in-Err-check_beside-clause-fault : goal.returns-in-Err-check_beside-clause-fault
 returns-in-Err-check_beside-clause-fault c =
-    let threads : List (String Global × Tree) = c.args.threads.now in
+    let threads : List (LentText × LentTree) = c.args.threads.now in
     let i : ℕ = c.loop-thread.thread-index in
-    let thread : String Global × Tree = c.thread-item.result in
+    let thread : LentText × LentTree = c.thread-item.result in
     let inv = c.loop-thread.invariant in
     let before : List Member = members_of (take i threads) in
     let own_members : List Member = members_of c.members-members.result.now in
     let fault : Fault = flaw_seen c.in-Err-check_beside.flaw in
     let own : own_fault (member_of thread) ≡ None = sym c.in_default.ensures in
     let seen : map ref_seen c.deref.result.now ≡ refs_in before = ap (map ref_seen) c.deref.ensures.value ∙ inv.refs in
-    let beside : beside_fault (refs_in before) (tasks_in before) (members (json_of thread.1)) ≡ Some fault =
+    let beside : beside_fault (refs_in before) (tasks_in before) (members (lent_json thread.1)) ≡ Some fault =
     sym (ap (λ (rs : List (Option (List ℕ))). beside_fault rs c.loop-thread.others own_members) seen ∙ ap (λ (n : ℕ). beside_fault (refs_in before) n own_members) inv.others ∙ ap (beside_fault (refs_in before) (tasks_in before)) c.members-members.ensures) ∙ sym (c.in-Err-check_beside.ensures.flaw own_members c.instances-instances.ensures.value c.thread_ref-own_ref.ensures) in
     let found : thread_fault before (member_of thread) ≡ Some fault = rw (own, beside) refl in
     subst (λ (o : Option Fault). IsFaultTold o c.fault_of-in-Err-check_beside.result) (order_found thread_fault threads i thread fault c.loop-thread-test.true c.thread-item.is found inv.passed) c.fault_of-in-Err-check_beside.ensures

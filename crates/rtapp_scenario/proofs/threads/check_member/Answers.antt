@@ -11,7 +11,7 @@ pub returns-then-events-gt0-clause-fault : goal.returns-then-events-gt0-clause-f
 returns-then-events-gt0-clause-fault c = λ ms before.
     let p : is_phases (member_of c.args.member.now) ≡ true = cc in
     let some : 0 < count_by is_event ms = omega (arith, c.if-events-gt0.true, before.events) in
-    rw c.deref-then-events-gt0.ensures (sym (phases_refused (ref_seen c.args.first_ref) ms (member_of c.args.member.now) p some))
+    rw c.as_str-then-events-gt0.ensures (sym (phases_refused (ref_seen c.args.first_ref) ms (member_of c.args.member.now) p some))
 
 pub returns-in_err-check_phases-clause-fault : goal.returns-in_err-check_phases-clause-fault
 returns-in_err-check_phases-clause-fault c = λ ms before.

@@ -2,7 +2,7 @@ use Rattle.std.proofs.Common.{arith}
 use Rattle.std.proofs.lemmas.Grind.{common_steps}
 use Rattle.rtapp_scenario.specs.Values.{members_of}
 use Rattle.rtapp_scenario.proofs.Numbered.{numbered_tasks, few_of}
-use Rattle.rtapp_scenario.proofs.parsing.parse.Goals as goal
+use Rattle.rtapp_scenario.proofs.parsing.parse_lent.Goals as goal
 
 pub returns-clause-numbered : goal.returns-clause-numbered
 returns-clause-numbered c = numbered_tasks (members_of c.members_at-threads.result.now) c.in_ok-tasks.tasks.items c.in_ok-tasks.ensures.found
