@@ -167,7 +167,7 @@ lags_all P time (lag ∷ lags) (t ∷ tasks) each = All-cons P (with_lag time la
 
 -- ---- PARTS 1 TO 3: no task goes off the list
 
-leaves_not : (time : ℕ) (t : Task) → is_leaving t.condition ≡ false → is_listed (settled time (replenish_due time t)) ≡ true
+pub leaves_not : (time : ℕ) (t : Task) → is_leaving t.condition ≡ false → is_listed (settled time (replenish_due time t)) ≡ true
 leaves_not time t h = listed (replenish_due time t) replenished_stays
   where
     replenished_stays : is_leaving (replenish_due time t).condition ≡ false
@@ -188,7 +188,7 @@ prepared_whole time tasks stay =
     ∙ map_twice (unblocked time) (λ t. settled time (replenish_due time t)) (woken_up time) tasks (λ i d h. refl)
 
 -- a task that stays does so with a zero-lag time too
-stays_with : (time : ℕ) (lag : Option ℕ) (t : Task) → is_leaving t.condition ≡ false → is_leaving (with_lag time lag t).condition ≡ false
+pub stays_with : (time : ℕ) (lag : Option ℕ) (t : Task) → is_leaving t.condition ≡ false → is_leaving (with_lag time lag t).condition ≡ false
 stays_with time lag t h = either_lag (λ u. is_leaving u.condition ≡ false) time lag t h (λ z. h)
 
 pub prepared_lags : (time later : ℕ) (lags : List (Option ℕ)) (tasks : List Task) → time ≤ later → All IsWithoutLag tasks → prepared later (with_lags time lags tasks) ≡ with_lags later lags (prepared later tasks)
@@ -317,7 +317,7 @@ begun_bare d plain =
 
 -- ---- A TICK OF RUNNING
 
-rate_fixed : (b c : Domain) (t u : Task) → u.params ≡ t.params → t.params.reclaim ≡ false → rate_of b u ≡ rate_of c t
+pub rate_fixed : (b c : Domain) (t u : Task) → u.params ≡ t.params → t.params.reclaim ≡ false → rate_of b u ≡ rate_of c t
 rate_fixed b c t u same fixed = unit_of u (ap (λ p. p.reclaim) same ∙ fixed) b ∙ sym (unit_of t fixed c)
   where
     unit_of : (x : Task) → x.params.reclaim ≡ false → (e : Domain) → rate_of e x ≡ 1048576
@@ -355,7 +355,7 @@ lags_both f g h time (lag ∷ lags) (t ∷ tasks) same =
 slid_bare : (b : Domain) (j : ℕ) (t : Task) → IsBare t → IsBare (slid b j t)
 slid_bare b j t bare = let a = alike_slid b j t in record { lag = a.zero_lag ∙ bare.lag; fixed = ap (λ p. p.reclaim) a.params ∙ bare.fixed }
 
-slid_ready : (b : Domain) (j k : ℕ) (t : Task) → RunsIf b k t → stands (slid b j t).number b.curr ≡ true → (slid b j t).condition ≡ Ready
+pub slid_ready : (b : Domain) (j k : ℕ) (t : Task) → RunsIf b k t → stands (slid b j t).number b.curr ≡ true → (slid b j t).condition ≡ Ready
 slid_ready b j k t runs e = let a = alike_slid b j t in a.condition ∙ (runs (ap (λ n. stands n b.curr) (sym a.number) ∙ e)).ready
 
 module _ (d : Domain) (lags : List (Option ℕ)) (k : ℕ) (plain : All IsWithoutLag d.tasks) (quiet : k - 1 ≤ ticks_to_due (d.time + 1) (with_tick_begun d).tasks) (runs : All (RunsIf (with_tick_begun d) k) (with_tick_begun d).tasks) where
@@ -363,7 +363,7 @@ module _ (d : Domain) (lags : List (Option ℕ)) (k : ℕ) (plain : All IsWithou
   bare = begun_bare d plain
 
   -- before a later tick each task stays
-  still_plain : (j : ℕ) → suc j < k → All IsWithoutLag (slid_all (with_tick_begun d) (suc j)).tasks
+  pub still_plain : (j : ℕ) → suc j < k → All IsWithoutLag (slid_all (with_tick_begun d) (suc j)).tasks
   still_plain j less =
       All-map IsWithoutLag (slid (with_tick_begun d) (suc j)) (with_tick_begun d).tasks (λ i e h.
       let t = get_or (with_tick_begun d).tasks i e in
@@ -384,7 +384,7 @@ module _ (d : Domain) (lags : List (Option ℕ)) (k : ℕ) (plain : All IsWithou
           not_true false e = refl
 
   -- a tick in which nothing ends
-  slid_lags : (j : ℕ) → suc j < k → finished (woken_at (d.time + j) lags (slid_all (with_tick_begun d) j)) ≡ woken_at (d.time + j) lags (slid_all (with_tick_begun d) (suc j))
+  pub slid_lags : (j : ℕ) → suc j < k → finished (woken_at (d.time + j) lags (slid_all (with_tick_begun d) j)) ≡ woken_at (d.time + j) lags (slid_all (with_tick_begun d) (suc j))
   slid_lags j less =
       let b = with_tick_begun d in
       let x = slid_all b j in
@@ -406,7 +406,7 @@ module _ (d : Domain) (lags : List (Option ℕ)) (k : ℕ) (plain : All IsWithou
           by_stands time lag x u ready true e after = ap (λ s. cond s (ran_if x u) (with_lag time lag u)) e ∙ sym (lag_contending time lag (ran_if x u) (ap is_contending (after e)))
           by_stands time lag x u ready false e after = ap (λ s. cond s (ran_if x u) (with_lag time lag u)) e ∙ ap (with_lag time lag) (sym (ap (λ s. cond s (ran x.time (rate_of x u) u) u) e))
 
-  ticks_lags : (j : ℕ) → j < k → ticks (suc j) (awake lags d) ≡ finished (woken_at (d.time + j) lags (slid_all (with_tick_begun d) j))
+  pub ticks_lags : (j : ℕ) → j < k → ticks (suc j) (awake lags d) ≡ finished (woken_at (d.time + j) lags (slid_all (with_tick_begun d) j))
   ticks_lags zero h =
       let at : d.time ≡ d.time + 0 = omega arith in
       let none = sym (slid_none (with_tick_begun d)) in

@@ -74,7 +74,7 @@ module _ (cpu end : ℕ) (seats : List (Option Seat)) (s : Seat) (there : get_or
 
 -- ---- A TASK THAT GOES ON
 
-work_is : (s : Segment) (n : ℕ) → work_in s ≡ Some n → s ≡ RunFor n
+pub work_is : (s : Segment) (n : ℕ) → work_in s ≡ Some n → s ≡ RunFor n
 work_is (RunFor m) n e = ap (λ k. RunFor k) (same_Some m n e)
 work_is (Until u) n e = absurd cc
 work_is WaitFor n e = absurd cc

@@ -18,20 +18,20 @@ use Rattle.domain_run.proofs.Jumping.{map_alike}
 
 -- ---- who stands, stands on the CPU to which it belongs
 
-home_of : (places : Places) (t : Task) → HasNoTaskTwice places → with_last_cpu places t ≡ t → stands t.number places ≡ true → occupant places t.cpu ≡ Some t.number
+pub home_of : (places : Places) (t : Task) → HasNoTaskTwice places → with_last_cpu places t ≡ t → stands t.number places ≡ true → occupant places t.cpu ≡ Some t.number
 home_of places t apart homed stand =
     let at = stands_at t.number places (Any-from_list_any (is_task t.number) places stand) in
     let cpu : t.cpu ≡ at.0 = sym (ap (λ (u : Task). u.cpu) homed) ∙ ap (λ o. (with_cpu o t).cpu) (position_at places at.0 t.number apart at.1) in
     ap (occupant places) cpu ∙ at.1
 
-seat_standing : (places : Places) (t : Task) (rate : ℕ) (o : Option Seat) → occupant places t.cpu ≡ Some t.number → IsRight (occupant places t.cpu) t.number rate o → IsAtRate rate o
+pub seat_standing : (places : Places) (t : Task) (rate : ℕ) (o : Option Seat) → occupant places t.cpu ≡ Some t.number → IsRight (occupant places t.cpu) t.number rate o → IsAtRate rate o
 seat_standing places t rate o at right = (subst (λ p. IsRight p t.number rate o) at right).0 refl
 
-none_standing : (places : Places) (t : Task) (rate : ℕ) (o : Option Seat) (p : Option ℕ) → (p ≡ Some t.number → ⊥) → IsRight p t.number rate o → o ≡ None
+pub none_standing : (places : Places) (t : Task) (rate : ℕ) (o : Option Seat) (p : Option ℕ) → (p ≡ Some t.number → ⊥) → IsRight p t.number rate o → o ≡ None
 none_standing places t rate o None never right = right
 none_standing places t rate o (Some n) never right = right.1 (λ e. never (ap (λ m. Some m) e))
 
-stands_from : (places : Places) (cpu n : ℕ) → occupant places cpu ≡ Some n → stands n places ≡ true
+pub stands_from : (places : Places) (cpu n : ℕ) → occupant places cpu ≡ Some n → stands n places ≡ true
 stands_from [] cpu n e = absurd cc
 stands_from (o ∷ places) zero n e = ap (λ p. is_task n p || stands n places) e ∙ ap (λ b. b || stands n places) (eq-eqb n n refl)
 stands_from (o ∷ places) (suc cpu) n e = elim (is_task n o) as (λ b. (b || stands n places) ≡ true) [ true ↦ refl | false ↦ stands_from places cpu n e ]

@@ -1,5 +1,6 @@
 -- A leap of a domain under way is so many ticks.
-use Rattle.std.proofs.Common.{◌≡◌, ℕ, ◌+◌, ◌-◌, ◌<◌, ◌≤◌, true, false, cond, List, map, get_or, refl, sym, ap, ◌∙◌, subst, arith}
+use Rattle.std.proofs.Common.{◌≡◌, ℕ, ◌+◌, ◌-◌, ◌<◌, ◌≤◌, ◌++◌, true, false, cond, List, map, get_or, refl, sym, ap, ◌∙◌, subst, arith}
+use Rattle.std.specs.List.{flat_map}
 use Rattle.std.specs.Prelude.{pos, ◌*◌, ◌-ℤ◌, ◌<ℤ◌, All, Any, IsTrue}
 use Rattle.std.proofs.lemmas.List.{get_or_default}
 use Rattle.edf_pick.specs.Places.{Places, stands}
@@ -9,6 +10,8 @@ use Rattle.domain_run.specs.Domain.{Domain}
 use Rattle.domain_run.specs.Jump.{under_way, ticks_to_event}
 use Rattle.domain_run.specs.Sound.{IsSound, IsSteady, IsPlacement}
 use Rattle.domain_run.specs.Tick.{with_tick_begun, ticks}
+use Rattle.domain_run.specs.Happened.{in_order, told_by_beginning, told_by_last_end, told_by_ticks}
+use Rattle.domain_run.specs.private.Expiring.{told_leapt}
 use Rattle.domain_run.specs.private.Paying.{ran_until}
 use Rattle.domain_run.specs.private.Roster.{rate_in, leapt, LastsIf}
 use Rattle.domain_run.specs.private.Waiting.{MaySit, MaySitOn}
@@ -17,6 +20,7 @@ use Rattle.domain_run.proofs.Keeping.{Same}
 use Rattle.domain_run.proofs.Paying.{is_Ready, same_ran_until}
 use Rattle.domain_run.proofs.Placing.{one_index}
 use Rattle.domain_run.proofs.Runners.{contends}
+use Rattle.domain_run.proofs.ToldTicks.{last_end_is, leap_tells}
 
 -- who stands on a CPU may sit there
 pub may_sit_on : (e : Domain) → IsSteady e → IsPlacement e → MaySitOn e.curr e.tasks
@@ -40,6 +44,21 @@ same_leapt time k places cpus limit tasks t =
       | true ↦ same_ran_until time k left t
       | false ↦ record { number = refl; params = refl; cpu = refl }
     ]
+
+module _ (e : Domain) (k : ℕ) (some : 0 < k) (quiet : k ≤ ticks_to_event (under_way e)) (lasts : All (LastsIf k (under_way e).curr (under_way e).cpus (under_way e).limit (under_way e).tasks) (under_way e).tasks) where
+  pub runs_if : All (RunsIf (with_tick_begun e) k) (with_tick_begun e).tasks
+  runs_if i x h stand = let r = lasts i x h stand in record { ready = is_Ready (get_or (with_tick_begun e).tasks i x).condition r.ready; worked = r.worked; lasted = r.lasted }
+
+  -- what it tells is the end of its last tick
+  pub leap_last : (time : ℕ) → time ≡ (under_way e).time + (k - 1) → in_order (flat_map (told_leapt time k (under_way e).curr (under_way e).cpus (under_way e).limit (under_way e).tasks) (under_way e).tasks) ≡ told_by_last_end k e
+  leap_last time time-is =
+      let u = under_way e in
+      let at : time ≡ e.time + k = omega (arith, time-is, some) in
+      ap (λ n. in_order (flat_map (told_leapt n k u.curr u.cpus u.limit u.tasks) u.tasks)) at
+      ∙ sym (last_end_is e k some quiet runs_if)
+
+  pub leap_quiet : told_by_ticks k e ≡ told_by_beginning e ++ told_by_last_end k e
+  leap_quiet = leap_tells e k some quiet runs_if
 
 pub leap_is : (e : Domain) (k time : ℕ) (tasks : List Task) → 0 < k → k ≤ ticks_to_event (under_way e) → time ≡ (under_way e).time + (k - 1)
     → All (LastsIf k (under_way e).curr (under_way e).cpus (under_way e).limit (under_way e).tasks) (under_way e).tasks

@@ -54,3 +54,6 @@ pub mod Dozing
 pub mod Aside
 pub mod ToldFew
 pub mod Extending
+pub mod ToldLags
+pub mod ToldPassing
+pub mod ToldWoken

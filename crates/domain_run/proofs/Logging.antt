@@ -5,11 +5,13 @@ use Rattle.std.specs.Prelude.{AllPairs}
 use Rattle.std.specs.List.Sorted.{IsPermutation}
 use Rattle.std.proofs.lemmas.List.{append-nil, append_assoc, length-append, take_at, take_all, take-append-le, drop_at, get_or_default}
 use Rattle.std.proofs.lemmas.List.Edits.{map_over_more}
+use Rattle.std.proofs.lemmas.List.Sorted.{IsPermutation-trans, IsPermutation-append_right}
 use Rattle.std.proofs.lemmas.Slice.{take-put_mid}
 use Rattle.edf_pick.specs.Places.{Places}
 use Rattle.domain_run.specs.declared.happened.Happened.{Happened}
 use Rattle.domain_run.specs.Happened.{in_order, with_its_cpu}
 use Rattle.domain_run.specs.Log.{LogView, if_wanted, Tells}
+use Rattle.domain_run.specs.private.Expiring.{TellsPart}
 use Rattle.domain_run.specs.private.Telling.{IsApart, InOrderFrom, GoHome}
 use Rattle.domain_run.proofs.ToldSorted.{pairs_none, pairs_mixed, order_alike}
 
@@ -74,6 +76,24 @@ pub record TellsMixed (told : List Happened) (before after : LogView) : Type 0 w
   pub tail : List Happened
   pub is : Tells before tail after
   pub mixed : IsPermutation told tail
+
+-- it has no more than it was told
+kept_few : (w : Bool) (hs : List Happened) → length (cond w hs []) ≤ length hs
+kept_few true hs = omega arith
+kept_few false hs = omega arith
+
+pub tells_few : (n : ℕ) (hs : List Happened) (a b : LogView) → length hs ≤ n → Tells a hs b → length b.happened ≤ length a.happened + n
+tells_few n hs a b few tells =
+    omega (arith, ap (λ (xs : List Happened). length xs) tells.happened, length-append a.happened (cond a.wanted hs []), kept_few a.wanted hs, few)
+
+-- of what was left to tell it was told a part
+pub tells_parts : (all rest last : List Happened) (a b c : LogView) → TellsPart all rest a b → TellsPart rest last b c → TellsPart all last a c
+tells_parts all rest last a b c one two = record {
+  tail = one.tail ++ two.tail;
+  is = tells_more one.tail two.tail a b c one.is two.is;
+  mixed = IsPermutation-trans all (one.tail ++ rest) ((one.tail ++ two.tail) ++ last) one.mixed
+      (subst (IsPermutation (one.tail ++ rest)) (sym (append_assoc one.tail two.tail last)) (IsPermutation-append_right one.tail rest (two.tail ++ last) two.mixed));
+}
 
 -- ---- THE REST OF A LIST, from a place on, is written anew
 

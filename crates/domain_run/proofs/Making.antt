@@ -28,6 +28,20 @@ made_fit cpus time Release t fits short home = record { number = refl; short = s
 made_fit cpus time End t fits short home = same_fit cpus t (task_after time End t) (ended_same time t) short home
 made_fit cpus time Depart t fits short home = record { number = refl; short = short; home = home; cpu = refl }
 
+-- its task belongs to its CPU still
+pub made_cpu : (time : ℕ) (change : Change) (t : Task) → (task_after time change t).cpu ≡ t.cpu
+made_cpu time Replenish t = (same_replenished time t).cpu
+made_cpu time Settle t = (same_settled time t).cpu
+made_cpu time Unblock t = (same_unblocked time t).cpu
+made_cpu time (Run ticks left) t = (same_ran_until time ticks left t).cpu
+made_cpu time (RunAside ticks left) t = (same_ran_until time ticks left t).cpu
+made_cpu time PutAside t = refl
+made_cpu time (TakeBack lag) t = refl
+made_cpu time (Regrade params) t = refl
+made_cpu time Release t = refl
+made_cpu time End t = (ended_same time t).cpu
+made_cpu time Depart t = refl
+
 pub place_fit : (cpus : ℕ) (queue : RunQueue) (tasks : List Task) (p time : ℕ) (change : Change) (d : Task) → p < length tasks → Fits cpus change → IsCounted cpus queue tasks → IsFit cpus (get_or tasks p d) (task_after time change (get_or tasks p d))
 place_fit cpus queue tasks p time change d h fits is = made_fit cpus time change (get_or tasks p d) fits (is.roster.short p d h) (home_at cpus queue tasks p d h is)
 

@@ -1,11 +1,12 @@
 -- What a change of a task tells, by a look before it and behind it, and what the changes of a list tell.
-use Rattle.std.proofs.Common.{◌≡◌, ◌≢◌, ℕ, zero, suc, ◌+◌, ◌-◌, ◌<◌, Bool, true, false, cond, eqb, ◌&&◌, ◌||◌, not, None, List, [], ◌∷◌, ◌++◌, length, take, get_or, refl, sym, ap, ◌∙◌, inr, subst, arith, eq-eqb}
+use Rattle.std.proofs.Common.{◌≡◌, ◌≢◌, ℕ, zero, suc, ◌+◌, ◌-◌, ◌<◌, Bool, true, false, cond, eqb, ◌&&◌, ◌||◌, not, None, Some, List, [], ◌∷◌, ◌++◌, length, take, get_or, refl, sym, ap, ◌∙◌, inr, subst, arith, eq-eqb}
 use Rattle.std.specs.Prelude.{ℤ, All, AllPairs}
 use Rattle.std.specs.List.{flat_map}
 use Rattle.std.specs.List.Sorted.{IsPermutation}
 use Rattle.std.proofs.lemmas.Bool.{ne_eqb}
 use Rattle.std.proofs.lemmas.List.{append-nil, append_assoc, take_more}
 use Rattle.std.proofs.lemmas.Grind.{flat_map-append}
+use Rattle.std.proofs.lemmas.Option.{same_Some}
 use Rattle.std.proofs.lemmas.List.Sorted.{IsPermutation-refl, IsPermutation-trans, IsPermutation-append_left, IsPermutation-append_right, IsPermutation-append_comm}
 use Rattle.std.proofs.lemmas.List.Elements.{All-nil, All-cons, All-head, All-tail, All-append, All-weaker}
 use Rattle.cbs_rules.specs.Serving.{replenished, woken, is_spent}
@@ -25,9 +26,10 @@ use Rattle.domain_run.specs.Conditions.{is_ready, is_throttled, is_contending, i
 use Rattle.domain_run.specs.Parts.{replenish_due, unblocked, enqueued, started, starts, running_on, went_on, goes_on}
 use Rattle.domain_run.specs.Happened.{happened_to, due, job_due, told_by_segment, told_by_work, told_by_budget, told_by_replenishment, told_by_wake, told_by_unblocking}
 use Rattle.domain_run.specs.private.Index.{IsListedAt, IsUnlisted}
-use Rattle.domain_run.specs.private.Roster.{task_after}
+use Rattle.domain_run.specs.declared.telling.Before.{Before}
+use Rattle.domain_run.specs.private.Roster.{task_after, IsSeenAs}
 use Rattle.domain_run.specs.private.Paying.{ran_until}
-use Rattle.domain_run.specs.private.Telling.{told_until, told_by_change, IsQuietPart, told_of_number, look_of, told_where, told_behind, one_of, all_of_told, IsApart}
+use Rattle.domain_run.specs.private.Telling.{told_until, told_by_change, told_of_number, look_of, told_where, told_behind, one_of, all_of_told, IsApart}
 use Rattle.domain_run.proofs.Due.{still_at}
 use Rattle.domain_run.proofs.ToldOrder.{AreApart}
 
@@ -122,7 +124,7 @@ change_seen time Replenish t = replenishment_seen time t
 change_seen time Settle t = refl
 change_seen time Unblock t = unblocking_seen time t
 change_seen time (Run ticks left) t = run_seen time ticks left t
-change_seen time (RunAside ticks left) t = refl
+change_seen time (RunAside ticks left) t = run_seen time ticks left t
 change_seen time PutAside t = refl
 change_seen time (TakeBack lag) t = refl
 change_seen time (Regrade params) t = refl
@@ -130,16 +132,24 @@ change_seen time Release t = refl
 change_seen time End t = refl
 change_seen time Depart t = refl
 
--- ---- nothing, of a task that is not due
+-- what is left of its budget and its work is not seen
+behind_but : (time : ℕ) (change : Change) (before : Before) (t : Task) (left : ℤ) (work : ℕ) → told_behind time change before (record t { server = record t.server { left = left }; work = work }) ≡ told_behind time change before t
+behind_but time Replenish before t left work = refl
+behind_but time Settle before t left work = refl
+behind_but time Unblock before t left work = refl
+behind_but time (Run ticks z) before t left work = refl
+behind_but time (RunAside ticks z) before t left work = refl
+behind_but time PutAside before t left work = refl
+behind_but time (TakeBack lag) before t left work = refl
+behind_but time (Regrade params) before t left work = refl
+behind_but time Release before t left work = refl
+behind_but time End before t left work = refl
+behind_but time Depart before t left work = refl
 
-pub replenish_quiet : (time : ℕ) → IsQuietPart time Replenish
-replenish_quiet time t h = ap (λ b. cond b (happened_to time t (Replenished (due (replenish_due time t))) ∷ []) []) (still_at time t h).due
-
-pub settle_quiet : (time : ℕ) → IsQuietPart time Settle
-settle_quiet time t h = refl
-
-pub unblock_quiet : (time : ℕ) → IsQuietPart time Unblock
-unblock_quiet time t h = ap (λ b. cond b (told_by_wake time t (unblocked time t) (next_segment t.cursor time).segment) []) (still_at time t h).over
+pub behind_seen : (time : ℕ) (change : Change) (before : Before) (t u : Task) → IsSeenAs t (Some u) → told_behind time change before t ≡ told_behind time change before u
+behind_seen time change before t u seen =
+    let is : u ≡ record t { server = record t.server { left = seen.left }; work = seen.work } = same_Some u (record t { server = record t.server { left = seen.left }; work = seen.work }) seen.is in
+    sym (behind_but time change before t seen.left seen.work) ∙ ap (told_behind time change before) (sym is)
 
 -- ---- of its task alone
 

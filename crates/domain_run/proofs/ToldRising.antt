@@ -131,18 +131,18 @@ apart_both later x y =
 apart_run : (time rate : ℕ) (t : Task) → AllPairs IsApart (told_by_run time rate t)
 apart_run time rate t = apart_both (time + 1) (record t { server = charged rate 1 t.server; work = t.work - 1 }) (ran time rate t)
 
-apart_until : (time ticks : ℕ) (left : ℤ) (t : Task) → AllPairs IsApart (told_until time ticks left t)
+pub apart_until : (time ticks : ℕ) (left : ℤ) (t : Task) → AllPairs IsApart (told_until time ticks left t)
 apart_until time ticks left t = apart_both time (record t { server = record t.server { left = left }; work = t.work - ticks }) (ran_until time ticks left t)
 
 -- ---- of all tasks
 
-abbrev OwnApart : (Task → List Happened) → Type 0
+abbrev pub OwnApart : (Task → List Happened) → Type 0
 OwnApart f = (t : Task) → AllPairs IsApart (f t)
 
-abbrev OwnOf : (Task → List Happened) → Type 0
+abbrev pub OwnOf : (Task → List Happened) → Type 0
 OwnOf f = (t : Task) → AreOf t.number (f t)
 
-apart_tasks : (f : Task → List Happened) (tasks : List Task) → OwnOf f → OwnApart f → AreNumbered tasks → AllPairs IsApart (flat_map f tasks)
+pub apart_tasks : (f : Task → List Happened) (tasks : List Task) → OwnOf f → OwnApart f → AreNumbered tasks → AllPairs IsApart (flat_map f tasks)
 apart_tasks f [] own apart numbered = pairs_none IsApart
 apart_tasks f (t ∷ tasks) own apart numbered =
     let others : All (λ u. u.number ≢ t.number) tasks = All-weaker (λ u. t.number ≢ u.number) (λ u. u.number ≢ t.number) (λ u ne e. ne (sym e)) tasks (others_first t tasks numbered) in

@@ -114,6 +114,32 @@ told_jump d k (suc j) h quiet runs =
     let last : told_by_tick e ≡ told_by_end e = (λ i. beginning_still d (suc j) (omega arith) (omega (arith, quiet, h)) i ++ told_by_end (still i)) in
     (λ i. before i ++ told_by_tick (at i)) ∙ ap (λ hs. told_by_beginning d ++ hs) last
 
+-- neither begins nor ends within them anything else
+pub leap_tells : (d : Domain) (k : ℕ) → 0 < k → k ≤ ticks_to_event (under_way d) → All (RunsIf (with_tick_begun d) k) (with_tick_begun d).tasks
+    → told_by_ticks k d ≡ told_by_beginning d ++ told_by_last_end k d
+leap_tells d zero some quiet runs = absurd (omega (arith, some))
+leap_tells d (suc j) some quiet runs =
+    told_jump d (suc j) j (omega arith) (omega (arith, quiet)) runs
+    ∙ ap (λ e. told_by_beginning d ++ told_by_end e) (sym (begun_ticks d (suc j) j (omega arith) (omega (arith, quiet)) runs))
+    ∙ (let same : j ≡ suc j - 1 = omega arith in ap (λ n. told_by_beginning d ++ told_by_end (with_tick_begun (ticks n d))) same)
+
+-- what a task tells at the end of so many ticks, where it stands
+abbrev pub told_if_leapt : Domain → ℕ → Task → List Happened
+told_if_leapt b k t = cond (stands t.number b.curr) (told_until (b.time + k) k (t.server.left -ℤ pos (rate_of b t * k)) t) []
+
+-- the last end, task by task, from the tasks as they stand where the leap begins
+pub last_end_is : (d : Domain) (k : ℕ) → 0 < k → k ≤ ticks_to_event (under_way d) → All (RunsIf (with_tick_begun d) k) (with_tick_begun d).tasks
+    → told_by_last_end k d ≡ in_order (flat_map (told_if_leapt (with_tick_begun d) k) (with_tick_begun d).tasks)
+last_end_is d zero some quiet runs = absurd (omega (arith, some))
+last_end_is d (suc j) some quiet runs =
+    let b = with_tick_begun d in
+    let c = slid_all b j in
+    let same : suc j - 1 ≡ j = omega arith in
+    ap (λ n. told_by_end (with_tick_begun (ticks n d))) same
+    ∙ ap told_by_end (begun_ticks d (suc j) j (omega arith) (omega (arith, quiet)) runs)
+    ∙ ap in_order (flat_map-map (told_if_ran c) (slid b j) b.tasks
+    ∙ told_alike (λ t. told_if_ran c (slid b j t)) (told_if_leapt b (suc j)) b.tasks (λ i x h. told_slid b j (get_or b.tasks i x)))
+
 -- ---- as the code has it
 
 told_each : (e : Domain) (time ticks : ℕ) (budgets : List ℤ) → AllPairs (λ a b. a.number ≢ b.number) e.tasks → AreCharged e ticks budgets
@@ -151,9 +177,5 @@ told_pay_is d (suc j) budgets time steady placed some quiet are at =
 -- and its ticks tell this alone behind the first beginning
 pub told_ticks_is : (d : Domain) (k : ℕ) (budgets : List ℤ) → IsSteady (under_way d) → IsPlacement (under_way d) → 0 < k → k ≤ ticks_to_event (under_way d) → AreCharged (under_way d) k budgets
     → told_by_ticks k d ≡ told_by_beginning d ++ told_by_last_end k d
-told_ticks_is d zero budgets steady placed some quiet are = absurd (omega (arith, some))
-told_ticks_is d (suc j) budgets steady placed some quiet are =
-    let runs : All (RunsIf (with_tick_begun d) (suc j)) (with_tick_begun d).tasks = λ i x h stand. let r = runs_each (under_way d) (suc j) budgets steady.numbered placed are i x h stand in record { ready = r.ready; worked = r.worked; lasted = r.lasted } in
-    told_jump d (suc j) j (omega arith) (omega (arith, quiet)) runs
-    ∙ ap (λ e. told_by_beginning d ++ told_by_end e) (sym (begun_ticks d (suc j) j (omega arith) (omega (arith, quiet)) runs))
-    ∙ (let same : j ≡ suc j - 1 = omega arith in ap (λ n. told_by_beginning d ++ told_by_end (with_tick_begun (ticks n d))) same)
+told_ticks_is d k budgets steady placed some quiet are =
+    leap_tells d k some quiet (λ i x h stand. let r = runs_each (under_way d) k budgets steady.numbered placed are i x h stand in record { ready = r.ready; worked = r.worked; lasted = r.lasted })

@@ -117,13 +117,20 @@ pub record Walked (time : ℕ) (first now : List Task) (place : ℕ) : Type 0 wh
 pub walk_begins : (time : ℕ) (first : List Task) → Walked time first first 0
 walk_begins time first = record { done = []; rest = first; first_is = refl; now_is = refl; place_is = refl }
 
-pub walk_step : (time : ℕ) (first now new : List Task) (p next : ℕ) → Walked time first now p → p < length now → IsWoken time p now new next → Walked time first new next
-walk_step time first now new p next w h one = by_rest w.rest refl
+-- and the task at the place then
+pub record WalkedMore (time : ℕ) (first now new : List Task) (p next : ℕ) (w : Walked time first now p) : Type 0 where
+  pub task : Task
+  pub read : (d : Task) → get_or now p d ≡ task
+  pub walked : Walked time first new next
+  pub done_is : walked.done ≡ w.done ++ task ∷ []
+
+pub walk_more : (time : ℕ) (first now new : List Task) (p next : ℕ) → (w : Walked time first now p) → p < length now → IsWoken time p now new next → WalkedMore time first now new p next w
+walk_more time first now new p next w h one = by_rest w.rest refl
   where
     P : List Task
     P = prepared time w.done
 
-    by_rest : (rest : List Task) → w.rest ≡ rest → Walked time first new next
+    by_rest : (rest : List Task) → w.rest ≡ rest → WalkedMore time first now new p next w
     by_rest [] e =
         let len : length now ≡ length P = ap (λ (ts : List Task). length ts) (w.now_is ∙ ap (λ ts. P ++ ts) e ∙ append-nil P) in
         let at : p ≡ length P = w.place_is in
@@ -138,12 +145,20 @@ walk_step time first now new p next w h one = by_rest w.rest refl
         let X = prepared time (t ∷ []) in
         let both : P ++ X ≡ prepared time (w.done ++ (t ∷ [])) = sym (prepared_append time w.done (t ∷ [])) in
         record {
-          done = w.done ++ (t ∷ []);
-          rest = more;
-          first_is = w.first_is ∙ ap (λ ts. w.done ++ ts) e ∙ sym (append_assoc w.done (t ∷ []) more);
-          now_is = one.tasks t ∙ (λ i. front i ++ (prepared time (here i ∷ []) ++ behind i)) ∙ sym (append_assoc P X more) ∙ ap (λ ts. ts ++ more) both;
-          place_is = one.next t ∙ (λ i. at i + length (prepared time (here i ∷ []))) ∙ sym (length-append P X) ∙ ap (λ (ts : List Task). length ts) both;
+          task = t;
+          read = λ d. (λ i. get_or (is i) (at i) d) ∙ get_or-append_seam P t more d;
+          walked = record {
+            done = w.done ++ (t ∷ []);
+            rest = more;
+            first_is = w.first_is ∙ ap (λ ts. w.done ++ ts) e ∙ sym (append_assoc w.done (t ∷ []) more);
+            now_is = one.tasks t ∙ (λ i. front i ++ (prepared time (here i ∷ []) ++ behind i)) ∙ sym (append_assoc P X more) ∙ ap (λ ts. ts ++ more) both;
+            place_is = one.next t ∙ (λ i. at i + length (prepared time (here i ∷ []))) ∙ sym (length-append P X) ∙ ap (λ (ts : List Task). length ts) both;
+          };
+          done_is = refl;
         }
+
+pub walk_step : (time : ℕ) (first now new : List Task) (p next : ℕ) → Walked time first now p → p < length now → IsWoken time p now new next → Walked time first new next
+walk_step time first now new p next w h one = (walk_more time first now new p next w h one).walked
 
 -- those that are not due are passed by
 walk_on : (time : ℕ) (first now : List Task) (n p : ℕ) → Walked time first now p → p + n ≤ length now → ((q : ℕ) (d : Task) → p ≤ q → q < p + n → time < due_of (get_or now q d)) → Walked time first now (p + n)
@@ -159,6 +174,20 @@ walk_by time first now p r w from most later =
     let whole : p + (r - p) ≡ r = omega (arith, from) in
     subst (λ m. Walked time first now m) whole
     (walk_on time first now (r - p) p w (omega (arith, whole, most)) (λ q d a b. later q d a (omega (arith, b, whole)) (omega (arith, b, whole, most))))
+
+-- at its end all are done
+pub walk_done : (time : ℕ) (first now : List Task) (p : ℕ) → (w : Walked time first now p) → length now ≤ p → w.done ≡ first
+walk_done time first now p w h = by_rest w.rest refl
+  where
+    P : List Task
+    P = prepared time w.done
+
+    by_rest : (rest : List Task) → w.rest ≡ rest → w.done ≡ first
+    by_rest [] e = sym (w.first_is ∙ ap (λ ts. w.done ++ ts) e ∙ append-nil w.done)
+    by_rest (t ∷ more) e =
+        let len : length now ≡ length P + length (t ∷ more) = ap (λ (ts : List Task). length ts) (w.now_is ∙ ap (λ ts. P ++ ts) e) ∙ length-append P (t ∷ more) in
+        let at : p ≡ length P = w.place_is in
+        absurd (omega (arith, h, len, at))
 
 pub walk_ends : (time : ℕ) (first now : List Task) (p : ℕ) → Walked time first now p → length now ≤ p → now ≡ prepared time first
 walk_ends time first now p w h = by_rest w.rest refl

@@ -11,3 +11,4 @@ pub mod Waiting
 pub mod Dozing
 pub mod Choosing
 pub mod Extending
+pub mod Expiring

@@ -1,16 +1,14 @@
 //! A log of what happens to the tasks of a domain.
 
-ghost use Rattle.std.specs.Prelude.{◌≡◌, ◌<◌, ◌≤◌, ◌+◌, [], true, false, length, position, map, AllPairs, OnOk, IfSome};
+ghost use Rattle.std.specs.Prelude.{◌≡◌, ◌<◌, ◌≤◌, ◌+◌, [], true, false, IsTrue, length, AllPairs, OnOk};
 ghost use Rattle.std.specs.Ordering.{is_lt};
-ghost use Rattle.edf_pick.specs.Places.{is_task};
 ghost use Rattle.domain_run.specs.Happened as happened_spec;
 ghost use Rattle.domain_run.specs.Log.{Tells, LogHasRoom};
-ghost use Rattle.domain_run.specs.Sound.{occupant, HasNoTaskTwice as IsPlacedOnce};
-ghost use Rattle.domain_run.specs.private.RunQueue.{AreHomed};
-ghost use Rattle.domain_run.specs.private.Telling.{IsApart, InOrderFrom, GoHome, one_of, all_of_told};
+ghost use Rattle.domain_run.specs.private.Telling.{IsApart, InOrderFrom, one_of, all_of_told};
+
+mod homing;
 
 use crate::happened::Happened;
-use crate::roster::Roster;
 use crate::telling::Told;
 use no_memory::NoMemory;
 use std::alloc::Global;
@@ -64,84 +62,6 @@ fn put_in_order(told: &mut [Happened])
     ensures { AllPairs IsApart told.old → told.new ≡ happened_spec.in_order told.old }
 {
     told.sort_unstable_by(|a, b| order_of(a, b));
-}
-
-// The CPU on which a task stands, if it stands on one, looked for on each.
-fn cpu_among(number: u32, places: &[Option<u32>]) -> Option<usize>
-    ensures cpu { result ≡ position (is_task number) places.now }
-    ensures within { IfSome result (λ cpu. cpu < length places.now) }
-{
-    places.iter().position(|occupant| *occupant == Some(number))
-}
-
-fn stands_on(number: u32, places: &[Option<u32>], cpu: usize) -> bool
-    requires { cpu < length places.now }
-    ensures { result ≡ is_task number (occupant places.now cpu) }
-{
-    places[cpu] == Some(number)
-}
-
-// The CPU on which a task stands, if it stands on one. One that is listed belongs to it.
-fn cpu_of(number: u32, places: &[Option<u32>], roster: &Roster) -> Option<usize>
-    requires wide { length places.now ≡ roster.now.cpus }
-    requires apart { IsPlacedOnce places.now }
-    requires homed { AreHomed places.now roster.now.tasks }
-    ensures cpu { result ≡ position (is_task number) places.now }
-    ensures within { IfSome result (λ cpu. cpu < length places.now) }
-{
-    let Some(place) = roster.place(number) else {
-        return cpu_among(number, places);
-    };
-    let cpu = roster.cpu_at(place);
-    if stands_on(number, places, cpu) {
-        Some(cpu)
-    } else {
-        None
-    }
-}
-
-// One on the CPU where its task stands, if it stands on one.
-fn at_home(one: &Happened, places: &[Option<u32>], roster: &Roster) -> Happened
-    requires narrow { length places.now ≤ 64 }
-    requires wide { length places.now ≡ roster.now.cpus }
-    requires apart { IsPlacedOnce places.now }
-    requires homed { AreHomed places.now roster.now.tasks }
-    ensures { result ≡ happened_spec.with_its_cpu places.now one.now }
-{
-    match cpu_of(one.number, places, roster) {
-        Some(cpu) => Happened {
-            cpu: cpu as u16,
-            ..*one
-        },
-        None => *one,
-    }
-}
-
-// Each on the CPU where its task stands, if it stands on one.
-fn all_home(told: &mut [Happened], places: &[Option<u32>], roster: &Roster)
-    requires narrow { length places.now ≤ 64 }
-    requires wide { length places.now ≡ roster.now.cpus }
-    requires apart { IsPlacedOnce places.now }
-    requires homed { AreHomed places.now roster.now.tasks }
-    ensures { told.new ≡ map (happened_spec.with_its_cpu places.now) told.old }
-{
-    for one in told.iter_mut() {
-        *one = at_home(one, places, roster);
-    }
-}
-
-// Each on the CPU where its task stands, if it stands on one, and in its order by those.
-#[inline(never)]
-fn all_home_in_order(told: &mut [Happened], places: &[Option<u32>], roster: &Roster)
-    requires narrow { length places.now ≤ 64 }
-    requires wide { length places.now ≡ roster.now.cpus }
-    requires apart { IsPlacedOnce places.now }
-    requires homed { AreHomed places.now roster.now.tasks }
-    ensures { AllPairs IsApart told.old
-        → told.new ≡ happened_spec.in_order (map (happened_spec.with_its_cpu places.now) told.old) }
-{
-    all_home(told, places, roster);
-    put_in_order(told);
 }
 
 impl Log {
@@ -199,6 +119,13 @@ impl Log {
         self.happened.clear();
     }
 
+    /// Whether it has room for so much more, or keeps nothing.
+    pub(crate) fn has_room(&self, count: usize) -> bool
+        ensures { IsTrue result → LogHasRoom count self.now }
+    {
+        !self.wanted || self.happened.capacity() - self.happened.len() >= count
+    }
+
     /// Room for so much more, where it keeps it; a silent one is as it was. `Err` where a growth
     /// was refused; it has what it had then.
     pub fn make_room(&mut self, more: usize) -> Result<(), NoMemory>
@@ -246,24 +173,6 @@ impl Log {
     {
         if from < self.happened.len() {
             put_in_order(&mut self.happened[from..]);
-        }
-    }
-
-    /// What was told from this place on is told on the CPUs where its tasks stand now, those that
-    /// stand on one, and is put in its order by those.
-    #[inline(always)]
-    pub(crate) fn go_home(&mut self, from: usize, places: &[Option<u32>], roster: &Roster)
-        requires from { from ≤ length self.old.happened }
-        requires narrow { length places.now ≤ 64 }
-        requires wide { length places.now ≡ roster.now.cpus }
-        requires apart { IsPlacedOnce places.now }
-        requires homed { AreHomed places.now roster.now.tasks }
-        ensures wanted { self.new.wanted ≡ self.old.wanted }
-        ensures home { GoHome places.now from self.old.happened self.new.happened }
-        ensures room { self.new.room ≡ self.old.room }
-    {
-        if from < self.happened.len() {
-            all_home_in_order(&mut self.happened[from..], places, roster);
         }
     }
 }

@@ -5,7 +5,7 @@
 //! A task that sits is not charged tick by tick. What callers see is the list with each task
 //! charged up to now, whatever is still owed in it.
 
-ghost use Rattle.std.specs.Prelude.{◌≡◌, ◌≢◌, ◌==◌, ◌<◌, ◌≤◌, ◌^◌, ◌+◌, ◌-◌, ◌&&◌, ◌++◌, ◌∷◌, [], not, min, All, AllPairs, IfOk, IfSome, IfNone, true, false, find, map, filter, length, option_map, None, replicate, slice_get, slice_index_or, vec_capacity, vec_len};
+ghost use Rattle.std.specs.Prelude.{◌≡◌, ◌≢◌, ◌==◌, ◌<◌, ◌≤◌, ◌^◌, ◌+◌, ◌-◌, ◌&&◌, ◌++◌, ◌∷◌, [], not, min, All, AllPairs, IfOk, IfSome, IfNone, true, false, find, map, filter, length, option_map, None, Some, replicate, slice_get, slice_index_or, vec_capacity, vec_len};
 ghost use Rattle.attr_check.specs.Ratio.{cap};
 ghost use Rattle.domain_run.specs.declared.task.Task.{Task};
 ghost use Rattle.domain_run.specs.Conditions.{is_ready, is_leaving};
@@ -19,7 +19,9 @@ ghost use Rattle.domain_run.specs.private.Choosing.{switch_made};
 ghost use Rattle.domain_run.specs.private.Index.{IsListedAt, IsUnlisted};
 ghost use Rattle.domain_run.specs.Views.{view_of};
 ghost use Rattle.domain_run.specs.private.Roster.{task_after, put_aside, MayMake, Fits, HasLeft, IsSeenAs, runner_in};
+ghost use Rattle.domain_run.specs.Log.{LogHasRoom, Tells};
 ghost use Rattle.domain_run.specs.private.RunQueue.{AreHomed};
+ghost use Rattle.domain_run.specs.private.Telling.{told_by_change};
 ghost use Rattle.domain_run.specs.private.Waiting.{seat_of_task, MaySitIfReady};
 ghost use Rattle.due_times.specs.Timers.{least};
 ghost use Rattle.domain_run.specs.private.Timers.{IsTimerStep, AreNotDue, due_of};
@@ -40,11 +42,12 @@ mod turning;
 
 use crate::change::{self, Change};
 use crate::index::Index;
-use crate::parts;
+use crate::log::Log;
 use crate::run_queue::RunQueue;
 use crate::running::Running;
 use crate::switch::{PrevState, Switch};
-use crate::task::{Task, TaskView};
+use crate::task::{Condition, Task, TaskView};
+use crate::{parts, telling};
 pub(crate) use dozing::Lags;
 use due_times::{Doubts, Seats};
 use edf_pick::Moved;
@@ -163,6 +166,24 @@ impl Roster {
         requires free { (d : Task)
             → seat_of_task self.now.seats (slice_index_or self.now.tasks place d) ≡ None }
         ensures task { (d : Task) → result.now ≡ slice_index_or self.now.tasks place d }
+        ensures home { result.now.cpu < self.now.cpus }
+    {
+        self.tasks.at(place)
+    }
+
+    /// The condition of the task at a place.
+    pub(crate) fn condition_at(&self, place: usize) -> Condition
+        requires { place < length self.now.tasks }
+        ensures { (d : Task) → result ≡ (slice_index_or self.now.tasks place d).condition }
+    {
+        self.tasks.at(place).condition
+    }
+
+    /// The task at a place: all of it but for what is left of its budget and its work.
+    pub(crate) fn seen_at(&self, place: usize) -> &Task
+        requires { place < length self.now.tasks }
+        ensures seen { (d : Task)
+            → IsSeenAs result.now (Some (slice_index_or self.now.tasks place d)) }
         ensures home { result.now.cpu < self.now.cpus }
     {
         self.tasks.at(place)
@@ -393,6 +414,83 @@ impl Roster {
         )
     }
 
+    /// As `turn_told`, of a log that keeps what it is told.
+    #[inline(never)]
+    fn turn_logged(
+        &mut self,
+        place: usize,
+        time: u64,
+        change: &Change,
+        log: &mut Log,
+    ) -> Option<u64>
+        requires there { place < length self.old.tasks }
+        requires free { (d : Task) → slice_index_or self.old.seats
+            (slice_index_or self.old.tasks place d).cpu None ≡ None }
+        requires early { time < 2 ^ 43 }
+        requires narrow { self.old.cpus ≤ 64 }
+        requires fits { Fits self.old.cpus change.now }
+        requires sound { All (IsSound time) self.old.tasks }
+        requires may { (d : Task) → MayMake time change.now
+            (slice_index_or self.old.tasks place d) }
+        requires room { LogHasRoom 3 log.old }
+        ensures cpus { self.new.cpus ≡ self.old.cpus }
+        ensures step { IsTimerStep (task_after time change.now) place self.old.tasks
+            self.new.tasks }
+        ensures sound { All (IsSound time) self.new.tasks }
+        ensures clock { self.new.clock ≡ self.old.clock }
+        ensures places { self.new.places ≡ self.old.places }
+        ensures seats { self.new.seats ≡ self.old.seats }
+        ensures aside { (d : Task) → result
+            ≡ put_aside time change.now (slice_index_or self.old.tasks place d) }
+        ensures told { (d : Task) → Tells log.old
+            (told_by_change time change.now (slice_index_or self.old.tasks place d)) log.new }
+        ensures room { log.old.room ≤ log.new.room + 3 }
+    {
+        let before = telling::look(self.at(place), time, change);
+        let aside = self.turn_charged(place, time, change);
+        let told = telling::seen_behind(time, change, before, self.at(place));
+        log.push_all(told);
+        aside
+    }
+
+    /// As `turn_charged`, and the log is told what the change tells.
+    #[inline(always)]
+    pub(super) fn turn_told(
+        &mut self,
+        place: usize,
+        time: u64,
+        change: &Change,
+        log: &mut Log,
+    ) -> Option<u64>
+        requires there { place < length self.old.tasks }
+        requires free { (d : Task) → slice_index_or self.old.seats
+            (slice_index_or self.old.tasks place d).cpu None ≡ None }
+        requires early { time < 2 ^ 43 }
+        requires narrow { self.old.cpus ≤ 64 }
+        requires fits { Fits self.old.cpus change.now }
+        requires sound { All (IsSound time) self.old.tasks }
+        requires may { (d : Task) → MayMake time change.now
+            (slice_index_or self.old.tasks place d) }
+        requires room { LogHasRoom 3 log.old }
+        ensures cpus { self.new.cpus ≡ self.old.cpus }
+        ensures step { IsTimerStep (task_after time change.now) place self.old.tasks
+            self.new.tasks }
+        ensures sound { All (IsSound time) self.new.tasks }
+        ensures clock { self.new.clock ≡ self.old.clock }
+        ensures places { self.new.places ≡ self.old.places }
+        ensures seats { self.new.seats ≡ self.old.seats }
+        ensures aside { (d : Task) → result
+            ≡ put_aside time change.now (slice_index_or self.old.tasks place d) }
+        ensures told { (d : Task) → Tells log.old
+            (told_by_change time change.now (slice_index_or self.old.tasks place d)) log.new }
+        ensures room { log.old.room ≤ log.new.room + 3 }
+    {
+        if log.is_wanted() {
+            return self.turn_logged(place, time, change, log);
+        }
+        self.turn_charged(place, time, change)
+    }
+
     /// Changes the task of a number, where it is listed.
     #[inline(always)]
     pub(crate) fn turn_number(&mut self, number: u32, time: u64, change: &Change)
@@ -452,6 +550,7 @@ impl Roster {
         ensures moves { self.new.moves ≡ moved_from 0 self.old.places self.new.places }
         ensures tasks { self.new.tasks ≡ map (with_last_cpu self.new.places) self.old.tasks }
         ensures wide { length self.new.places ≡ length self.old.places }
+        ensures apart { HasNoTaskTwice self.new.places }
         ensures switches { switches.new.items ≡ switches.old.items
             ++ map (switch_made moment.time self.old.tasks self.new.places) self.new.moves }
         ensures spare { vec_capacity switches.new ≡ vec_capacity switches.old }

@@ -6,7 +6,6 @@ ghost use Rattle.attr_check.specs.Ratio.{cap};
 ghost use Rattle.domain_run.specs.declared.task.Task.{Task};
 ghost use Rattle.domain_run.specs.Calls.{of_number};
 ghost use Rattle.domain_run.specs.Domain.{IsLimit};
-ghost use Rattle.domain_run.specs.Happened.{told_by_replenishment};
 ghost use Rattle.domain_run.specs.Log.{LogHasRoom, Tells};
 ghost use Rattle.domain_run.specs.Parts as parts_spec;
 ghost use Rattle.edf_pick.specs.Places as places_spec;
@@ -15,7 +14,7 @@ ghost use Rattle.domain_run.specs.Switches as switches_spec;
 ghost use Rattle.domain_run.specs.Tick as tick_spec;
 ghost use Rattle.domain_run.specs.private.Paying.{MayPayIf, paid};
 ghost use Rattle.domain_run.specs.private.Choosing as choosing_spec;
-ghost use Rattle.domain_run.specs.private.Roster.{task_after, timers_served, IsPart, IsWoken, Fits, MayMake};
+ghost use Rattle.domain_run.specs.private.Roster.{task_after, IsWoken, Fits, MayMake};
 ghost use Rattle.domain_run.specs.private.Timers.{IsTimerStep};
 ghost use Rattle.domain_run.specs.private.Waiting.{seat_of_task};
 ghost use Rattle.domain_run.specs.private.Telling as telling_spec;
@@ -24,7 +23,7 @@ use crate::change::Change;
 use crate::log::Log;
 use crate::roster::{Moment, Roster};
 use crate::switch::{Switch, switch_of};
-use crate::telling;
+use crate::telling::{self, Before};
 use edf_pick::Moved;
 
 /// Changes the task at a place, which sits nowhere, and tells the log what that tells.
@@ -114,74 +113,101 @@ fn turn_number(roster: &mut Roster, number: u32, time: u64, change: &Change, log
     }
 }
 
-/// Parts 1 and 2 of the task at a place, one behind the other.
-#[inline(always)]
-fn serve(roster: &mut Roster, place: usize, time: u64, log: &mut Log)
+/// Part 1 or 3 of the task at a place, and the log is told what that tells. Neither changes a task
+/// that sits, so it is looked at as it is stored.
+#[inline(never)]
+fn tell_part(roster: &mut Roster, place: usize, time: u64, change: &Change, log: &mut Log)
     requires there { place < length roster.old.tasks }
+    requires early { time < 2 ^ 43 }
+    requires narrow { roster.old.cpus ≤ 64 }
+    requires fits { Fits roster.old.cpus change.now }
+    requires sound { All (IsSound time) roster.old.tasks }
+    requires may { (d : Task) → MayMake time change.now (slice_index_or roster.old.tasks place d) }
+    requires part { (t : Task) → telling_spec.is_late_in time change.now t ≡ false }
+    requires room { LogHasRoom 3 log.old }
+    ensures cpus { roster.new.cpus ≡ roster.old.cpus }
+    ensures places { roster.new.places ≡ roster.old.places }
+    ensures step { IsTimerStep (task_after time change.now) place roster.old.tasks
+        roster.new.tasks }
+    ensures sound { All (IsSound time) roster.new.tasks }
+    ensures told { (d : Task) → Tells log.old
+        (telling_spec.told_by_change time change.now (slice_index_or roster.old.tasks place d))
+        log.new }
+    ensures room { log.old.room ≤ log.new.room + 3 }
+{
+    let before = Before {
+        condition: roster.condition_at(place),
+        is_late: false,
+    };
+    roster.turn(place, time, change);
+    let told = telling::seen_behind(time, change, before, roster.seen_at(place));
+    log.push_all(told);
+}
+
+/// Part 1 or 3 of the task at a place. The log is told what that tells.
+#[inline(always)]
+fn turn_part(roster: &mut Roster, place: usize, time: u64, change: &Change, log: &mut Log)
+    requires there { place < length roster.old.tasks }
+    requires early { time < 2 ^ 43 }
+    requires narrow { roster.old.cpus ≤ 64 }
+    requires fits { Fits roster.old.cpus change.now }
+    requires sound { All (IsSound time) roster.old.tasks }
+    requires may { (d : Task) → MayMake time change.now (slice_index_or roster.old.tasks place d) }
+    requires part { (t : Task) → telling_spec.is_late_in time change.now t ≡ false }
+    requires room { LogHasRoom 3 log.old }
+    ensures cpus { roster.new.cpus ≡ roster.old.cpus }
+    ensures places { roster.new.places ≡ roster.old.places }
+    ensures step { IsTimerStep (task_after time change.now) place roster.old.tasks
+        roster.new.tasks }
+    ensures sound { All (IsSound time) roster.new.tasks }
+    ensures told { (d : Task) → Tells log.old
+        (telling_spec.told_by_change time change.now (slice_index_or roster.old.tasks place d))
+        log.new }
+    ensures room { log.old.room ≤ log.new.room + 3 }
+{
+    if !log.is_wanted() {
+        roster.turn(place, time, change);
+        return;
+    }
+    if !telling::may_tell(roster.condition_at(place), time, change) {
+        roster.turn(place, time, change);
+        return;
+    }
+    tell_part(roster, place, time, change, log);
+}
+
+/// Parts 1 to 3 of the task at a place, of which the log is told. Where it goes on then: behind the
+/// task, or there, where that has left.
+#[inline(always)]
+fn wake_at(roster: &mut Roster, place: usize, time: u64, log: &mut Log) -> usize
+    requires there { place < length roster.old.tasks }
+    requires few { place < 256 }
     requires early { time < 2 ^ 42 }
     requires narrow { roster.old.cpus ≤ 64 }
     requires sound { All (IsSound time) roster.old.tasks }
     requires room { LogHasRoom 6 log.old }
     ensures cpus { roster.new.cpus ≡ roster.old.cpus }
     ensures places { roster.new.places ≡ roster.old.places }
-    ensures step { IsTimerStep (timers_served time) place roster.old.tasks roster.new.tasks }
+    ensures woken { IsWoken time place roster.old.tasks roster.new.tasks result }
     ensures sound { All (IsSound time) roster.new.tasks }
     ensures told { (d : Task) → Tells log.old
-        (told_by_replenishment time (slice_index_or roster.old.tasks place d)) log.new }
+        (telling_spec.told_of_task time (slice_index_or roster.old.tasks place d)) log.new }
     ensures room { log.old.room ≤ log.new.room + 6 }
 {
-    turn(roster, place, time, &Change::Replenish, log);
-    turn(roster, place, time, &Change::Settle, log);
-}
-
-/// Parts 1 and 2, in one walk. It goes from one task that is due to the next.
-#[inline(always)]
-fn serve_due(roster: &mut Roster, time: u64, log: &mut Log)
-    requires early { time < 2 ^ 42 }
-    requires narrow { roster.old.cpus ≤ 64 }
-    requires sound { All (IsSound time) roster.old.tasks }
-    requires room { LogHasRoom (6 * length roster.old.tasks) log.old }
-    ensures cpus { roster.new.cpus ≡ roster.old.cpus }
-    ensures places { roster.new.places ≡ roster.old.places }
-    ensures tasks { roster.new.tasks ≡ map (timers_served time) roster.old.tasks }
-    ensures sound { All (IsSound time) roster.new.tasks }
-    ensures told { Tells log.old
-        (flat_map (told_by_replenishment time) roster.old.tasks) log.new }
-    ensures room { log.old.room ≤ log.new.room + 6 * length roster.old.tasks }
-{
-    let mut place = roster.next_due(0, time);
-    while place < roster.len() {
-        serve(roster, place, time, log);
-        place = roster.next_due(place + 1, time);
+    turn_part(roster, place, time, &Change::Replenish, log);
+    roster.turn(place, time, &Change::Settle);
+    if let Some(number) = roster.left_at(place) {
+        roster.take_off(number, time);
+        return place;
     }
+    turn_part(roster, place, time, &Change::Unblock, log);
+    place + 1
 }
 
-/// One of parts 1 to 3. It goes from one task that is due to the next.
+/// Parts 1 to 3, of which the log is told, in one walk. It goes from one task that is due to the
+/// next.
 #[inline(always)]
-fn turn_due(roster: &mut Roster, time: u64, change: &Change, log: &mut Log)
-    requires early { time < 2 ^ 42 }
-    requires narrow { roster.old.cpus ≤ 64 }
-    requires part { IsPart time change.now }
-    requires quiet { telling_spec.IsQuietPart time change.now }
-    requires sound { All (IsSound time) roster.old.tasks }
-    requires room { LogHasRoom (3 * length roster.old.tasks) log.old }
-    ensures cpus { roster.new.cpus ≡ roster.old.cpus }
-    ensures places { roster.new.places ≡ roster.old.places }
-    ensures tasks { roster.new.tasks ≡ map (task_after time change.now) roster.old.tasks }
-    ensures sound { All (IsSound time) roster.new.tasks }
-    ensures told { Tells log.old
-        (flat_map (telling_spec.told_by_change time change.now) roster.old.tasks) log.new }
-    ensures room { log.old.room ≤ log.new.room + 3 * length roster.old.tasks }
-{
-    let mut place = roster.next_due(0, time);
-    while place < roster.len() {
-        turn(roster, place, time, change, log);
-        place = roster.next_due(place + 1, time);
-    }
-}
-
-/// Parts 1 to 3, of which a log is told.
-fn wake_told(roster: &mut Roster, time: u64, log: &mut Log)
+fn wake_due(roster: &mut Roster, time: u64, log: &mut Log)
     requires early { time < 2 ^ 42 }
     requires narrow { roster.old.cpus ≤ 64 }
     requires sound { All (IsSound time) roster.old.tasks }
@@ -190,18 +216,21 @@ fn wake_told(roster: &mut Roster, time: u64, log: &mut Log)
     ensures places { roster.new.places ≡ roster.old.places }
     ensures tasks { roster.new.tasks ≡ tick_spec.prepared time roster.old.tasks }
     ensures sound { All (IsSound time) roster.new.tasks }
-    ensures told { Tells log.old (telling_spec.told_of_parts time roster.old.tasks) log.new }
+    ensures told { Tells log.old
+        (flat_map (telling_spec.told_of_task time) roster.old.tasks) log.new }
     ensures room { log.old.room ≤ log.new.room + 9 * length roster.old.tasks }
 {
-    serve_due(roster, time, log);
-    roster.drop_left();
-    turn_due(roster, time, &Change::Unblock, log);
+    let mut place = roster.next_due(0, time);
+    while place < roster.len() {
+        let next = wake_at(roster, place, time, log);
+        place = roster.next_due(next, time);
+    }
 }
 
 /// Parts 1 to 3 of the task at a place, of which no log is told. Where it goes on then: behind the
 /// task, or there, where that has left.
 #[inline(always)]
-fn wake_at(roster: &mut Roster, place: usize, time: u64) -> usize
+fn wake_silently_at(roster: &mut Roster, place: usize, time: u64) -> usize
     requires there { place < length roster.old.tasks }
     requires few { place < 256 }
     requires early { time < 2 ^ 42 }
@@ -224,7 +253,7 @@ fn wake_at(roster: &mut Roster, place: usize, time: u64) -> usize
 /// Parts 1 to 3, of which no log is told, in one walk. It goes from one task that is due to the
 /// next.
 #[inline(always)]
-fn wake_due(roster: &mut Roster, time: u64)
+fn wake_silently(roster: &mut Roster, time: u64)
     requires early { time < 2 ^ 42 }
     requires sound { All (IsSound time) roster.old.tasks }
     ensures cpus { roster.new.cpus ≡ roster.old.cpus }
@@ -234,12 +263,13 @@ fn wake_due(roster: &mut Roster, time: u64)
 {
     let mut place = roster.next_due(0, time);
     while place < roster.len() {
-        let next = wake_at(roster, place, time);
+        let next = wake_silently_at(roster, place, time);
         place = roster.next_due(next, time);
     }
 }
 
-/// Parts 1 to 3. Mostly no task is due, and then they have nothing to do.
+/// Parts 1 to 3, of which the log is told, task by task. Mostly no task is due, and then they have
+/// nothing to do.
 #[inline(always)]
 fn wake_all(roster: &mut Roster, time: u64, log: &mut Log)
     requires early { time < 2 ^ 42 }
@@ -250,31 +280,17 @@ fn wake_all(roster: &mut Roster, time: u64, log: &mut Log)
     ensures places { roster.new.places ≡ roster.old.places }
     ensures tasks { roster.new.tasks ≡ tick_spec.prepared time roster.old.tasks }
     ensures sound { All (IsSound time) roster.new.tasks }
-    ensures told { Tells log.old (telling_spec.told_of_parts time roster.old.tasks) log.new }
+    ensures told { Tells log.old
+        (flat_map (telling_spec.told_of_task time) roster.old.tasks) log.new }
     ensures room { log.old.room ≤ log.new.room + 9 * length roster.old.tasks }
 {
     if !roster.may_be_due(time) {
         return;
     }
     if log.is_wanted() {
-        wake_told(roster, time, log);
+        wake_due(roster, time, log);
     } else {
-        wake_due(roster, time);
-    }
-}
-
-/// As `wake_all`, of which no log is told.
-#[inline(always)]
-fn wake_unheard(roster: &mut Roster, time: u64)
-    requires early { time < 2 ^ 42 }
-    requires sound { All (IsSound time) roster.old.tasks }
-    ensures cpus { roster.new.cpus ≡ roster.old.cpus }
-    ensures places { roster.new.places ≡ roster.old.places }
-    ensures tasks { roster.new.tasks ≡ tick_spec.prepared time roster.old.tasks }
-    ensures sound { All (IsSound time) roster.new.tasks }
-{
-    if roster.may_be_due(time) {
-        wake_due(roster, time);
+        wake_silently(roster, time);
     }
 }
 
@@ -353,15 +369,18 @@ pub(crate) fn begin(
     !roster.moves().is_empty()
 }
 
-/// As `begin`, of which no log is told: who starts on a CPU sits there at once.
+/// As `begin`: who starts on a CPU sits there at once.
 #[inline(always)]
 pub(crate) fn begin_seated(
     time: u64,
     limit: u64,
     roster: &mut Roster,
     switches: &mut Vec<Switch>,
+    log: &mut Log,
 ) -> bool
     requires narrow { (0 < roster.old.cpus) × (roster.old.cpus ≤ 64) }
+    requires log { LogHasRoom (9 * length roster.old.tasks) log.old }
+    requires numbered { AllPairs (λ a b. a.number ≢ b.number) roster.old.tasks }
     requires limit { IsLimit limit }
     requires within { tick_spec.sum_of (tick_spec.prepared time roster.old.tasks)
         ≤ cap roster.old.cpus limit }
@@ -382,9 +401,14 @@ pub(crate) fn begin_seated(
         (tick_spec.prepared time roster.old.tasks) 0 roster.old.places roster.new.places }
     ensures room { vec_capacity switches.new ≡ vec_capacity switches.old }
     ensures none { result ≡ false → roster.new.places ≡ roster.old.places }
+    ensures told { Tells log.old (telling_spec.told_at_home roster.new.places time roster.old.tasks)
+        log.new }
+    ensures log { log.old.room ≤ log.new.room + 9 * length roster.old.tasks }
 {
-    wake_unheard(roster, time);
+    let from = log.len();
+    wake_all(roster, time, log);
     roster.choose_seated(Moment { time, limit }, switches);
+    log.go_home(from, roster.occupants(), roster);
     let is_same = roster.moves().is_empty();
     !is_same
 }

@@ -1,7 +1,8 @@
 //! What a change of one task tells a log.
 
-ghost use Rattle.std.specs.Prelude.{[], ◌≡◌, ◌<◌, ◌^◌, ℕ, ℤ, pos, Bool, IsTrue};
+ghost use Rattle.std.specs.Prelude.{[], ◌≡◌, ◌<◌, ◌^◌, ℕ, ℤ, pos, Bool, IsTrue, false};
 ghost use Rattle.domain_run.specs.declared.task.Condition.{Condition};
+ghost use Rattle.domain_run.specs.declared.task.Task.{Task};
 ghost use Rattle.domain_run.specs.declared.change.Change.TheVariants as Change;
 ghost use Rattle.domain_run.specs.declared.happened.What.TheVariants as What;
 ghost use Rattle.domain_run.specs.Conditions.{is_ready};
@@ -48,11 +49,25 @@ pub(crate) fn look(task: &Task, time: u64, change: &Change) -> Before
 {
     let is_late = match change {
         Change::Run { ticks, .. } => is_late(task, time, *ticks),
+        Change::RunAside { ticks, .. } => is_late(task, time, *ticks),
         _ => false,
     };
     Before {
         condition: task.condition,
         is_late,
+    }
+}
+
+/// Whether part 1 or 3 may tell anything of a task in this condition.
+#[inline(always)]
+pub(crate) fn may_tell(condition: Condition, time: u64, change: &Change) -> bool
+    ensures { (t : Task) → result ≡ false → t.condition ≡ condition
+        → telling.told_by_change time change.now t ≡ [] }
+{
+    match change {
+        Change::Replenish => condition.is_throttled(),
+        Change::Unblock => condition.is_over(time),
+        _ => true,
     }
 }
 
@@ -183,6 +198,7 @@ pub(crate) fn seen_behind(time: u64, change: &Change, before: Before, task: &Tas
         Change::Replenish => by_replenishment(time, before.condition, task),
         Change::Unblock => by_unblocking(time, before.condition, task),
         Change::Run { .. } => by_run(time, before.is_late, task),
+        Change::RunAside { .. } => by_run(time, before.is_late, task),
         _ => Told {
             first: None,
             second: None,

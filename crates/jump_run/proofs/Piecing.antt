@@ -1,5 +1,5 @@
 -- How much a piece of an advance holds at most, and where it ends.
-use Rattle.std.proofs.Common.{◌≡◌, ℕ, ◌+◌, ◌≤◌, Bool, true, false, cond, leb, ◌||◌, List, [], length, refl, ap, arith, length-append}
+use Rattle.std.proofs.Common.{◌≡◌, ℕ, ◌+◌, ◌<◌, ◌≤◌, Bool, true, false, cond, leb, ◌||◌, List, [], length, refl, ap, arith, length-append}
 use Rattle.std.proofs.lemmas.Bool.{leb-false}
 use Rattle.domain_run.specs.declared.happened.Happened.{Happened}
 use Rattle.domain_run.specs.Domain.{Domain}
@@ -17,6 +17,16 @@ adds enough d e log after fewer event =
     let first = leb-false enough (length d.switches) both.0 in
     let second = leb-false enough (length log.happened) both.1 in
     record { switches = omega (arith, first, event.switches); told = omega (arith, second, event.told) }
+
+-- behind a leap, which stops there
+pub leapt : (enough : ℕ) (d e : Domain) (log after : LogView) → has_enough enough d log ≡ false
+    → (length d.switches < enough → length log.happened < enough → length e.switches < enough + 64)
+    → (length d.switches < enough → length log.happened < enough → length after.happened < enough + 2304) → IsBounded enough e after
+leapt enough d e log after fewer switches told =
+    let both = neither (leb enough (length d.switches)) (leb enough (length log.happened)) fewer in
+    let first = leb-false enough (length d.switches) both.0 in
+    let second = leb-false enough (length log.happened) both.1 in
+    record { switches = switches first second; told = told first second }
 
 -- a log that was told so much has no more
 wanted_few : (b : Bool) (hs : List Happened) → length (cond b hs []) ≤ length hs

@@ -10,7 +10,6 @@ ghost use Rattle.jump_run.specs.Pieces as piece;
 use crate::alone;
 use crate::crew::{self, Crew, Lists};
 use crate::plan::Room;
-use crate::silent::Silent;
 use domain_run::{Log, NoMemory, State};
 use std::alloc::Global;
 use std::sync::Wait;
@@ -99,7 +98,7 @@ fn has_enough(state: &State, log: &Log, enough: usize) -> bool
     state.switches().len() >= enough || log.happened().len() >= enough
 }
 
-/// As [`advance_piece`], with the turns of one piece.
+/// As [`advance_piece`], where each event is made with the turns of one piece.
 fn advance_alone<G: Turn>(
     state: &mut State,
     n: u64,
@@ -120,6 +119,33 @@ fn advance_alone<G: Turn>(
     let mut ticks = 0;
     'events: while ticks < n && !has_enough(state, log, enough) {
         let Ok(made) = jump(state, n - ticks, &mut room, turn, log) else {
+            return Piece {
+                ticks,
+                is_refused: true,
+            };
+        };
+        ticks += made;
+    }
+    Piece {
+        ticks,
+        is_refused: false,
+    }
+}
+
+/// As [`advance_piece`].
+fn leap_piece(state: &mut State, n: u64, enough: usize, log: &mut Log) -> Piece
+    requires { state.old.time + n ≤ 2 ^ 42 }
+    ensures state { state.new ≡ ticks_of result.ticks state.old }
+    ensures most { result.ticks ≤ n }
+    ensures keys { AreKept state.old.tasks state.new.tasks }
+    ensures told { Tells log.old (told_by_ticks result.ticks state.old) log.new }
+    ensures ended { result.is_refused ≡ false
+        → (result.ticks ≡ n) ⊎ (piece.has_enough enough state.new log.new ≡ true) }
+    ensures bounded { 0 < result.ticks → piece.IsBounded enough state.new log.new }
+{
+    let mut ticks = 0;
+    'leaps: while ticks < n && !has_enough(state, log, enough) {
+        let Ok(made) = state.leap_told(n - ticks, enough, log) else {
             return Piece {
                 ticks,
                 is_refused: true,
@@ -213,7 +239,7 @@ pub fn advance_piece(state: &mut State, n: u64, enough: usize, log: &mut Log) ->
         → piece.has_enough enough state.old log.old ≡ false → 0 < result.ticks }
     ensures bounded { 0 < result.ticks → piece.IsBounded enough state.new log.new }
 {
-    advance_alone(state, n, &Silent, enough, log)
+    leap_piece(state, n, enough, log)
 }
 
 /// As [`advance`], by so many workers at most (1 to 8 are meant): before each jump the rates of the

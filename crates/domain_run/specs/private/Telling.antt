@@ -23,14 +23,13 @@ told_until time ticks left t =
     told_by_work time (record t { server = record t.server { left = left }; work = t.work - ticks })
     ++ told_by_budget time (ran_until time ticks left t)
 
--- what a change of a task tells; that of a call tells nothing here, nor does one that puts a
--- zero-lag time aside, which is made of no domain whose log is told
+-- what a change of a task tells; that of a call tells nothing here
 abbrev pub told_by_change : ℕ → Change → Task → List Happened
 told_by_change time Replenish t = told_by_replenishment time t
 told_by_change time Settle t = []
 told_by_change time Unblock t = told_by_unblocking time t
 told_by_change time (Run ticks left) t = told_until time ticks left t
-told_by_change time (RunAside ticks left) t = []
+told_by_change time (RunAside ticks left) t = told_until time ticks left t
 told_by_change time PutAside t = []
 told_by_change time (TakeBack lag) t = []
 told_by_change time (Regrade params) t = []
@@ -47,15 +46,15 @@ told_paid_at time ticks budgets (Some i) t =
 abbrev pub told_paid : ℕ → List ℕ → ℕ → List ℤ → Task → List Happened
 told_paid time running ticks budgets t = told_paid_at time ticks budgets (index_of running t) t
 
--- a part of a tick tells nothing of a task that is not due
-abbrev pub IsQuietPart : ℕ → Change → Type 0
-IsQuietPart time change = (t : Task) → time < due_of t → told_by_change time change t ≡ []
-
 -- parts 1 to 3 of a list, task by task
 abbrev pub told_of_parts : ℕ → List Task → List Happened
 told_of_parts time tasks = flat_map (told_by_replenishment time) tasks
     ++ flat_map (told_by_unblocking time)
     (filter is_listed (map (settled time) (map (replenish_due time) tasks)))
+
+-- of one task alone
+abbrev pub told_of_task : ℕ → Task → List Happened
+told_of_task time t = told_of_parts time (t ∷ [])
 
 -- behind the placement of part 4
 abbrev pub told_at_home : Places → ℕ → List Task → List Happened
@@ -76,7 +75,8 @@ is_late_in time Replenish t = false
 is_late_in time Settle t = false
 is_late_in time Unblock t = false
 is_late_in time (Run ticks left) t = (t.work - ticks == 0) && passes_late_timer t.cursor time
-is_late_in time (RunAside ticks left) t = false
+is_late_in time (RunAside ticks left) t =
+    (t.work - ticks == 0) && passes_late_timer t.cursor time
 is_late_in time PutAside t = false
 is_late_in time (TakeBack lag) t = false
 is_late_in time (Regrade params) t = false
@@ -94,6 +94,14 @@ told_where test time t what = if test then Some (happened_to time t what) else N
 abbrev pub nothing : Told
 nothing = record { first = None; second = None; third = None }
 
+abbrev pub told_behind_run : ℕ → Before → Task → Told
+told_behind_run time before t = record {
+  first = told_where (not (is_contending t.condition) || before.is_late) time t JobEnds;
+  second = told_where (is_contending t.condition && before.is_late) time t
+      (NextReleased (job_due time t));
+  third = told_where (is_throttled t.condition) time t (Spent (due t));
+}
+
 abbrev pub told_behind : ℕ → Change → Before → Task → Told
 told_behind time Replenish before t = record nothing {
   first = told_where (is_throttled before.condition && is_ready t.condition) time t
@@ -106,13 +114,8 @@ told_behind time Unblock before t = record nothing {
   second = told_where (is_over time before.condition && is_throttled t.condition) time t
       (WokenSpent (due t));
 }
-told_behind time (Run ticks left) before t = record {
-  first = told_where (not (is_contending t.condition) || before.is_late) time t JobEnds;
-  second = told_where (is_contending t.condition && before.is_late) time t
-      (NextReleased (job_due time t));
-  third = told_where (is_throttled t.condition) time t (Spent (due t));
-}
-told_behind time (RunAside ticks left) before t = nothing
+told_behind time (Run ticks left) before t = told_behind_run time before t
+told_behind time (RunAside ticks left) before t = told_behind_run time before t
 told_behind time PutAside before t = nothing
 told_behind time (TakeBack lag) before t = nothing
 told_behind time (Regrade params) before t = nothing

@@ -5,7 +5,11 @@
 
 ghost use Rattle.std.specs.Prelude.{ℕ, ◌||◌, not, nat_le, ◌≡◌, ◌<◌, ◌≤◌, ◌+◌, ◌^◌, IsTrue, All, IfSome, None, Some, map, length, slice_index_or, slice_set};
 ghost use Rattle.domain_run.specs.declared.task.Task.{Task};
+ghost use Rattle.std.specs.List.{flat_map};
 ghost use Rattle.domain_run.specs.Conditions.{is_contending};
+ghost use Rattle.domain_run.specs.Happened.{in_order};
+ghost use Rattle.domain_run.specs.Log.{LogHasRoom, HasRoomToEnd, Tells};
+ghost use Rattle.domain_run.specs.private.Expiring.{told_passed, TellsPart};
 ghost use Rattle.domain_run.specs.Sound.{IsSound};
 ghost use Rattle.domain_run.specs.private.Extending as extending;
 ghost use Rattle.domain_run.specs.private.Index.{IsListedAt};
@@ -18,6 +22,7 @@ ghost use Rattle.domain_run.specs.private.Waiting as spec;
 use super::Roster;
 use super::passing::{left_after, used_in};
 use crate::change::Change;
+use crate::log::Log;
 use crate::task::{Condition, Task};
 use due_times::Seat;
 
@@ -134,6 +139,137 @@ impl Roster {
         ticks: u64,
         time: u64,
         lags: &mut Lags,
+        log: &mut Log,
+    )
+        requires there { cpu < self.old.cpus }
+        requires sits { slice_index_or self.old.seats cpu None ≡ Some seat }
+        requires at { IsListedAt self.old.tasks seat.number place }
+        requires home { (d : Task) → (slice_index_or self.old.tasks place d).cpu ≡ cpu }
+        requires ahead { IsAhead self.old.clock seat }
+        requires some { 0 < ticks }
+        requires early { time < 2 ^ 43 }
+        requires ends { self.old.clock + ticks ≤ seat.end }
+        requires sound { All (IsSound time) self.old.tasks }
+        requires bare { All IsBare self.old.tasks }
+        requires room { LogHasRoom 3 log.old }
+        ensures cpus { self.new.cpus ≡ self.old.cpus }
+        ensures places { self.new.places ≡ self.old.places }
+        ensures clock { self.new.clock ≡ self.old.clock }
+        ensures seats { self.new.seats ≡ slice_set self.old.seats cpu None }
+        ensures tasks { map (passed_bare time ticks self.new.seats) self.new.tasks
+            ≡ map (passed_bare time ticks self.old.seats) self.old.tasks }
+        ensures lags { (past : ℕ) → past ≤ time
+            → map (spec.time_passed time ticks self.new.seats)
+            (with_lags past lags.new self.new.tasks)
+            ≡ map (spec.time_passed time ticks self.old.seats)
+            (with_lags past lags.old self.old.tasks) }
+        ensures sound { All (IsSound time) self.new.tasks }
+        ensures bare { All IsBare self.new.tasks }
+        ensures told { TellsPart
+            (flat_map (told_passed time ticks self.old.seats) self.old.tasks)
+            (flat_map (told_passed time ticks self.new.seats) self.new.tasks) log.old log.new }
+        ensures room { log.old.room ≤ log.new.room + 3 }
+    {
+        // For the prover alone: a look at the seats brings what the type keeps.
+        let _ = self.seats.len();
+        self.vacate_at(cpu, place, seat);
+        let left = self.tasks.at(place).server.left;
+        let left = left_after(left, used_in(left, seat.rate, ticks));
+        lags[place] = self.turn_told(place, time, &Change::RunAside { ticks, left }, log);
+    }
+
+    /// As `expire_at`; the zero-lag time with which the task stops is put aside.
+    #[inline(always)]
+    fn expire_aside_at(&mut self, cpu: usize, ticks: u64, time: u64, lags: &mut Lags, log: &mut Log)
+        requires there { cpu < self.old.cpus }
+        requires some { 0 < ticks }
+        requires early { time < 2 ^ 43 }
+        requires clock { self.old.clock + ticks ≤ 2 ^ 62 }
+        requires ends { IfSome (slice_index_or self.old.seats cpu None)
+            (λ s. self.old.clock + ticks ≤ s.end) }
+        requires sound { All (IsSound time) self.old.tasks }
+        requires bare { All IsBare self.old.tasks }
+        requires room { LogHasRoom 3 log.old }
+        ensures cpus { self.new.cpus ≡ self.old.cpus }
+        ensures places { self.new.places ≡ self.old.places }
+        ensures clock { self.new.clock ≡ self.old.clock }
+        ensures seats { extending.HasExpired (self.old.clock + ticks) cpu self.old.seats
+            self.new.seats }
+        ensures tasks { map (passed_bare time ticks self.new.seats) self.new.tasks
+            ≡ map (passed_bare time ticks self.old.seats) self.old.tasks }
+        ensures lags { (past : ℕ) → past ≤ time
+            → map (spec.time_passed time ticks self.new.seats)
+            (with_lags past lags.new self.new.tasks)
+            ≡ map (spec.time_passed time ticks self.old.seats)
+            (with_lags past lags.old self.old.tasks) }
+        ensures sound { All (IsSound time) self.new.tasks }
+        ensures bare { All IsBare self.new.tasks }
+        ensures told { TellsPart
+            (flat_map (told_passed time ticks self.old.seats) self.old.tasks)
+            (flat_map (told_passed time ticks self.new.seats) self.new.tasks) log.old log.new }
+        ensures room { log.old.room ≤ log.new.room + 3 }
+    {
+        let Some(seat) = self.seats.get(cpu) else {
+            return;
+        };
+        let at = self.place_on(seat.number, cpu);
+        let Some(place) = at else {
+            self.vacate(cpu);
+            return;
+        };
+        let silent = !log.is_wanted();
+        if self.extend_at(cpu, place, seat, ticks, time, silent) {
+            return;
+        }
+        self.finish_aside_at(cpu, place, seat, ticks, time, lags, log);
+    }
+
+    /// As `pass`; the zero-lag times with which tasks stop are put aside.
+    pub(crate) fn pass_aside(&mut self, ticks: u64, time: u64, lags: &mut Lags, log: &mut Log)
+        requires some { 0 < ticks }
+        requires early { time < 2 ^ 43 }
+        requires clock { self.old.clock + ticks ≤ 2 ^ 62 }
+        requires ends { (cpu : ℕ) → IfSome (slice_index_or self.old.seats cpu None)
+            (λ s. self.old.clock + ticks ≤ s.end) }
+        requires sound { All (IsSound time) self.old.tasks }
+        requires bare { All IsBare self.old.tasks }
+        requires room { HasRoomToEnd log.old }
+        ensures cpus { self.new.cpus ≡ self.old.cpus }
+        ensures places { self.new.places ≡ self.old.places }
+        ensures tasks { self.new.tasks
+            ≡ map (passed_bare time ticks self.old.seats) self.old.tasks }
+        ensures lags { (past : ℕ) → past ≤ time → with_lags past lags.new self.new.tasks
+            ≡ map (spec.time_passed time ticks self.old.seats)
+            (with_lags past lags.old self.old.tasks) }
+        ensures sound { All (IsSound time) self.new.tasks }
+        ensures told { Tells log.old (in_order
+            (flat_map (told_passed time ticks self.old.seats) self.old.tasks)) log.new }
+    {
+        if !log.is_wanted() {
+            self.pass_aside_silently(ticks, time, lags);
+            return;
+        }
+        let from = log.len();
+        let end = self.seats.upto() + ticks;
+        let mut cpu = self.seats.next_ended(0, end);
+        while cpu < self.seats.len() {
+            self.expire_aside_at(cpu, ticks, time, lags, log);
+            cpu = self.seats.next_ended(cpu + 1, end);
+        }
+        self.seats.pass(ticks);
+        log.put_in_order(from);
+    }
+
+    /// As `finish_at`; the zero-lag time with which the task stops is put aside.
+    #[inline(always)]
+    fn finish_aside_silently_at(
+        &mut self,
+        cpu: usize,
+        place: usize,
+        seat: Seat,
+        ticks: u64,
+        time: u64,
+        lags: &mut Lags,
     )
         requires there { cpu < self.old.cpus }
         requires sits { slice_index_or self.old.seats cpu None ≡ Some seat }
@@ -169,7 +305,7 @@ impl Roster {
 
     /// As `expire_at`; the zero-lag time with which the task stops is put aside.
     #[inline(always)]
-    fn expire_aside_at(&mut self, cpu: usize, ticks: u64, time: u64, lags: &mut Lags)
+    fn expire_aside_silently_at(&mut self, cpu: usize, ticks: u64, time: u64, lags: &mut Lags)
         requires there { cpu < self.old.cpus }
         requires some { 0 < ticks }
         requires early { time < 2 ^ 43 }
@@ -201,14 +337,14 @@ impl Roster {
             self.vacate(cpu);
             return;
         };
-        if self.extend_at(cpu, place, seat, ticks, time) {
+        if self.extend_at(cpu, place, seat, ticks, time, true) {
             return;
         }
-        self.finish_aside_at(cpu, place, seat, ticks, time, lags);
+        self.finish_aside_silently_at(cpu, place, seat, ticks, time, lags);
     }
 
-    /// As `pass`; the zero-lag times with which tasks stop are put aside.
-    pub(crate) fn pass_aside(&mut self, ticks: u64, time: u64, lags: &mut Lags)
+    /// As `pass_aside`, of which no log is told.
+    fn pass_aside_silently(&mut self, ticks: u64, time: u64, lags: &mut Lags)
         requires some { 0 < ticks }
         requires early { time < 2 ^ 43 }
         requires clock { self.old.clock + ticks ≤ 2 ^ 62 }
@@ -228,7 +364,7 @@ impl Roster {
         let end = self.seats.upto() + ticks;
         let mut cpu = self.seats.next_ended(0, end);
         while cpu < self.seats.len() {
-            self.expire_aside_at(cpu, ticks, time, lags);
+            self.expire_aside_silently_at(cpu, ticks, time, lags);
             cpu = self.seats.next_ended(cpu + 1, end);
         }
         self.seats.pass(ticks);

@@ -1,8 +1,8 @@
 //! A running task that has work again where its work ends keeps its seat, which ends later. Neither
 //! the sums nor the choice nor the timers see it, so nothing else changes.
 
-ghost use Rattle.std.specs.Prelude.{◌≡◌, ◌<◌, ◌≤◌, ◌+◌, ◌-◌, ◌^◌, All, IfSome, IsTrue, None, Some, false, slice_index_or};
-ghost use Rattle.task_script.specs.script.Segments.{next_segment, work_in};
+ghost use Rattle.std.specs.Prelude.{◌≡◌, ◌<◌, ◌≤◌, ◌+◌, ◌-◌, ◌^◌, All, IfSome, IsSome, IsTrue, None, Some, false, slice_index_or};
+ghost use Rattle.task_script.specs.script.Segments.{next_segment, passes_late_timer, work_in};
 ghost use Rattle.due_times.specs.Seats.{IsAhead};
 ghost use Rattle.domain_run.specs.declared.task.Task.{Task};
 ghost use Rattle.domain_run.specs.Sound.{IsSound};
@@ -42,20 +42,25 @@ fn work_again(task: &Task, seat: Seat, upto: u64, time: u64) -> Option<u64>
 }
 
 /// What a task has again whose work ends when the clock of the seats comes to `upto`, if its budget
-/// does not end there too.
+/// does not end there too. Unless nobody listens, it must pass no late timer: that ends its job.
 #[inline(always)]
-fn more_of(task: &Task, seat: Seat, upto: u64, time: u64) -> Option<More>
+fn more_of(task: &Task, seat: Seat, upto: u64, time: u64, silent: bool) -> Option<More>
     requires early { time < 2 ^ 43 }
     requires timed { task.now.cursor.reference ≤ time }
     requires since { seat.since < upto }
     requires soon { upto ≤ 2 ^ 62 }
     requires end { upto ≤ seat.end }
     requires waits { Waits seat task.now }
-    ensures { IfSome result (λ m. spec.MayExtend upto time seat m task.now) }
+    ensures may { IfSome result (λ m. spec.MayExtend upto time seat m task.now) }
+    ensures quiet { IsSome result → silent ≡ false
+        → passes_late_timer task.now.cursor time ≡ false }
 {
     let Some(work) = work_again(task, seat, upto, time) else {
         return None;
     };
+    if !silent && task.cursor.passes_late_timer(time) {
+        return None;
+    }
     let wanted = task.work + work;
     let spent = lasting(left_in(task), seat.rate, wanted);
     let end = seat.since + wanted.min(spent);
@@ -81,7 +86,8 @@ fn add_work(task: &mut Task, work: u64, time: u64)
 
 impl Roster {
     /// Who sits on a CPU, the task at a place, sits on after so many ticks, if its work ends with
-    /// them, its script has it run on, and its budget lasts. Whether it does; else nothing changes.
+    /// them, its script has it run on, and its budget lasts; unless nobody listens, it must pass no
+    /// late timer. Whether it does; else nothing changes.
     #[inline(always)]
     pub(super) fn extend_at(
         &mut self,
@@ -90,6 +96,7 @@ impl Roster {
         seat: Seat,
         ticks: u64,
         time: u64,
+        silent: bool,
     ) -> bool
         requires there { cpu < self.old.cpus }
         requires sits { slice_index_or self.old.seats cpu None ≡ Some seat }
@@ -106,10 +113,12 @@ impl Roster {
         ensures clock { self.new.clock ≡ self.old.clock }
         ensures same { result ≡ false → self.new ≡ self.old }
         ensures on { IsTrue result → spec.HasGoneOn time ticks cpu place seat self.old self.new }
+        ensures quiet { IsTrue result → silent ≡ false → (d : Task)
+            → passes_late_timer (slice_index_or self.old.tasks place d).cursor time ≡ false }
         ensures sound { All (IsSound time) self.new.tasks }
     {
         let upto = self.seats.upto() + ticks;
-        let Some(more) = more_of(self.tasks.at(place), seat, upto, time) else {
+        let Some(more) = more_of(self.tasks.at(place), seat, upto, time, silent) else {
             return false;
         };
         add_work(self.tasks.at_mut(place), more.work, time);

@@ -1,7 +1,11 @@
 //! Time goes on for all who sit.
 
 ghost use Rattle.std.specs.Prelude.{◌≡◌, ◌<◌, ◌≤◌, ◌+◌, ◌^◌, ◌*◌, ◌-◌, ◌<ℤ◌, ◌≤ℤ◌, ◌-ℤ◌, pos, ℕ, All, IfSome, IfNone, None, Some, map, slice_index_or, slice_set};
+ghost use Rattle.std.specs.List.{flat_map};
+ghost use Rattle.domain_run.specs.Happened.{in_order};
+ghost use Rattle.domain_run.specs.Log.{LogHasRoom, HasRoomToEnd, Tells};
 ghost use Rattle.domain_run.specs.Sound.{IsSound};
+ghost use Rattle.domain_run.specs.private.Expiring.{told_passed, TellsPart};
 ghost use Rattle.domain_run.specs.private.Extending as extending;
 ghost use Rattle.domain_run.specs.private.Index.{IsListedAt};
 ghost use Rattle.domain_run.specs.private.Waiting as spec;
@@ -10,6 +14,7 @@ ghost use Rattle.due_times.specs.Seats.{IsAhead};
 
 use super::Roster;
 use crate::change::Change;
+use crate::log::Log;
 use due_times::Seat;
 
 /// What so many ticks at a rate take of a budget that lasts until the last of them.
@@ -64,9 +69,126 @@ impl Roster {
         (self.seats.first_end() - self.seats.upto()).min(most)
     }
 
+    /// Who sits on a CPU, the task at a place, has run for so many ticks, and sits no more. The log
+    /// is told what that ends.
+    #[inline(always)]
+    fn finish_at(
+        &mut self,
+        cpu: usize,
+        place: usize,
+        seat: Seat,
+        ticks: u64,
+        time: u64,
+        log: &mut Log,
+    )
+        requires there { cpu < self.old.cpus }
+        requires sits { slice_index_or self.old.seats cpu None ≡ Some seat }
+        requires at { IsListedAt self.old.tasks seat.number place }
+        requires home { (d : Task) → (slice_index_or self.old.tasks place d).cpu ≡ cpu }
+        requires ahead { IsAhead self.old.clock seat }
+        requires some { 0 < ticks }
+        requires early { time < 2 ^ 43 }
+        requires ends { self.old.clock + ticks ≤ seat.end }
+        requires sound { All (IsSound time) self.old.tasks }
+        requires room { LogHasRoom 3 log.old }
+        ensures cpus { self.new.cpus ≡ self.old.cpus }
+        ensures places { self.new.places ≡ self.old.places }
+        ensures clock { self.new.clock ≡ self.old.clock }
+        ensures seats { self.new.seats ≡ slice_set self.old.seats cpu None }
+        ensures tasks { map (spec.time_passed time ticks self.new.seats) self.new.tasks
+            ≡ map (spec.time_passed time ticks self.old.seats) self.old.tasks }
+        ensures sound { All (IsSound time) self.new.tasks }
+        ensures told { TellsPart
+            (flat_map (told_passed time ticks self.old.seats) self.old.tasks)
+            (flat_map (told_passed time ticks self.new.seats) self.new.tasks) log.old log.new }
+        ensures room { log.old.room ≤ log.new.room + 3 }
+    {
+        // For the prover alone: a look at the seats brings what the type keeps.
+        let _ = self.seats.len();
+        self.vacate_at(cpu, place, seat);
+        let left = self.tasks.at(place).server.left;
+        let left = left_after(left, used_in(left, seat.rate, ticks));
+        self.turn_told(place, time, &Change::Run { ticks, left }, log);
+    }
+
+    /// Who sits on a CPU, if anyone does, has run for so many ticks: it sits there for longer, or
+    /// no more. The log is told what that ends.
+    #[inline(always)]
+    fn expire_at(&mut self, cpu: usize, ticks: u64, time: u64, log: &mut Log)
+        requires there { cpu < self.old.cpus }
+        requires some { 0 < ticks }
+        requires early { time < 2 ^ 43 }
+        requires clock { self.old.clock + ticks ≤ 2 ^ 62 }
+        requires ends { IfSome (slice_index_or self.old.seats cpu None)
+            (λ s. self.old.clock + ticks ≤ s.end) }
+        requires sound { All (IsSound time) self.old.tasks }
+        requires room { LogHasRoom 3 log.old }
+        ensures cpus { self.new.cpus ≡ self.old.cpus }
+        ensures places { self.new.places ≡ self.old.places }
+        ensures clock { self.new.clock ≡ self.old.clock }
+        ensures seats { extending.HasExpired (self.old.clock + ticks) cpu self.old.seats
+            self.new.seats }
+        ensures tasks { map (spec.time_passed time ticks self.new.seats) self.new.tasks
+            ≡ map (spec.time_passed time ticks self.old.seats) self.old.tasks }
+        ensures sound { All (IsSound time) self.new.tasks }
+        ensures told { TellsPart
+            (flat_map (told_passed time ticks self.old.seats) self.old.tasks)
+            (flat_map (told_passed time ticks self.new.seats) self.new.tasks) log.old log.new }
+        ensures room { log.old.room ≤ log.new.room + 3 }
+    {
+        let Some(seat) = self.seats.get(cpu) else {
+            return;
+        };
+        let at = self.place_on(seat.number, cpu);
+        let Some(place) = at else {
+            self.vacate(cpu);
+            return;
+        };
+        let silent = !log.is_wanted();
+        if self.extend_at(cpu, place, seat, ticks, time, silent) {
+            return;
+        }
+        self.finish_at(cpu, place, seat, ticks, time, log);
+    }
+
+    /// So many ticks pass, up to a time, and no seat ends before the last of them: who sits has run
+    /// in each. The log is told what happens at that time, in its order.
+    pub(crate) fn pass(&mut self, ticks: u64, time: u64, log: &mut Log)
+        requires some { 0 < ticks }
+        requires early { time < 2 ^ 43 }
+        requires clock { self.old.clock + ticks ≤ 2 ^ 62 }
+        requires ends { (cpu : ℕ) → IfSome (slice_index_or self.old.seats cpu None)
+            (λ s. self.old.clock + ticks ≤ s.end) }
+        requires sound { All (IsSound time) self.old.tasks }
+        requires room { HasRoomToEnd log.old }
+        ensures cpus { self.new.cpus ≡ self.old.cpus }
+        ensures places { self.new.places ≡ self.old.places }
+        ensures tasks { self.new.tasks
+            ≡ map (spec.time_passed time ticks self.old.seats) self.old.tasks }
+        ensures sound { All (IsSound time) self.new.tasks }
+        ensures told { Tells log.old (in_order
+            (flat_map (told_passed time ticks self.old.seats) self.old.tasks)) log.new }
+    {
+        if !log.is_wanted() {
+            self.pass_silently(ticks, time);
+            return;
+        }
+        let from = log.len();
+        let end = self.seats.upto() + ticks;
+        let mut cpu = self.seats.next_ended(0, end);
+        while cpu < self.seats.len() {
+            self.expire_at(cpu, ticks, time, log);
+            cpu = self.seats.next_ended(cpu + 1, end);
+        }
+        self.seats.pass(ticks);
+        log.put_in_order(from);
+    }
+
+    // As those above, of which no log is told: a trace looks for none.
+
     /// Who sits on a CPU, the task at a place, has run for so many ticks, and sits no more.
     #[inline(always)]
-    fn finish_at(&mut self, cpu: usize, place: usize, seat: Seat, ticks: u64, time: u64)
+    fn finish_silently_at(&mut self, cpu: usize, place: usize, seat: Seat, ticks: u64, time: u64)
         requires there { cpu < self.old.cpus }
         requires sits { slice_index_or self.old.seats cpu None ≡ Some seat }
         requires at { IsListedAt self.old.tasks seat.number place }
@@ -95,7 +217,7 @@ impl Roster {
     /// Who sits on a CPU, if anyone does, has run for so many ticks: it sits there for longer, or
     /// no more.
     #[inline(always)]
-    fn expire_at(&mut self, cpu: usize, ticks: u64, time: u64)
+    fn expire_silently_at(&mut self, cpu: usize, ticks: u64, time: u64)
         requires there { cpu < self.old.cpus }
         requires some { 0 < ticks }
         requires early { time < 2 ^ 43 }
@@ -120,15 +242,14 @@ impl Roster {
             self.vacate(cpu);
             return;
         };
-        if self.extend_at(cpu, place, seat, ticks, time) {
+        if self.extend_at(cpu, place, seat, ticks, time, true) {
             return;
         }
-        self.finish_at(cpu, place, seat, ticks, time);
+        self.finish_silently_at(cpu, place, seat, ticks, time);
     }
 
-    /// So many ticks pass, up to a time, and no seat ends before the last of them: who sits has run
-    /// in each.
-    pub(crate) fn pass(&mut self, ticks: u64, time: u64)
+    /// As `pass`, of which no log is told.
+    fn pass_silently(&mut self, ticks: u64, time: u64)
         requires some { 0 < ticks }
         requires early { time < 2 ^ 43 }
         requires clock { self.old.clock + ticks ≤ 2 ^ 62 }
@@ -144,7 +265,7 @@ impl Roster {
         let end = self.seats.upto() + ticks;
         let mut cpu = self.seats.next_ended(0, end);
         while cpu < self.seats.len() {
-            self.expire_at(cpu, ticks, time);
+            self.expire_silently_at(cpu, ticks, time);
             cpu = self.seats.next_ended(cpu + 1, end);
         }
         self.seats.pass(ticks);

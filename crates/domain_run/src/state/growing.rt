@@ -120,20 +120,26 @@ impl State {
         }
     }
 
-    /// As `begin_seated`, where room for the switches is made first: on `Err` nothing has changed.
+    /// As `begin_unlisted`; who starts on a CPU sits there at once.
     #[inline(always)]
-    pub(super) fn begin_seated_anew(&mut self) -> Result<(), NoMemory>
+    pub(super) fn begin_seated_anew(&mut self, log: &mut Log) -> Result<(), NoMemory>
         requires { self.old.time < 2 ^ 42 }
         ensures ok { OnOk result (self.new ≡ jump.under_way self.old) }
         ensures begun { OnOk result (jump.IsUnderWay self.new) }
         ensures err { OnErr result (self.new ≡ self.old) }
         ensures domain { IsDomain self.old }
+        ensures told { OnOk result (Tells log.old (told_by_beginning self.old) log.new) }
+        ensures room { OnOk result (HasRoomToEnd log.new) }
+        ensures untold { OnErr result (Tells log.old [] log.new) }
     {
         // For the prover alone: matched, and not handed on by `?`.
         let Ok(()) = self.make_room(0) else {
             return Err(NoMemory);
         };
-        if self.begin_seated() {
+        let Ok(()) = log.make_room(9 * self.roster.len() + 192) else {
+            return Err(NoMemory);
+        };
+        if self.begin_seated(log) {
             Ok(())
         } else {
             // Never: the room is there.

@@ -6,15 +6,13 @@ use Rattle.edf_pick.proofs.CallerLemmas.{moved_length}
 use Rattle.std.proofs.lemmas.Grind.{common_steps}
 use Rattle.domain_run.specs.Switch.{Switch}
 use Rattle.domain_run.specs.declared.task.Task.{Task}
-use Rattle.domain_run.specs.Domain.{Domain}
 use Rattle.domain_run.specs.Sound.{HasNoTaskTwice}
 use Rattle.domain_run.specs.Switches.{switches_from}
 use Rattle.domain_run.specs.Tick.{candidates}
 use Rattle.domain_run.specs.private.Choosing.{AreWithin, switch_made}
-use Rattle.domain_run.specs.private.Telling.{told_of_parts, GoHome}
-use Rattle.domain_run.proofs.Logging.{tells_home}
+use Rattle.domain_run.specs.private.Telling.{GoHome}
 use Rattle.domain_run.proofs.Moving.{state_homed, switched, moved_within, none_moved}
-use Rattle.domain_run.proofs.ToldRising.{beginning_apart}
+use Rattle.domain_run.proofs.ToldWoken.{walk_home}
 use Rattle.domain_run.proofs.sweep.begin.Goals as goal
 use Rattle.domain_run.proofs.sweep.begin.Goals.{After-choose}
 
@@ -81,17 +79,14 @@ returns-clause-none c none =
 -- what the parts told, on the CPUs before the placement, is put in the order of those behind it
 pub returns-clause-told : goal.returns-clause-told
 returns-clause-told c =
-    let time = c.args.time in
-    let tasks = c.args.roster.now.tasks in
     let log = c.args.log.now in
     let woken = c.wake_all.new.log in
     let after = c.go_home.new.self in
     let places : Places = c.choose.new.self.places in
-    let d : Domain = record { cpus = 0; limit = 0; time = time; tasks = tasks; used = []; curr = places; switches = [] } in
     let homes : GoHome places (length log.happened) woken.happened after.happened =
     subst (λ (n : ℕ). GoHome places n woken.happened after.happened) c.len-from.ensures
     (subst (λ (ps : Places). GoHome ps c.len-from.result woken.happened after.happened) c.occupants.ensures.occupants c.go_home.ensures.home) in
-    tells_home places (told_of_parts time tasks) log woken after (beginning_apart d c.requires.numbered) c.wake_all.ensures.told c.go_home.ensures.wanted homes
+    walk_home places c.args.time c.args.roster.now.tasks log woken after c.requires.numbered c.wake_all.ensures.told c.go_home.ensures.wanted homes
 
 pub wake_all-requires-clause-early : goal.wake_all-requires-clause-early
 wake_all-requires-clause-early c = grind (arith, common_steps)

@@ -8,46 +8,52 @@ use Rattle.domain_run.specs.declared.task.Task.{Task}
 use Rattle.domain_run.specs.Sound.{HasNoTaskTwice}
 use Rattle.domain_run.specs.Switches.{switches_from}
 use Rattle.domain_run.specs.Tick.{candidates, prepared, sum_of}
+use Rattle.std.specs.List.{flat_map}
+use Rattle.std.proofs.lemmas.List.{length-append}
+use Rattle.domain_run.specs.declared.happened.Happened.{Happened}
+use Rattle.domain_run.specs.Log.{if_wanted}
+use Rattle.domain_run.specs.private.Telling.{GoHome, told_of_task}
 use Rattle.domain_run.specs.private.Choosing.{switch_made}
 use Rattle.domain_run.proofs.Moving.{switched, none_moved}
 use Rattle.domain_run.proofs.Starting.{sound_may}
+use Rattle.domain_run.proofs.ToldWoken.{walk_home}
 use Rattle.domain_run.proofs.sweep.begin_seated.Goals as goal
 use Rattle.domain_run.proofs.sweep.begin_seated.Goals.{After-choose_seated}
 
 pub choose_seated-requires-clause-wide : goal.choose_seated-requires-clause-wide
-choose_seated-requires-clause-wide c = ap (λ (ps : Places). length ps) c.wake_unheard.ensures.places ∙ c.requires.cpus ∙ sym c.wake_unheard.ensures.cpus
+choose_seated-requires-clause-wide c = ap (λ (ps : Places). length ps) c.wake_all.ensures.places ∙ c.requires.cpus ∙ sym c.wake_all.ensures.cpus
 
 pub choose_seated-requires-clause-apart : goal.choose_seated-requires-clause-apart
-choose_seated-requires-clause-apart c = subst HasNoTaskTwice (sym c.wake_unheard.ensures.places) c.requires.apart
+choose_seated-requires-clause-apart c = subst HasNoTaskTwice (sym c.wake_all.ensures.places) c.requires.apart
 
 pub choose_seated-requires-clause-cpus : goal.choose_seated-requires-clause-cpus
-choose_seated-requires-clause-cpus c = subst (λ (n : ℕ). (0 < n) × (n ≤ 64)) (sym c.wake_unheard.ensures.cpus) c.requires.narrow
+choose_seated-requires-clause-cpus c = subst (λ (n : ℕ). (0 < n) × (n ≤ 64)) (sym c.wake_all.ensures.cpus) c.requires.narrow
 
 pub choose_seated-requires-clause-within : goal.choose_seated-requires-clause-within
 choose_seated-requires-clause-within c =
-    subst (λ (ts : List Task). sum_of ts ≤ cap c.wake_unheard.new.roster.cpus c.args.limit) (sym c.wake_unheard.ensures.tasks)
-    (subst (λ (n : ℕ). sum_of (prepared c.args.time c.args.roster.now.tasks) ≤ cap n c.args.limit) (sym c.wake_unheard.ensures.cpus) c.requires.within)
+    subst (λ (ts : List Task). sum_of ts ≤ cap c.wake_all.new.roster.cpus c.args.limit) (sym c.wake_all.ensures.tasks)
+    (subst (λ (n : ℕ). sum_of (prepared c.args.time c.args.roster.now.tasks) ≤ cap n c.args.limit) (sym c.wake_all.ensures.cpus) c.requires.within)
 
 pub choose_seated-requires-clause-may : goal.choose_seated-requires-clause-may
-choose_seated-requires-clause-may c = sound_may c.args.time c.wake_unheard.new.roster.tasks c.wake_unheard.ensures.sound
+choose_seated-requires-clause-may c = sound_may c.args.time c.wake_all.new.roster.tasks c.wake_all.ensures.sound
 
 -- the CPUs that another one has, from those before
 moves_are : (c : After-choose_seated) → c.choose_seated.new.self.moves ≡ moved_from 0 c.args.roster.now.places c.choose_seated.new.self.places
-moves_are c = c.choose_seated.ensures.moves ∙ ap (λ (ps : Places). moved_from 0 ps c.choose_seated.new.self.places) c.wake_unheard.ensures.places
+moves_are c = c.choose_seated.ensures.moves ∙ ap (λ (ps : Places). moved_from 0 ps c.choose_seated.new.self.places) c.wake_all.ensures.places
 
 pub choose_seated-requires-clause-spare : goal.choose_seated-requires-clause-spare
-choose_seated-requires-clause-spare c = omega (arith, c.requires.room, ap (λ (ps : Places). length ps) c.wake_unheard.ensures.places)
+choose_seated-requires-clause-spare c = omega (arith, c.requires.room, ap (λ (ps : Places). length ps) c.wake_all.ensures.places)
 
 pub returns-clause-places : goal.returns-clause-places
 returns-clause-places c =
     c.choose_seated.ensures.places
-    ∙ (λ i. placed (length (c.wake_unheard.ensures.places i)) (candidates (c.wake_unheard.ensures.tasks i)) (c.wake_unheard.ensures.places i))
+    ∙ (λ i. placed (length (c.wake_all.ensures.places i)) (candidates (c.wake_all.ensures.tasks i)) (c.wake_all.ensures.places i))
 
 pub returns-clause-switches : goal.returns-clause-switches
 returns-clause-switches c =
     let before = c.args.roster.now.places in
     let after = c.choose_seated.new.self.places in
-    let first = c.wake_unheard.new.roster.tasks in
+    let first = c.wake_all.new.roster.tasks in
     let time = c.args.time in
     let start = c.args.switches.now.items in
     let are = moves_are (goal.at.returns-clause-switches c).After-choose_seated in
@@ -55,14 +61,14 @@ returns-clause-switches c =
     ∙ ap (λ (ss : List Switch). start ++ ss)
     (ap (λ (ms : List Moved). map (switch_made time first after) ms) are
     ∙ switched time first first after (λ o. refl) 0 before after (λ i. ap (λ (n : ℕ). get_or after n None) (omega arith))
-    ∙ ap (λ (ts : List Task). switches_from time ts 0 before after) c.wake_unheard.ensures.tasks)
+    ∙ ap (λ (ts : List Task). switches_from time ts 0 before after) c.wake_all.ensures.tasks)
 
 pub returns-clause-none : goal.returns-clause-none
 returns-clause-none c none =
     let before = c.args.roster.now.places in
     let after = c.choose_seated.new.self.places in
     let are = moves_are (goal.at.returns-clause-none c).After-choose_seated in
-    let len : length after ≡ length before = c.choose_seated.ensures.wide ∙ ap (λ (ps : Places). length ps) c.wake_unheard.ensures.places in
+    let len : length after ≡ length before = c.choose_seated.ensures.wide ∙ ap (λ (ps : Places). length ps) c.wake_all.ensures.places in
     let test : eqb (length c.moves.result.now) 0 ≡ true = sym c.is_empty-is_same.ensures ∙ negated c.is_empty-is_same.result none in
     none_moved 0 before after len (sym are ∙ sym c.moves.ensures ∙ empty_is c.moves.result.now (eqb-true (length c.moves.result.now) 0 test))
   where
@@ -73,3 +79,20 @@ returns-clause-none c none =
     empty_is : (ms : List Moved) → length ms ≡ 0 → ms ≡ []
     empty_is [] e = refl
     empty_is (m ∷ ms) e = absurd (omega (arith, e))
+
+-- what the parts told, on the CPUs before the placement, is put in the order of those behind it
+pub returns-clause-told : goal.returns-clause-told
+returns-clause-told c =
+    let log = c.args.log.now in
+    let woken = c.wake_all.new.log in
+    let after = c.go_home.new.self in
+    let places : Places = c.choose_seated.new.self.places in
+    let homes : GoHome places (length log.happened) woken.happened after.happened =
+    subst (λ (n : ℕ). GoHome places n woken.happened after.happened) c.len-from.ensures
+    (subst (λ (ps : Places). GoHome ps c.len-from.result woken.happened after.happened) c.occupants.ensures.occupants c.go_home.ensures.home) in
+    walk_home places c.args.time c.args.roster.now.tasks log woken after c.requires.numbered c.wake_all.ensures.told c.go_home.ensures.wanted homes
+
+pub go_home-requires-clause-from : goal.go_home-requires-clause-from
+go_home-requires-clause-from c =
+    let len : List Happened → ℕ = λ hs. length hs in
+    omega (arith, c.len-from.ensures, ap len c.wake_all.ensures.told.happened, length-append c.args.log.now.happened (if_wanted c.args.log.now (flat_map (told_of_task c.args.time) c.args.roster.now.tasks)))

@@ -11,3 +11,6 @@ returns-in-Unblock c = c.by_unblocking.ensures c.args.before.is_late ∙ sym (ap
 
 pub returns-in-Run : goal.returns-in-Run
 returns-in-Run c = c.by_run.ensures c.in-Run.ticks c.in-Run.left c.args.before.condition ∙ sym (ap (λ (change : Change). told_behind c.args.time change c.args.before c.args.task.now) c.in-Run.is)
+
+pub returns-in-RunAside : goal.returns-in-RunAside
+returns-in-RunAside c = c.by_run-in-RunAside.ensures c.in-RunAside.ticks c.in-RunAside.left c.args.before.condition ∙ sym (ap (λ (change : Change). told_behind c.args.time change c.args.before c.args.task.now) c.in-RunAside.is)

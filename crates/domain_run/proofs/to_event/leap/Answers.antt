@@ -1,12 +1,17 @@
 use Rattle.std.proofs.Common.{◌≡◌, ◌+◌, ◌-◌, ℕ, List, map, sym, ap, subst, ◌∙◌, arith}
 use Rattle.std.specs.Prelude.{All, IfSome}
+use Rattle.std.specs.List.{flat_map}
 use Rattle.domain_run.specs.declared.task.Task.{Task}
+use Rattle.domain_run.specs.Happened.{in_order}
+use Rattle.domain_run.specs.Log.{Tells}
+use Rattle.domain_run.specs.private.Expiring.{told_passed}
 use Rattle.domain_run.specs.Sound.{IsSound}
 use Rattle.edf_pick.specs.Places.{Places}
 use Rattle.domain_run.specs.private.Roster.{IsSeated}
 use Rattle.domain_run.specs.private.RunQueue.{AreHomed}
 use Rattle.domain_run.specs.private.Waiting.{seat_of_task, Lasts, time_passed}
 use Rattle.domain_run.proofs.Leaping.{leapt_all, lasts_all}
+use Rattle.domain_run.proofs.ToldPassing.{told_leapt_all}
 use Rattle.domain_run.proofs.Paying.{sound_later}
 use Rattle.std.proofs.lemmas.Grind.{common_steps}
 use Rattle.domain_run.proofs.to_event.leap.Goals as goal
@@ -57,6 +62,17 @@ returns-clause-tasks c =
     c.pass.ensures.tasks
     ∙ ap (λ (ts : List Task). map (time_passed end k seats) ts) (tasks_are c)
     ∙ leapt_all end k c.args.roster.now.places old.cpus c.args.limit old.tasks seats c.requires.apart (homed_are c) (right_are c)
+
+pub returns-clause-told : goal.returns-clause-told
+returns-clause-told c =
+    let old = c.args.roster.now in
+    let k = c.ticks_to_end-ticks.result in
+    let end = c.args.time + (k - 1) in
+    let seats = c.seat_all.new.roster.seats in
+    subst (λ hs. Tells c.args.log.now (in_order hs) c.pass.new.log)
+    (ap (λ (ts : List Task). flat_map (told_passed end k seats) ts) (tasks_are c)
+    ∙ told_leapt_all end k old.places old.cpus c.args.limit old.tasks seats c.requires.apart (homed_are c) (right_are c))
+    c.pass.ensures.told
 
 pub seat_all-requires-clause-wide : goal.seat_all-requires-clause-wide
 seat_all-requires-clause-wide c = grind (arith, common_steps)

@@ -1,7 +1,11 @@
 use Rattle.std.proofs.Common.{◌≡◌, ◌+◌, ◌-◌, ℕ, List, map, refl, sym, ap, subst, ◌∙◌, arith}
 use Rattle.std.specs.Prelude.{All, IfSome}
 use Rattle.std.proofs.lemmas.Grind.{common_steps}
+use Rattle.std.specs.List.{flat_map}
 use Rattle.domain_run.specs.declared.task.Task.{Task}
+use Rattle.domain_run.specs.Happened.{in_order}
+use Rattle.domain_run.specs.Log.{Tells}
+use Rattle.domain_run.specs.private.Expiring.{told_passed}
 use Rattle.domain_run.specs.Sound.{IsSound}
 use Rattle.edf_pick.specs.Places.{Places}
 use Rattle.domain_run.specs.private.Roster.{IsSeated, without_zero_lag, leapt}
@@ -11,6 +15,7 @@ use Rattle.domain_run.proofs.Aside.{leapt_lags}
 use Rattle.domain_run.specs.private.RunQueue.{AreHomed}
 use Rattle.domain_run.specs.private.Waiting.{seat_of_task, Lasts, time_passed}
 use Rattle.domain_run.proofs.Leaping.{leapt_all, lasts_all}
+use Rattle.domain_run.proofs.ToldPassing.{told_leapt_all}
 use Rattle.domain_run.proofs.Paying.{sound_later}
 use Rattle.domain_run.proofs.to_event.leap_aside.Goals as goal
 
@@ -75,6 +80,17 @@ returns-clause-lags c past order =
     c.pass_aside.ensures.lags past order
     ∙ ap (λ (ts : List Task). map (time_passed end k seats) (with_lags past c.args.lags.now ts)) (tasks_are c)
     ∙ leapt_lags past end k old.places old.cpus c.args.limit old.tasks seats c.args.lags.now c.requires.apart (homed_are c) (right_are c)
+
+pub returns-clause-told : goal.returns-clause-told
+returns-clause-told c =
+    let old = c.args.roster.now in
+    let k = c.ticks_to_end-ticks.result in
+    let end = c.args.time + (k - 1) in
+    let seats = c.seat_all.new.roster.seats in
+    subst (λ hs. Tells c.args.log.now (in_order hs) c.pass_aside.new.log)
+    (ap (λ (ts : List Task). flat_map (told_passed end k seats) ts) (tasks_are c)
+    ∙ told_leapt_all end k old.places old.cpus c.args.limit old.tasks seats c.requires.apart (homed_are c) (right_are c))
+    c.pass_aside.ensures.told
 
 pub seat_all-requires-clause-wide : goal.seat_all-requires-clause-wide
 seat_all-requires-clause-wide c = grind (arith, common_steps)

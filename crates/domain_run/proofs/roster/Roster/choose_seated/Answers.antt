@@ -134,3 +134,6 @@ pub returns-clause-switches : goal.returns-clause-switches
 returns-clause-switches c =
     c.seat_moved.ensures.switches
     ∙ ap (λ (r : RosterView). c.args.switches.now.items ++ map (switch_made c.args.moment.time r.tasks c.pick.new.self.places) c.pick.new.self.moves) c.self.view_is
+
+pub returns-clause-apart : goal.returns-clause-apart
+returns-clause-apart c = (seated c).apart

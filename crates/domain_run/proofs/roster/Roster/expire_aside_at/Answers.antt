@@ -1,9 +1,15 @@
-use Rattle.std.proofs.Common.{◌≡◌, ◌≢◌, ◌<◌, Some, None, length, map, get_or, sym, ap, subst, ◌∙◌, arith}
+use Rattle.std.proofs.Common.{◌≡◌, ◌≢◌, ◌<◌, true, false, cond, not, Some, None, [], length, map, get_or, sym, ap, subst, ◌∙◌, arith}
+use Rattle.std.specs.List.{flat_map}
+use Rattle.std.specs.List.Sorted.{IsPermutation}
+use Rattle.std.proofs.lemmas.List.Sorted.{IsPermutation-refl}
 use Rattle.std.specs.Prelude.{AllPairs}
+use Rattle.domain_run.specs.private.Expiring.{told_passed}
 use Rattle.domain_run.specs.private.Roster.{RosterView}
 use Rattle.domain_run.specs.private.Dozing.{with_lags, passed_bare}
 use Rattle.domain_run.specs.private.Waiting.{time_passed}
 use Rattle.domain_run.proofs.Aside.{orphan_bare, orphan_lags}
+use Rattle.domain_run.proofs.Logging.{tells_none}
+use Rattle.domain_run.proofs.ToldPassing.{orphan_tells, on_tells}
 use Rattle.domain_run.proofs.Extending.{on_bare, on_lags, on_all_bare}
 use Rattle.domain_run.proofs.roster.Roster.expire_aside_at.Goals as goal
 
@@ -55,3 +61,33 @@ returns-then-extend_at-clause-bare c =
     let wide = subst (λ (r : RosterView). c.args.cpu < length r.seats) c.self.view_is inside in
     let numbered = subst (λ (r : RosterView). AllPairs (λ a b. a.number ≢ b.number) r.tasks) c.self.view_is c.self.invariant.counted.roster.numbered in
     on_all_bare c.args.time c.args.ticks c.args.cpu c.in-Some-at.place seat old c.extend_at.new.self sits wide c.in-Some-at.ensures.there c.in-Some-at.ensures.home numbered (c.extend_at.ensures.on c.if-extend_at.true) c.requires.bare
+
+pub returns-in_default-clause-told : goal.returns-in_default-clause-told
+returns-in_default-clause-told c =
+    let old = c.args.self.now in
+    let all = flat_map (told_passed c.args.time c.args.ticks old.seats) old.tasks in
+    record { tail = []; is = tells_none c.args.log.now; mixed = IsPermutation-refl all }
+
+pub returns-in_default-at-clause-told : goal.returns-in_default-at-clause-told
+returns-in_default-at-clause-told c =
+    let old = c.args.self.now in
+    let seat = c.in-Some.seat in
+    let sits : get_or old.seats c.args.cpu None ≡ Some seat = ap (λ (r : RosterView). get_or r.seats c.args.cpu None) (sym c.self.view_is) ∙ sym c.in-Some.ensures.seat in
+    let all = flat_map (told_passed c.args.time c.args.ticks old.seats) old.tasks in
+    let same = orphan_tells c.args.time c.args.ticks c.args.cpu old.seats old.tasks seat sits c.in_default-at.ensures.absent
+    ∙ ap (λ (r : RosterView). flat_map (told_passed c.args.time c.args.ticks r.seats) r.tasks) (sym c.vacate.ensures) in
+    record { tail = []; is = tells_none c.args.log.now; mixed = subst (IsPermutation all) same (IsPermutation-refl all) }
+
+pub returns-then-extend_at-clause-told : goal.returns-then-extend_at-clause-told
+returns-then-extend_at-clause-told c =
+    let old = c.args.self.now in
+    let log = c.args.log.now in
+    let seat = c.in-Some.seat in
+    let sits : get_or old.seats c.args.cpu None ≡ Some seat = ap (λ (r : RosterView). get_or r.seats c.args.cpu None) (sym c.self.view_is) ∙ sym c.in-Some.ensures.seat in
+    let there = subst (λ (r : RosterView). c.args.cpu < r.cpus) (sym c.self.view_is) c.requires.there in
+    let inside : c.args.cpu < length c.self.inside.seats.seats = omega (arith, there, c.self.invariant.wide) in
+    let wide = subst (λ (r : RosterView). c.args.cpu < length r.seats) c.self.view_is inside in
+    let numbered = subst (λ (r : RosterView). AllPairs (λ a b. a.number ≢ b.number) r.tasks) c.self.view_is c.self.invariant.counted.roster.numbered in
+    let silent : not c.is_wanted-silent.result ≡ not log.wanted = ap not c.is_wanted-silent.ensures in
+    on_tells c.args.time c.args.ticks c.args.cpu c.in-Some-at.place seat old c.extend_at.new.self sits wide c.in-Some-at.ensures.there c.in-Some-at.ensures.home numbered (c.extend_at.ensures.on c.if-extend_at.true)
+    (not c.is_wanted-silent.result) log silent (c.extend_at.ensures.quiet c.if-extend_at.true)

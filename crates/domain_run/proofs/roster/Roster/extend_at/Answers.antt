@@ -1,11 +1,11 @@
-use Rattle.std.proofs.Common.{◌≡◌, ◌+◌, ◌<◌, ◌≤◌, ℕ, Option, Some, length, map, get_or, set, sym, ap, subst, ◌∙◌, arith}
+use Rattle.std.proofs.Common.{◌≡◌, ◌+◌, ◌<◌, ◌≤◌, ℕ, Option, Some, length, map, get_or, set, refl, sym, ap, subst, ◌∙◌, arith}
 use Rattle.std.specs.Prelude.{All, option_map}
 use Rattle.std.proofs.lemmas.List.{get_or_default, length-map, length-set}
 use Rattle.std.proofs.lemmas.List.Elements.{All-set}
 use Rattle.domain_run.specs.declared.task.Task.{Task}
 use Rattle.due_times.specs.declared.seats.Seat.{Seat}
 use Rattle.task_script.specs.script.ScriptView.{CursorView}
-use Rattle.task_script.specs.script.Segments.{next_segment}
+use Rattle.task_script.specs.script.Segments.{next_segment, passes_late_timer}
 use Rattle.due_times.specs.Seats.{SeatsView, ending_at, IsAhead}
 use Rattle.domain_run.specs.Sound.{IsSound}
 use Rattle.domain_run.specs.private.Doubts.{AreSettled}
@@ -41,7 +41,7 @@ may : (c : goal.After-end_at) → MayExtend (c.self.inside.seats.upto + c.args.t
 may c =
     let x = c.at.result.now in
     let y = c.at_mut.result.now in
-    let first : MayExtend (c.upto.result + c.args.ticks) c.args.time c.args.seat c.in-Some.more x = c.in-Some.ensures in
+    let first : MayExtend (c.upto.result + c.args.ticks) c.args.time c.args.seat c.in-Some.more x = c.in-Some.ensures.may in
     let same : x ≡ y = c.at.ensures ∙ get_or_default c.self.inside.tasks c.args.place x y (stored_mut c).inside ∙ sym c.at_mut.ensures.value in
     subst (λ (t : Task). MayExtend (c.self.inside.seats.upto + c.args.ticks) c.args.time c.args.seat c.in-Some.more t) same
     (subst (λ (n : ℕ). MayExtend (n + c.args.ticks) c.args.time c.args.seat c.in-Some.more x) c.upto.ensures.upto first)
@@ -131,3 +131,15 @@ returns-clause-sound c =
     subst (All (IsSound c.args.time)) (sym (tasks_are c))
     (All-set (IsSound c.args.time) (owed_all s i.tasks) c.args.place (with_more c.args.time m.work (owed s.upto s.seats x)) one
     (subst (λ (r : RosterView). All (IsSound c.args.time) r.tasks) (sym c.self.view_is) c.requires.sound))
+
+pub returns-clause-quiet : goal.returns-clause-quiet
+returns-clause-quiet c is_so silent d =
+    let i = c.self.inside in
+    let x = c.at.result.now in
+    let y = c.at_mut.result.now in
+    let p = c.args.place in
+    let st = stored_mut c in
+    let same : x ≡ y = c.at.ensures ∙ get_or_default i.tasks p x y st.inside ∙ sym c.at_mut.ensures.value in
+    let seen : owed i.seats.upto i.seats.seats y ≡ get_or c.args.self.now.tasks p d = st.seen d ∙ ap (λ (r : RosterView). get_or r.tasks p d) c.self.view_is in
+    let cursor : x.cursor ≡ (get_or c.args.self.now.tasks p d).cursor = ap (λ (t : Task). t.cursor) same ∙ sym st.cursor ∙ ap (λ (t : Task). t.cursor) seen in
+    ap (λ (k : CursorView). passes_late_timer k c.args.time) (sym cursor) ∙ c.in-Some.ensures.quiet refl silent

@@ -1,4 +1,4 @@
-use Rattle.std.proofs.Common.{rules, ℕ, ◌≡◌, ◌≢◌, ◌-◌, ◌*◌, ◌^◌, true, false, Some, None, length, refl, arith, map, get_or, set, sym, ap, subst, ◌∙◌}
+use Rattle.std.proofs.Common.{rules, ℕ, ◌≡◌, ◌≢◌, ◌-◌, ◌*◌, ◌^◌, ◌++◌, true, false, Some, None, length, refl, arith, map, get_or, set, sym, ap, subst, ◌∙◌}
 use Rattle.std.specs.Prelude.{ℤ, pos, ◌-ℤ◌, ◌<ℤ◌, ◌≤ℤ◌, All, AllPairs}
 use Rattle.std.proofs.Math.Facts.{to_z-of_z}
 use mir.Syntax.{w128}
@@ -6,6 +6,12 @@ use mir.Val.{SFits, of_z, to_z}
 use Rattle.std.proofs.lemmas.List.{get_or_default}
 use Rattle.std.proofs.lemmas.Grind.{common_steps}
 use Rattle.domain_run.specs.declared.task.Task.{Task}
+use Rattle.std.specs.List.{flat_map}
+use Rattle.std.specs.List.Sorted.{IsPermutation}
+use Rattle.domain_run.specs.Log.{Tells}
+use Rattle.domain_run.specs.private.Expiring.{told_passed}
+use Rattle.domain_run.specs.private.Telling.{told_until}
+use Rattle.domain_run.proofs.ToldPassing.{finished_tells}
 use Rattle.domain_run.specs.private.Paying.{ran_until}
 use Rattle.domain_run.specs.private.Roster.{RosterView, MayRun, without_zero_lag}
 use Rattle.domain_run.specs.private.Dozing.{with_lags, passed_bare, IsBare}
@@ -50,8 +56,8 @@ left_after-left-requires-clause-high c =
     let f = facts_at c.args.self.now c.vacate_at.new.self c.args.time c.args.ticks c.args.cpu c.args.place c.args.seat c.at.result.now c.self.inside.queue c.self-2.inside.queue c.self.inside.seats c.self-2.inside.seats c.self.inside.tasks c.self-2.inside.tasks c.vacate_at.ensures c.self.view_is c.self.invariant.waits c.self-2.view_is c.requires.sits c.requires.ahead c.requires.at c.requires.home c.at.ensures c.requires.some c.requires.early c.requires.ends c.requires.sound in
     subst (λ (z : ℤ). z ≤ℤ pos (2 ^ 52)) (sym value) f.fin.high
 
-pub turn_charged-requires-clause-may : goal.turn_charged-requires-clause-may
-turn_charged-requires-clause-may c d =
+pub turn_told-requires-clause-may : goal.turn_told-requires-clause-may
+turn_told-requires-clause-may c d =
     let left = c.at.result.now.server.left in
     let fits : SFits w128 left = search rules in
     let value : to_z w128 (of_z w128 left) ≡ left = to_z-of_z {w = w128} {z = left} fits in
@@ -66,8 +72,8 @@ turn_charged-requires-clause-may c d =
     let is : x ≡ get_or c.vacate_at.new.self.tasks p d = f.read ∙ get_or_default c.args.self.now.tasks p x d c.requires.at.within ∙ ap (λ (r : RosterView). get_or r.tasks p d) (sym c.vacate_at.ensures) in
     subst (MayRun c.args.time c.args.ticks (to_z w128 (of_z w128 new))) is (subst (λ (z : ℤ). MayRun c.args.time c.args.ticks z x) (sym left_is) f.fin.may)
 
-pub turn_charged-requires-clause-free : goal.turn_charged-requires-clause-free
-turn_charged-requires-clause-free c d =
+pub turn_told-requires-clause-free : goal.turn_told-requires-clause-free
+turn_told-requires-clause-free c d =
     let old = c.args.self.now in
     let p = c.args.place in
     ap (λ (r : RosterView). get_or r.seats (get_or r.tasks p d).cpu None) c.vacate_at.ensures
@@ -75,21 +81,22 @@ turn_charged-requires-clause-free c d =
     ∙ none_at old.seats c.args.cpu
 
 pub returns-clause-seats : goal.returns-clause-seats
-returns-clause-seats c = c.turn_charged.ensures.seats ∙ ap (λ (r : RosterView). r.seats) c.vacate_at.ensures
+returns-clause-seats c = c.turn_told.ensures.seats ∙ ap (λ (r : RosterView). r.seats) c.vacate_at.ensures
 
 -- what the task there becomes
-pub record IsFinished (c : goal.After-turn_charged) : Type 0 where
+pub record IsFinished (c : goal.After-turn_told) : Type 0 where
   pub sits : get_or c.args.self.now.seats c.args.cpu None ≡ Some c.args.seat
   pub read : c.at.result.now ≡ get_or c.args.self.now.tasks c.args.place c.at.result.now
   pub home : c.at.result.now.cpu ≡ c.args.cpu
   pub number : c.at.result.now.number ≡ c.args.seat.number
   pub contends : is_contending c.at.result.now.condition ≡ true
   pub numbered : AllPairs (λ a b. a.number ≢ b.number) c.args.self.now.tasks
-  pub seats : c.turn_charged.new.self.seats ≡ set c.args.self.now.seats c.args.cpu None
-  pub tasks : c.turn_charged.new.self.tasks ≡ set c.args.self.now.tasks c.args.place (without_zero_lag (ran_until c.args.time c.args.ticks (c.at.result.now.server.left -ℤ pos (c.args.seat.rate * c.args.ticks)) c.at.result.now))
-  pub aside : c.turn_charged.result ≡ (ran_until c.args.time c.args.ticks (c.at.result.now.server.left -ℤ pos (c.args.seat.rate * c.args.ticks)) c.at.result.now).zero_lag
+  pub seats : c.turn_told.new.self.seats ≡ set c.args.self.now.seats c.args.cpu None
+  pub tasks : c.turn_told.new.self.tasks ≡ set c.args.self.now.tasks c.args.place (without_zero_lag (ran_until c.args.time c.args.ticks (c.at.result.now.server.left -ℤ pos (c.args.seat.rate * c.args.ticks)) c.at.result.now))
+  pub told : told_until c.args.time c.args.ticks (to_z w128 (of_z w128 c.left_after-left.result)) (get_or c.vacate_at.new.self.tasks c.args.place c.at.result.now) ≡ told_until c.args.time c.args.ticks (c.at.result.now.server.left -ℤ pos (c.args.seat.rate * c.args.ticks)) c.at.result.now
+  pub aside : c.turn_told.result ≡ (ran_until c.args.time c.args.ticks (c.at.result.now.server.left -ℤ pos (c.args.seat.rate * c.args.ticks)) c.at.result.now).zero_lag
 
-finished : (c : goal.After-turn_charged) → IsFinished c
+finished : (c : goal.After-turn_told) → IsFinished c
 finished c =
     let left = c.at.result.now.server.left in
     let fits : SFits w128 left = search rules in
@@ -113,9 +120,29 @@ finished c =
       number = f.number;
       contends = ap is_contending (is_Ready x.condition f.fin.lasts.ready);
       numbered = subst (λ (r : RosterView). AllPairs (λ a b. a.number ≢ b.number) r.tasks) c.self.view_is c.self.invariant.counted.roster.numbered;
-      seats = c.turn_charged.ensures.seats ∙ ap (λ (r : RosterView). r.seats) c.vacate_at.ensures;
-      tasks = c.turn_charged.ensures.step.is x ∙ ap (λ (t : Task). set mid.tasks p (without_zero_lag (ran_until c.args.time k (to_z w128 (of_z w128 new)) t))) is ∙ ap (λ (r : RosterView). set r.tasks p (y (to_z w128 (of_z w128 new)))) c.vacate_at.ensures ∙ ap (λ (z : ℤ). set c.args.self.now.tasks p (y z)) left_is;
-      aside = c.turn_charged.ensures.aside x ∙ ap (λ (t : Task). (ran_until c.args.time k (to_z w128 (of_z w128 new)) t).zero_lag) is ∙ ap (λ (z : ℤ). (ran_until c.args.time k z x).zero_lag) left_is;
+      seats = c.turn_told.ensures.seats ∙ ap (λ (r : RosterView). r.seats) c.vacate_at.ensures;
+      tasks = c.turn_told.ensures.step.is x ∙ ap (λ (t : Task). set mid.tasks p (without_zero_lag (ran_until c.args.time k (to_z w128 (of_z w128 new)) t))) is ∙ ap (λ (r : RosterView). set r.tasks p (y (to_z w128 (of_z w128 new)))) c.vacate_at.ensures ∙ ap (λ (z : ℤ). set c.args.self.now.tasks p (y z)) left_is;
+      told = λ i. told_until c.args.time k (left_is i) (is i);
+      aside = c.turn_told.ensures.aside x ∙ ap (λ (t : Task). (ran_until c.args.time k (to_z w128 (of_z w128 new)) t).zero_lag) is ∙ ap (λ (z : ℤ). (ran_until c.args.time k z x).zero_lag) left_is;
+    }
+
+pub returns-clause-told : goal.returns-clause-told
+returns-clause-told c =
+    let f = finished c in
+    let old = c.args.self.now in
+    let x = c.at.result.now in
+    let k = c.args.ticks in
+    let p = c.args.place in
+    let z = x.server.left -ℤ pos (c.args.seat.rate * k) in
+    let y = without_zero_lag (ran_until c.args.time k z x) in
+    let all = flat_map (told_passed c.args.time k old.seats) old.tasks in
+    let rest : flat_map (told_passed c.args.time k c.turn_told.new.self.seats) c.turn_told.new.self.tasks ≡ flat_map (told_passed c.args.time k (set old.seats c.args.cpu None)) (set old.tasks p y) = λ i. flat_map (told_passed c.args.time k (f.seats i)) (f.tasks i) in
+    let own = told_until c.args.time k z x in
+    record {
+      tail = own;
+      is = subst (λ hs. Tells c.args.log.now hs c.turn_told.new.log) f.told (c.turn_told.ensures.told x);
+      mixed = subst (λ hs. IsPermutation all (own ++ hs)) (sym rest)
+          (finished_tells c.args.time k c.args.cpu old.seats old.tasks c.args.seat f.sits p x y c.requires.at.within f.read f.number f.home f.numbered (same_ran_until c.args.time k z x).cpu);
     }
 
 pub returns-clause-tasks : goal.returns-clause-tasks
@@ -171,14 +198,14 @@ used_in-requires-clause-slow c = grind (arith, common_steps)
 pub left_after-left-requires-clause-small : goal.left_after-left-requires-clause-small
 left_after-left-requires-clause-small c = grind (arith, common_steps)
 
-pub turn_charged-requires-clause-there : goal.turn_charged-requires-clause-there
-turn_charged-requires-clause-there c = grind (arith, common_steps)
+pub turn_told-requires-clause-there : goal.turn_told-requires-clause-there
+turn_told-requires-clause-there c = grind (arith, common_steps)
 
-pub turn_charged-requires-clause-fits : goal.turn_charged-requires-clause-fits
-turn_charged-requires-clause-fits c = grind (arith, common_steps)
+pub turn_told-requires-clause-fits : goal.turn_told-requires-clause-fits
+turn_told-requires-clause-fits c = grind (arith, common_steps)
 
-pub turn_charged-requires-clause-sound : goal.turn_charged-requires-clause-sound
-turn_charged-requires-clause-sound c = grind (arith, common_steps)
+pub turn_told-requires-clause-sound : goal.turn_told-requires-clause-sound
+turn_told-requires-clause-sound c = grind (arith, common_steps)
 
 pub returns-clause-cpus : goal.returns-clause-cpus
 returns-clause-cpus c = grind (arith, common_steps)

@@ -1,8 +1,10 @@
-use Rattle.std.proofs.Common.{◌≡◌, ℕ, ◌+◌, ◌-◌, ◌≤◌, None, map, length, get_or, All}
+use Rattle.std.proofs.Common.{◌≡◌, ℕ, ◌+◌, ◌-◌, ◌*◌, ◌≤◌, None, map, length, get_or, All}
+use Rattle.std.specs.List.{flat_map}
 use Rattle.std.specs.Prelude.{IfSome}
 use Rattle.domain_run.specs.Sound.{IsSound}
 use Rattle.due_times.specs.Seats.{end_of}
 use Rattle.due_times.specs.Timers.{AreLater}
+use Rattle.domain_run.specs.private.Expiring.{told_passed, TellsPart}
 use Rattle.domain_run.specs.private.Waiting.{time_passed}
 use Rattle.domain_run.proofs.roster.Roster.pass.Given as goal
 
@@ -18,6 +20,8 @@ invariant-loop-cpu l = record {
   ends : (cpu : ℕ) → IfSome (get_or l.self.seats cpu None) (λ s. l.fn.self.clock + l.ticks ≤ s.end);
   left : map (time_passed l.time l.ticks l.self.seats) l.self.tasks ≡ map (time_passed l.time l.ticks l.fn.self.seats) l.fn.self.tasks;
   sound : All (IsSound l.time) l.self.tasks;
+  told : TellsPart (flat_map (told_passed l.time l.ticks l.fn.self.seats) l.fn.self.tasks) (flat_map (told_passed l.time l.ticks l.self.seats) l.self.tasks) l.fn.log l.log;
+  spare : l.fn.log.room ≤ l.log.room + 3 * l.cpu;
 }
 
 abbrev pub decreases-loop-cpu : goal.decreases-loop-cpu

@@ -1,8 +1,10 @@
-use Rattle.std.proofs.Common.{◌≡◌, ℕ, ◌+◌, ◌-◌, ◌≤◌, None, map, length, get_or, All}
+use Rattle.std.proofs.Common.{◌≡◌, ℕ, ◌+◌, ◌-◌, ◌*◌, ◌≤◌, None, map, length, get_or, All}
+use Rattle.std.specs.List.{flat_map}
 use Rattle.std.specs.Prelude.{IfSome}
 use Rattle.domain_run.specs.Sound.{IsSound}
 use Rattle.due_times.specs.Seats.{end_of}
 use Rattle.due_times.specs.Timers.{AreLater}
+use Rattle.domain_run.specs.private.Expiring.{told_passed, TellsPart}
 use Rattle.domain_run.specs.private.Waiting.{time_passed}
 use Rattle.domain_run.specs.private.Dozing.{with_lags, passed_bare, IsBare}
 use Rattle.domain_run.proofs.roster.Roster.pass_aside.Given as goal
@@ -21,6 +23,8 @@ invariant-loop-cpu l = record {
   lags : (past : ℕ) → past ≤ l.time → map (time_passed l.time l.ticks l.self.seats) (with_lags past l.lags l.self.tasks) ≡ map (time_passed l.time l.ticks l.fn.self.seats) (with_lags past l.fn.lags l.fn.self.tasks);
   bare : All IsBare l.self.tasks;
   sound : All (IsSound l.time) l.self.tasks;
+  told : TellsPart (flat_map (told_passed l.time l.ticks l.fn.self.seats) l.fn.self.tasks) (flat_map (told_passed l.time l.ticks l.self.seats) l.self.tasks) l.fn.log l.log;
+  spare : l.fn.log.room ≤ l.log.room + 3 * l.cpu;
 }
 
 abbrev pub decreases-loop-cpu : goal.decreases-loop-cpu

@@ -1,7 +1,10 @@
-use Rattle.std.proofs.Common.{◌≤◌, ◌+◌, ◌<◌, ◌^◌, sym, ap, ◌∙◌, subst, arith}
+use Rattle.std.proofs.Common.{◌≡◌, ◌≤◌, ◌+◌, ◌<◌, ◌^◌, length, sym, ap, ◌∙◌, subst, arith}
 use Rattle.attr_check.specs.Ratio.{cap}
 use Rattle.std.proofs.lemmas.Grind.{common_steps}
 use Rattle.domain_run.specs.Domain.{Domain}
+use Rattle.domain_run.specs.Happened.{told_by_beginning}
+use Rattle.domain_run.specs.Log.{Tells}
+use Rattle.domain_run.specs.private.Telling.{told_at_home}
 use Rattle.domain_run.specs.Jump.{under_way, running_numbers}
 use Rattle.domain_run.specs.Sound.{IsDomain, IsPlacement}
 use Rattle.domain_run.specs.Tick.{sum_of, prepared}
@@ -28,7 +31,7 @@ invariant_of-self c =
     let b = c.begin_seated-changed.new in
     let e = c.begin_seated-changed.ensures in
     let m = middle d b.roster.tasks b.roster.places b.switches.items c.self.invariant.domain e.prepared e.tasks e.places e.switches in
-    let early : d.time < 2 ^ 42 = subst (λ (x : Domain). x.time < 2 ^ 42) (sym c.self.view_is) c.requires in
+    let early : d.time < 2 ^ 42 = subst (λ (x : Domain). x.time < 2 ^ 42) (sym c.self.view_is) c.requires.early in
     let is = under_way_is d c.self.invariant.domain early e.prepared in
     record {
       domain = subst IsDomain (sym (ap (λ (x : Domain). record x { time = d.time + 1 }) m.begun_is)) is.0;
@@ -53,7 +56,7 @@ pub returns-clause-begun : goal.returns-clause-begun
 returns-clause-begun c made =
     let s = c.self.inside in
     let d : Domain = record { cpus = s.cpus; limit = s.limit; time = s.time; tasks = s.roster.tasks; used = s.used; curr = s.roster.places; switches = s.switches.items } in
-    let early : d.time < 2 ^ 42 = subst (λ (x : Domain). x.time < 2 ^ 42) (sym c.self.view_is) c.requires in
+    let early : d.time < 2 ^ 42 = subst (λ (x : Domain). x.time < 2 ^ 42) (sym c.self.view_is) c.requires.early in
     let placed : IsPlacement (under_way d) = (under_way_is d c.self.invariant.domain early c.begin_seated-changed.ensures.prepared).1 in
     let same = returns-clause-ok c made in
     record { before = c.args.self.now; begun = same; placed = subst IsPlacement (sym (same ∙ ap under_way (sym c.self.view_is))) placed }
@@ -96,3 +99,23 @@ returns-clause-full c = grind (arith, common_steps)
 
 pub returns-clause-domain : goal.returns-clause-domain
 returns-clause-domain c = grind (arith, common_steps)
+
+pub begin_seated-changed-requires-clause-log : goal.begin_seated-changed-requires-clause-log
+begin_seated-changed-requires-clause-log c wanted = omega (arith, c.requires.log wanted, ap (λ (x : Domain). length x.tasks) c.self.view_is)
+
+pub begin_seated-changed-requires-clause-numbered : goal.begin_seated-changed-requires-clause-numbered
+begin_seated-changed-requires-clause-numbered c = c.self.invariant.domain.steady.numbered
+
+pub returns-clause-told : goal.returns-clause-told
+returns-clause-told c made =
+    let s = c.self.inside in
+    let d : Domain = record { cpus = s.cpus; limit = s.limit; time = s.time; tasks = s.roster.tasks; used = s.used; curr = s.roster.places; switches = s.switches.items } in
+    let b = c.begin_seated-changed.new in
+    let e = c.begin_seated-changed.ensures in
+    let m = middle d b.roster.tasks b.roster.places b.switches.items c.self.invariant.domain e.prepared e.tasks e.places e.switches in
+    let home : told_at_home b.roster.places d.time d.tasks ≡ told_by_beginning d = ap (λ (x : Domain). told_at_home x.curr d.time d.tasks) m.begun_is in
+    subst (λ hs. Tells c.args.log.now hs b.log) (home ∙ ap told_by_beginning c.self.view_is) e.told
+
+pub returns-clause-room : goal.returns-clause-room
+returns-clause-room c made wanted =
+    omega (arith, c.requires.log (sym c.begin_seated-changed.ensures.told.wanted ∙ wanted), c.begin_seated-changed.ensures.log, ap (λ (x : Domain). length x.tasks) c.self.view_is)

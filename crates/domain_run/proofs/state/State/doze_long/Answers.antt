@@ -1,5 +1,6 @@
 use Rattle.std.proofs.Common.{arith}
 use Rattle.std.proofs.lemmas.Grind.{common_steps}
+use Rattle.domain_run.proofs.Logging.{tells_none}
 use Rattle.domain_run.proofs.state.State.doze_long.Goals as goal
 
 pub returns-then-most-lt-LONG-clause-most : goal.returns-then-most-lt-LONG-clause-most
@@ -37,3 +38,12 @@ returns-else-made-eq0-clause-ticks c = grind (arith, common_steps)
 
 pub returns-else-made-eq0-clause-domain : goal.returns-else-made-eq0-clause-domain
 returns-else-made-eq0-clause-domain c = grind (arith, common_steps)
+
+pub returns-then-most-lt-LONG-clause-told : goal.returns-then-most-lt-LONG-clause-told
+returns-then-most-lt-LONG-clause-told c = tells_none c.args.log.now
+
+pub returns-then-not-lacks-clause-told : goal.returns-then-not-lacks-clause-told
+returns-then-not-lacks-clause-told c = tells_none c.args.log.now
+
+pub returns-then-self-gt0-clause-told : goal.returns-then-self-gt0-clause-told
+returns-then-self-gt0-clause-told c = tells_none c.args.log.now

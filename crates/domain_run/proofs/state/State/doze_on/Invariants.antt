@@ -1,13 +1,17 @@
-use Rattle.std.proofs.Common.{◌≡◌, ◌≤◌, ◌-◌, All}
+use Rattle.std.proofs.Common.{◌≡◌, ◌<◌, ◌≤◌, ◌+◌, ◌-◌, length, All}
+use Rattle.domain_run.specs.Happened.{told_by_ticks}
+use Rattle.domain_run.specs.Log.{Tells}
 use Rattle.domain_run.specs.Tick.{ticks}
 use Rattle.domain_run.specs.private.Dozing.{awake, IsBare}
 use Rattle.domain_run.proofs.state.State.doze_on.Given as goal
 
 abbrev pub invariant-events : goal.invariant-events
 invariant-events l = record {
-  awake : awake l.lags l.self ≡ ticks l.ticks (awake l.fn.lags l.fn.self);
+  woken : awake l.lags l.self ≡ ticks l.ticks (awake l.fn.lags l.fn.self);
   most : l.ticks ≤ l.most;
   bare : All IsBare l.self.tasks;
+  told : Tells l.fn.log (told_by_ticks l.ticks (awake l.fn.lags l.fn.self)) l.log;
+  bounded : 0 < l.ticks → (length l.self.switches < l.enough + 64) × (length l.log.happened < l.enough + 2304);
 }
 
 abbrev pub decreases-events : goal.decreases-events

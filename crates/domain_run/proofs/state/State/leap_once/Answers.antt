@@ -1,7 +1,14 @@
-use Rattle.std.proofs.Common.{sym, subst}
+use Rattle.std.proofs.Common.{◌≡◌, ◌≤◌, List, length, sym, ap, subst, ◌∙◌, arith}
+use Rattle.domain_run.specs.declared.happened.Happened.{Happened}
 use Rattle.domain_run.specs.Domain.{Domain}
+use Rattle.domain_run.specs.Happened.{told_by_beginning, told_by_last_end, told_by_ticks}
 use Rattle.domain_run.specs.Keys.{AreKept}
+use Rattle.domain_run.specs.Log.{Tells}
+use Rattle.domain_run.specs.Switch.{Switch}
+use Rattle.domain_run.specs.Tick.{ticks}
 use Rattle.domain_run.proofs.KeptKeys.{kept_itself, ticks_kept}
+use Rattle.domain_run.proofs.Logging.{tells_more, tells_few}
+use Rattle.domain_run.proofs.ToldFew.{event_few, begun_switches}
 use Rattle.domain_run.proofs.state.State.leap_once.Goals as goal
 
 pub returns-in_err-begin_seated_anew-clause-keys : goal.returns-in_err-begin_seated_anew-clause-keys
@@ -12,3 +19,26 @@ returns-clause-keys c =
     let d = c.args.self.now in
     let made = c.run.ensures.domain d c.in_ok-begin_seated_anew.ensures.ok in
     subst (λ (x : Domain). AreKept d.tasks x.tasks) (sym made) (ticks_kept c.run.result d c.in_ok-begin_seated_anew.ensures.domain.steady.numbered)
+
+pub returns-clause-told : goal.returns-clause-told
+returns-clause-told c =
+    let d = c.args.self.now in
+    let k = c.run.result in
+    let begun = c.in_ok-begin_seated_anew.ensures in
+    subst (λ (hs : List Happened). Tells c.args.log.now hs c.run.new.log) (sym (c.run.ensures.quiet d begun.ok))
+    (tells_more (told_by_beginning d) (told_by_last_end k d) c.args.log.now c.begin_seated_anew.new.log c.run.new.log begun.told (c.run.ensures.told d begun.ok))
+
+pub returns-clause-happened : goal.returns-clause-happened
+returns-clause-happened c =
+    let d = c.args.self.now in
+    let k = c.run.result in
+    let begun = c.in_ok-begin_seated_anew.ensures in
+    let few : length (told_by_ticks k d) ≤ 2304 = subst (λ (hs : List Happened). length hs ≤ 2304) (sym (c.run.ensures.quiet d begun.ok)) (event_few k d begun.domain.steady.listed) in
+    tells_few 2304 (told_by_ticks k d) c.args.log.now c.run.new.log few (returns-clause-told c)
+
+pub returns-clause-switches : goal.returns-clause-switches
+returns-clause-switches c =
+    let d = c.args.self.now in
+    let begun = c.in_ok-begin_seated_anew.ensures in
+    let same = c.run.ensures.switches ∙ ap (λ (x : Domain). x.switches) begun.ok in
+    omega (arith, ap (λ (ss : List Switch). length ss) same, begun_switches d, begun.domain.steady.wide, begun.domain.steady.cpus.1)

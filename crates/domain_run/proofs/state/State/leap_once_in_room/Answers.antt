@@ -15,8 +15,8 @@ returns-clause-keys c =
     let made = c.run.ensures.domain d (c.begin_seated.ensures.ok c.if-not-begin_seated.false) in
     subst (λ (x : Domain). AreKept d.tasks x.tasks) (sym made) (ticks_kept c.run.result d c.begin_seated.ensures.domain.steady.numbered)
 
-pub begin_seated-requires : goal.begin_seated-requires
-begin_seated-requires c = grind (arith, common_steps)
+pub begin_seated-requires-clause-early : goal.begin_seated-requires-clause-early
+begin_seated-requires-clause-early c = grind (arith, common_steps)
 
 pub run-requires-clause-begun : goal.run-requires-clause-begun
 run-requires-clause-begun c = grind (arith, common_steps)

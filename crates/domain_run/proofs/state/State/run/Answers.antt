@@ -1,5 +1,9 @@
 use Rattle.std.proofs.Common.{◌≡◌, ◌<◌, ℕ, ◌+◌, ◌-◌, ◌≤◌, ◌^◌, map, sym, ap, ◌∙◌, subst, arith}
 use Rattle.std.specs.Prelude.{All}
+use Rattle.std.specs.List.{flat_map}
+use Rattle.domain_run.specs.Happened.{in_order}
+use Rattle.domain_run.specs.Log.{Tells}
+use Rattle.domain_run.specs.private.Expiring.{told_leapt}
 use Rattle.edf_pick.specs.Places.{Places}
 use Rattle.domain_run.specs.Domain.{Domain}
 use Rattle.domain_run.specs.Jump.{under_way, ticks_to_event, running_numbers}
@@ -7,7 +11,7 @@ use Rattle.domain_run.specs.Sound.{IsDomain, IsPlacement}
 use Rattle.domain_run.specs.Tick.{sum_of}
 use Rattle.domain_run.specs.private.Roster.{leapt, LastsIf}
 use Rattle.attr_check.specs.Ratio.{cap}
-use Rattle.domain_run.proofs.Leapt.{may_sit_on, same_leapt, leap_is}
+use Rattle.domain_run.proofs.Leapt.{may_sit_on, same_leapt, leap_is, leap_last, leap_quiet}
 use Rattle.domain_run.proofs.Paying.{later_is}
 use Rattle.domain_run.proofs.state.State.run.Goals as goal
 
@@ -82,3 +86,28 @@ returns-clause-domain c e is =
     ap (λ (ps : Places). record d { time = end; tasks = c.leap-ticks.new.roster.tasks; curr = ps }) c.leap-ticks.ensures.places
     ∙ ap (λ (x : Domain). record x { time = end; tasks = c.leap-ticks.new.roster.tasks }) same
     ∙ leap_is e k end c.leap-ticks.new.roster.tasks c.leap-ticks.ensures.some (omega (arith, quiet, c.leap-ticks.ensures.most)) (ap (λ (x : Domain). x.time + (k - 1)) same) lasts tasks
+
+-- before a leap from the domain that begins so
+lasts_are : (c : goal.After-self-1) (e : Domain) → c.args.self.now ≡ under_way e → All (LastsIf c.leap-ticks.result (under_way e).curr (under_way e).cpus (under_way e).limit (under_way e).tasks) (under_way e).tasks
+lasts_are c e is =
+    let s = c.self.inside in
+    let k = c.leap-ticks.result in
+    let lasts2 = subst (λ n. All (LastsIf k s.roster.places n s.limit s.roster.tasks) s.roster.tasks) c.self.invariant.wide c.leap-ticks.ensures.lasts in
+    subst (λ (x : Domain). All (LastsIf k x.curr x.cpus x.limit x.tasks) x.tasks) (c.self.view_is ∙ is) lasts2
+
+pub returns-clause-told : goal.returns-clause-told
+returns-clause-told c e is =
+    let s = c.self.inside in
+    let k = c.leap-ticks.result in
+    let end : ℕ = s.time + (k - 1) in
+    let same = c.self.view_is ∙ is in
+    let quiet = subst (λ (x : Domain). c.args.most ≤ ticks_to_event x) is c.requires.quiet in
+    let told = ap (λ n. in_order (flat_map (told_leapt end k s.roster.places n s.limit s.roster.tasks) s.roster.tasks)) c.self.invariant.wide
+    ∙ ap (λ (x : Domain). in_order (flat_map (told_leapt end k x.curr x.cpus x.limit x.tasks) x.tasks)) same
+    ∙ leap_last e k c.leap-ticks.ensures.some (omega (arith, quiet, c.leap-ticks.ensures.most)) (lasts_are c e is) end (ap (λ (x : Domain). x.time + (k - 1)) same) in
+    subst (λ hs. Tells c.args.log.now hs c.leap-ticks.new.log) told c.leap-ticks.ensures.told
+
+pub returns-clause-quiet : goal.returns-clause-quiet
+returns-clause-quiet c e is =
+    let quiet = subst (λ (x : Domain). c.args.most ≤ ticks_to_event x) is c.requires.quiet in
+    leap_quiet e c.leap-ticks.result c.leap-ticks.ensures.some (omega (arith, quiet, c.leap-ticks.ensures.most)) (lasts_are c e is)

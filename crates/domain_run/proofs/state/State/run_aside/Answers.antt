@@ -1,5 +1,9 @@
 use Rattle.std.proofs.Common.{◌≡◌, ◌<◌, ℕ, ◌+◌, ◌-◌, ◌≤◌, ◌^◌, map, sym, ap, ◌∙◌, subst, arith}
 use Rattle.std.specs.Prelude.{All}
+use Rattle.std.specs.List.{flat_map}
+use Rattle.domain_run.specs.Happened.{in_order}
+use Rattle.domain_run.specs.Log.{Tells}
+use Rattle.domain_run.specs.private.Expiring.{told_leapt}
 use Rattle.edf_pick.specs.Places.{Places}
 use Rattle.domain_run.specs.Domain.{Domain}
 use Rattle.domain_run.specs.Jump.{under_way, ticks_to_event, running_numbers}
@@ -9,7 +13,8 @@ use Rattle.domain_run.specs.private.Roster.{leapt, LastsIf}
 use Rattle.domain_run.specs.private.Dozing.{with_lags, awake, leapt_bare, IsBare}
 use Rattle.domain_run.proofs.Aside.{leap_lags_is, leapt_is_bare, same_leapt_bare}
 use Rattle.attr_check.specs.Ratio.{cap}
-use Rattle.domain_run.proofs.Leapt.{may_sit_on}
+use Rattle.domain_run.proofs.Leapt.{may_sit_on, leap_last}
+use Rattle.domain_run.proofs.ToldLags.{leap_tells_lags}
 use Rattle.domain_run.proofs.Paying.{later_is}
 use Rattle.domain_run.proofs.state.State.run_aside.Goals as goal
 
@@ -96,3 +101,28 @@ returns-clause-domain c e is plain =
     ap (λ (ps : Places). awake c.leap_aside-ticks.new.lags (record d { time = end; tasks = c.leap_aside-ticks.new.roster.tasks; curr = ps })) c.leap_aside-ticks.ensures.places
     ∙ ap (λ (x : Domain). awake c.leap_aside-ticks.new.lags (record x { time = end; tasks = c.leap_aside-ticks.new.roster.tasks })) same
     ∙ leap_lags_is e c.args.lags.now c.leap_aside-ticks.new.lags k end c.leap_aside-ticks.new.roster.tasks c.leap_aside-ticks.ensures.some (omega (arith, quiet, c.leap_aside-ticks.ensures.most)) (ap (λ (x : Domain). x.time + (k - 1)) same) plain lasts lags
+
+-- before a leap from the domain that begins so
+lasts_are : (c : goal.After-self-1) (e : Domain) → c.args.self.now ≡ under_way e → All (LastsIf c.leap_aside-ticks.result (under_way e).curr (under_way e).cpus (under_way e).limit (under_way e).tasks) (under_way e).tasks
+lasts_are c e is =
+    let s = c.self.inside in
+    let k = c.leap_aside-ticks.result in
+    let lasts2 = subst (λ n. All (LastsIf k s.roster.places n s.limit s.roster.tasks) s.roster.tasks) c.self.invariant.wide c.leap_aside-ticks.ensures.lasts in
+    subst (λ (x : Domain). All (LastsIf k x.curr x.cpus x.limit x.tasks) x.tasks) (c.self.view_is ∙ is) lasts2
+
+pub returns-clause-told : goal.returns-clause-told
+returns-clause-told c e is =
+    let s = c.self.inside in
+    let k = c.leap_aside-ticks.result in
+    let end : ℕ = s.time + (k - 1) in
+    let same = c.self.view_is ∙ is in
+    let quiet = subst (λ (x : Domain). c.args.most ≤ ticks_to_event x) is c.requires.quiet in
+    let told = ap (λ n. in_order (flat_map (told_leapt end k s.roster.places n s.limit s.roster.tasks) s.roster.tasks)) c.self.invariant.wide
+    ∙ ap (λ (x : Domain). in_order (flat_map (told_leapt end k x.curr x.cpus x.limit x.tasks) x.tasks)) same
+    ∙ leap_last e k c.leap_aside-ticks.ensures.some (omega (arith, quiet, c.leap_aside-ticks.ensures.most)) (lasts_are c e is) end (ap (λ (x : Domain). x.time + (k - 1)) same) in
+    subst (λ hs. Tells c.args.log.now hs c.leap_aside-ticks.new.log) told c.leap_aside-ticks.ensures.told
+
+pub returns-clause-quiet : goal.returns-clause-quiet
+returns-clause-quiet c e is plain =
+    let quiet = subst (λ (x : Domain). c.args.most ≤ ticks_to_event x) is c.requires.quiet in
+    leap_tells_lags e c.args.lags.now c.leap_aside-ticks.result c.leap_aside-ticks.ensures.some (omega (arith, quiet, c.leap_aside-ticks.ensures.most)) (lasts_are c e is) plain

@@ -1,0 +1,113 @@
+use Rattle.std.proofs.Common.{◌≡◌, ◌<◌, ◌≤◌, ◌+◌, ◌^◌, ℕ, Option, None, List, length, map, get_or, sym, ap, subst, ◌∙◌, arith}
+use Rattle.std.specs.Prelude.{All, IfSome}
+use Rattle.std.proofs.lemmas.Grind.{common_steps}
+use Rattle.domain_run.specs.declared.task.Task.{Task}
+use Rattle.due_times.specs.declared.seats.Seat.{Seat}
+use Rattle.domain_run.specs.Sound.{IsSound}
+use Rattle.domain_run.specs.private.Roster.{RosterView}
+use Rattle.due_times.specs.Seats.{SeatsView, IsAhead, end_of}
+use Rattle.due_times.specs.Timers.{AreLater}
+use Rattle.domain_run.specs.private.Extending.{HasExpired}
+use Rattle.domain_run.specs.private.Waiting.{owed, owed_all, seat_of_task, AllWait, time_passed}
+use Rattle.domain_run.proofs.Waiting.{alike_owed, counted_like, counted_unlike}
+use Rattle.domain_run.proofs.Later.{length_expired, later_next, ends_next, strict_ends, pass_view, pass_sound}
+use Rattle.domain_run.proofs.Doubting.{clock_settled}
+use Rattle.domain_run.proofs.roster.Roster.pass_silently.Goals as goal
+
+pub loop-cpu-preserved : goal.loop-cpu-preserved
+loop-cpu-preserved c =
+    let l = c.loop-cpu in
+    let new = c.expire_silently_at.new.self in
+    let end : l.self.clock + c.args.ticks ≡ c.upto.result + c.args.ticks = omega (arith, l.invariant.end, l.invariant.clock) in
+    let expired = subst (λ (n : ℕ). HasExpired n l.cpu l.self.seats new.seats) end c.expire_silently_at.ensures.seats in
+    let s = c.self-in-loop-cpu-2.inside in
+    let next = c.next_ended-cpu-in-loop-cpu in
+    let view : s.seats.seats ≡ new.seats = ap (λ (r : RosterView). r.seats) c.self-in-loop-cpu-2.view_is in
+    let many : length new.seats ≡ length l.self.seats = length_expired (c.upto.result + c.args.ticks) l.cpu l.self.seats new.seats expired in
+    let inside : l.cpu < length l.self.seats = omega (arith, c.loop-cpu-test.true, c.len.ensures.len, ap (λ (r : RosterView). length r.seats) c.self-in-loop-cpu.view_is) in
+    let early : c.upto.result + c.args.ticks ≤ 2 ^ 62 = omega (arith, l.invariant.end, c.requires.clock) in
+    let behind = subst (λ (xs : List (Option Seat)). AreLater (map end_of xs) (c.upto.result + c.args.ticks) (l.cpu + 1) next.result) view next.ensures.others in
+    record {
+      cpus = c.expire_silently_at.ensures.cpus ∙ l.invariant.cpus;
+      places = c.expire_silently_at.ensures.places ∙ l.invariant.places;
+      clock = c.expire_silently_at.ensures.clock ∙ l.invariant.clock;
+      end = l.invariant.end;
+      within = let most = next.ensures.most in omega (arith, most, ap (λ (xs : List (Option Seat)). length xs) view);
+      long = many ∙ l.invariant.long;
+      later = later_next l.self.seats new.seats (c.upto.result + c.args.ticks) l.cpu next.result early expired l.invariant.later behind;
+      ends = subst (λ (n : ℕ). (cpu : ℕ) → IfSome (get_or new.seats cpu None) (λ s. n ≤ s.end)) l.invariant.end (ends_next (c.upto.result + c.args.ticks) l.cpu l.self.seats new.seats expired (subst (λ (n : ℕ). (cpu : ℕ) → IfSome (get_or l.self.seats cpu None) (λ s. n ≤ s.end)) (sym l.invariant.end) l.invariant.ends));
+      left = c.expire_silently_at.ensures.tasks ∙ l.invariant.left;
+      sound = c.expire_silently_at.ensures.sound;
+    }
+
+-- no seat ends up to then
+strict : (c : goal.After-pass) → (t : Task) → IfSome (seat_of_task c.self-2.inside.seats.seats t) (λ s. IsAhead c.self-2.inside.seats.upto s × (c.self-2.inside.seats.upto + c.args.ticks < s.end))
+strict c =
+    let l = c.loop-cpu in
+    let s = c.self-2.inside in
+    let k = c.args.ticks in
+    let clock : s.seats.upto ≡ l.self.clock = ap (λ (r : RosterView). r.clock) c.self-2.view_is in
+    let seats : s.seats.seats ≡ l.self.seats = ap (λ (r : RosterView). r.seats) c.self-2.view_is in
+    let time : c.upto.result + k ≡ s.seats.upto + k = omega (arith, l.invariant.end, l.invariant.clock, clock) in
+    let many : length c.self-in-loop-cpu.inside.seats.seats ≡ length l.self.seats = ap (λ (r : RosterView). length r.seats) c.self-in-loop-cpu.view_is in
+    let all : AreLater (map end_of l.self.seats) (c.upto.result + k) 0 (length l.self.seats) = λ place from to within. l.invariant.later place from (omega (arith, to, c.loop-cpu-test.false, c.len.ensures.len, many)) within in
+    let later = subst (λ (n : ℕ). AreLater (map end_of s.seats.seats) n 0 (length s.seats.seats)) time (subst (λ (xs : List (Option Seat)). AreLater (map end_of xs) (c.upto.result + k) 0 (length xs)) (sym seats) all) in
+    strict_ends s.seats.upto (s.seats.upto + k) s.seats.seats c.pass.ensures.ahead later
+
+pub returns-clause-tasks : goal.returns-clause-tasks
+returns-clause-tasks c =
+    let l = c.loop-cpu in
+    let s = c.self-2.inside in
+    let k = c.args.ticks in
+    ap (λ (v : SeatsView). owed_all v s.tasks) c.pass.ensures.passed
+    ∙ pass_view s.seats.upto c.args.time k s.seats.seats s.tasks (strict c) c.self-2.invariant.waits
+    ∙ ap (λ (r : RosterView). map (time_passed c.args.time k r.seats) r.tasks) c.self-2.view_is
+    ∙ l.invariant.left
+
+pub invariant_of-self : goal.invariant_of-self
+invariant_of-self c =
+    let s = c.self-2.inside in
+    let v = c.pass.new.self in
+    let counted = counted_unlike (owed s.seats.upto s.seats.seats) (alike_owed s.seats.upto s.seats.seats) (length s.queue.accounts.all) s.queue s.tasks c.self-2.invariant.counted in
+    record {
+      counted = counted_like (owed v.upto v.seats) (alike_owed v.upto v.seats) (length s.queue.accounts.all) s.queue s.tasks counted;
+      waits = subst (λ (x : SeatsView). AllWait x.seats s.tasks) (sym c.pass.ensures.passed) c.self-2.invariant.waits;
+      wide = ap (λ (x : SeatsView). length x.seats) c.pass.ensures.passed ∙ c.self-2.invariant.wide;
+      settled = clock_settled s.doubts (length s.queue.accounts.all) s.queue.schedule.places s.seats v s.tasks (ap (λ (x : SeatsView). x.seats) c.pass.ensures.passed) c.self-2.invariant.settled;
+    }
+
+pub returns-clause-sound : goal.returns-clause-sound
+returns-clause-sound c =
+    let s = c.self-2.inside in
+    let sound = subst (λ (r : RosterView). All (IsSound c.args.time) r.tasks) (sym c.self-2.view_is) c.loop-cpu.invariant.sound in
+    subst (λ (v : SeatsView). All (IsSound c.args.time) (owed_all v s.tasks)) (sym c.pass.ensures.passed) (pass_sound s.seats.upto c.args.time c.args.ticks s.seats.seats s.tasks (strict c) c.self-2.invariant.waits sound)
+
+pub loop-cpu-init : goal.loop-cpu-init
+loop-cpu-init c = grind (arith, common_steps)
+
+pub expire_silently_at-requires-clause-there : goal.expire_silently_at-requires-clause-there
+expire_silently_at-requires-clause-there c = grind (arith, common_steps)
+
+pub expire_silently_at-requires-clause-some : goal.expire_silently_at-requires-clause-some
+expire_silently_at-requires-clause-some c = grind (arith, common_steps)
+
+pub expire_silently_at-requires-clause-early : goal.expire_silently_at-requires-clause-early
+expire_silently_at-requires-clause-early c = grind (arith, common_steps)
+
+pub expire_silently_at-requires-clause-ends : goal.expire_silently_at-requires-clause-ends
+expire_silently_at-requires-clause-ends c = grind (arith, common_steps)
+
+pub expire_silently_at-requires-clause-sound : goal.expire_silently_at-requires-clause-sound
+expire_silently_at-requires-clause-sound c = grind (arith, common_steps)
+
+pub pass-requires-clause-early : goal.pass-requires-clause-early
+pass-requires-clause-early c = grind (arith, common_steps)
+
+pub pass-requires-clause-ahead : goal.pass-requires-clause-ahead
+pass-requires-clause-ahead c = grind (arith, common_steps)
+
+pub returns-clause-cpus : goal.returns-clause-cpus
+returns-clause-cpus c = grind (arith, common_steps)
+
+pub returns-clause-places : goal.returns-clause-places
+returns-clause-places c = grind (arith, common_steps)
