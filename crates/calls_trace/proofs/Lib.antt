@@ -6,13 +6,13 @@ mod Rising
 mod LittleRoom
 mod Ready
 mod Pieces
-mod Played
 mod Written
 mod ReadRuns
 mod Starting
 mod ReadPlaced
 mod Charts
 mod Texts
+mod Leading
 mod Replayed
 mod Figured
 mod Recorded

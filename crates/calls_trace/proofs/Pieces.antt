@@ -6,13 +6,14 @@ use Rattle.domain_run.specs.Switch.{Switch}
 use Rattle.domain_run.specs.declared.call.Call.{Call}
 use Rattle.domain_run.specs.declared.call.Call.TheVariants.{Advance}
 use Rattle.domain_run.specs.Domain.{Domain}
-use Rattle.domain_run.specs.Passing.{with_past, without_switches}
+use Rattle.domain_run.specs.Passing.{with_past, without_front, without_switches}
 use Rattle.domain_run.specs.Run.{after_calls}
 use Rattle.domain_run.specs.Tick.{ticks}
 use Rattle.domain_run.specs.Sound.{IsAdmitted, IsDomain, IsSwitch}
 use Rattle.domain_run.proofs.CallerLemmas.{after_calls_behind}
 use Rattle.switch_text.specs.Names.{Names, name_of_task, HasName, HasLine}
 use Rattle.switch_text.specs.Names.{SameNames}
+use Rattle.switch_text.specs.Trace.{SwitchesView}
 use Rattle.calls_trace.specs.Replay.{names_of}
 use Rattle.calls_trace.specs.private.Replaying.{AdmittedHaveNames}
 use Rattle.calls_trace.proofs.Keeping.{names_behind, names_kept, rest_advanced, names_advanced}
@@ -36,6 +37,22 @@ names_left d cs names n =
 pub nothing_left : (d : Domain) (left : ℕ) (cs : List Call) → left ≡ 0 → cs ≡ [] → (after_calls (without_switches d) (Advance left ∷ cs)).switches ≡ []
 nothing_left d left cs none last =
     ap (λ (k : ℕ). (after_calls (without_switches d) (Advance k ∷ cs)).switches) none ∙ ap (λ (xs : List Call). (after_calls (without_switches d) xs).switches) last
+
+-- as it is written, by its first CPU of the machine, its names and its switches
+abbrev pub run_as : ℕ → (ℕ → List ℕ) → List Switch → SwitchesView
+run_as base names switches = record { base = base; names = names; switches = switches }
+
+-- what leads to the same domain by the same names is the same whole
+pub same_whole : (base : ℕ) (d e : Domain) (cs ds : List Call) (f g : ℕ → List ℕ) → after_calls e ds ≡ after_calls d cs → ((n : ℕ) → names_of e ds g n ≡ names_of d cs f n)
+    → run_as base (names_of e ds g) (e.switches ++ (after_calls (without_switches e) ds).switches) ≡ run_as base (names_of d cs f) (d.switches ++ (after_calls (without_switches d) cs).switches)
+same_whole base d e cs ds f g end names =
+    let called : names_of e ds g ≡ names_of d cs f = λ i n. names n i in
+    let switches = sym (switches_left e ds) ∙ ap (λ (x : Domain). x.switches) end ∙ switches_left d cs in
+    ap (λ (h : ℕ → List ℕ). run_as base h (e.switches ++ (after_calls (without_switches e) ds).switches)) called ∙ ap (λ (ss : List Switch). run_as base (names_of d cs f) ss) switches
+
+-- the switches at the front are no names
+pub names_front : (count : ℕ) (d : Domain) (cs : List Call) (names : ℕ → List ℕ) (n : ℕ) → names_of (without_front count d) cs names n ≡ names_of d cs names n
+names_front count d cs names n = sym (names_left (without_front count d) cs names n) ∙ names_left d cs names n
 
 -- ---- a piece of an advance
 

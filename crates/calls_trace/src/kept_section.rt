@@ -1,15 +1,14 @@
 //! A section that is read whole before its switches are made. The calls before its first advance
 //! make none, so they are made as they are read. The others are kept in little room.
 
-ghost use Rattle.std.specs.Prelude.{◌≡◌, ℕ, false, List, IfOk, OnOk};
+ghost use Rattle.std.specs.Prelude.{◌≡◌, ◌≤◌, ℕ, false, List, IfOk, OnOk};
 ghost use Rattle.calls_text.specs.SectionView.{SectionView};
-ghost use Rattle.calls_text.specs.Limits.{IsCall, IsSection};
+ghost use Rattle.calls_text.specs.Limits.{IsCall};
 ghost use Rattle.calls_text.specs.KeptCall.{call_kept};
-ghost use Rattle.calls_text.specs.Reader.{IsWithin, empty_section};
+ghost use Rattle.calls_text.specs.Reader.{IsWithin, empty_section, bytes_left};
 ghost use Rattle.calls_trace.specs.private.Calls.{ticks_given};
-ghost use Rattle.calls_trace.specs.private.Kept.{IsKeptSection, IsReadSection, KeepsSection, KeepsCalls, IsOneMore};
+ghost use Rattle.calls_trace.specs.private.Kept.{IsReadSection, KeepsCalls, IsOneMore};
 ghost use Rattle.calls_trace.specs.private.ReadRuns.{IsBegun};
-ghost use Rattle.calls_trace.specs.private.Replaying.{IsRunOf, IsToldOf};
 
 use crate::kept::KeptCalls;
 use crate::named_run::RunWithNames;
@@ -54,27 +53,6 @@ impl KeptSection {
         self.calls.push(alloc, kept, reused)?;
         Ok(())
     }
-
-    /// The run of the section, whose calls are made in their order.
-    pub(crate) fn run(self, alloc: Global) -> Result<RunWithNames, NoMemory>
-        requires { KeepsSection self }
-        ensures run { (section : SectionView) → IsSection section → IsKeptSection section self
-            → IfOk result (λ r. IsRunOf section r.state r.names) }
-        ensures told { (section : SectionView) → IsSection section → IsKeptSection section self
-            → IfOk result (λ r. IsToldOf false section r.given r.log) }
-    {
-        let KeptSection { mut run, calls, .. } = self;
-        let mut left = calls.into_left(alloc);
-        'calls: while let Some((call, _)) = left.next() {
-            // Both are let go of by one call: their parts would be written out on each way.
-            if let Err(error) = run.make(alloc, call) {
-                drop(run);
-                drop(left);
-                return Err(error);
-            }
-        }
-        Ok(run)
-    }
 }
 
 /// The section that a reader has begun, of which it has read no call yet.
@@ -88,6 +66,7 @@ pub(crate) fn section_read(
     ensures read { (text : List ℕ) (before : List SectionView)
         → IsWithin text before (empty_section cpus limit) reader.old
         → IfOk result (IsReadSection text before reader.new) }
+    ensures never_more { bytes_left reader.new ≤ bytes_left reader.old }
 {
     let mut section = KeptSection {
         cpus,

@@ -10,10 +10,10 @@
 //! were heard as they were made, while their switches were let go (`specs/Heard.antt`); nothing is
 //! run again. To the crate above they promise: `Ok` means that what was written is that text of the
 //! runs of the sections, each on a domain of its own, and nothing else; each fault means what it
-//! says, and where it is no fault of the writer, nothing was written. The trace of one section goes
-//! out while its run is made, so its switches are not kept. The calls of a trace's first section
-//! are kept, from its first advance on, until it is known whether another section follows. All
-//! other calls are made as soon as they are read. `proofs/CallerLemmas.antt` has laws for callers:
+//! says, and where it is no fault of the writer, nothing was written. A trace goes out while the
+//! runs are made, so their switches are not kept. The calls of each section are kept, from its
+//! first advance on, until all sections are read. For the other texts each call is made as soon as
+//! it is read. `proofs/CallerLemmas.antt` has laws for callers:
 //! the calls text of histories is read again, and its replay writes the same trace.
 #![tactic(auto)]
 
@@ -28,6 +28,7 @@ mod laid_out;
 mod named_run;
 mod placed_run;
 mod playing;
+mod playing_so_far;
 mod read_runs;
 mod read_text;
 mod replaying;

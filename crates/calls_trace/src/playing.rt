@@ -1,5 +1,5 @@
-//! The run of a section, made piece by piece, so that its switches can be written while they are
-//! made.
+//! The run of a section that is made piece by piece, so that its switches can be written while they
+//! are made.
 
 ghost use Rattle.std.specs.Prelude.{◌≡◌, ◌+◌, ◌*◌, ◌≤◌, ◌^◌, All, OnOk, length, sum_by};
 ghost use Rattle.indexmap.specs.IndexMap.{spare};
@@ -26,10 +26,12 @@ pub(crate) struct NamedDomain {
     names: IndexMap<u32, String>,
 }
 
-/// The run of a section while it is made, with the switches at hand that were made last. What needs
-/// memory is made at the opening; a script that is laid out takes some where it may.
+/// The run of a section while it is made, with the switches at hand that are not yet forgotten.
+/// What needs memory is made at the opening; a script that is laid out takes some where it may.
 #[derive(Drop)]
 pub(crate) struct Playing {
+    /// The CPU of the machine that is the domain's CPU 0.
+    base: u32,
     run: NamedDomain,
     /// So many ticks are left of the advance under way.
     left: u64,
@@ -39,6 +41,7 @@ pub(crate) struct Playing {
     ghost kept: { All IsCallReady calls },
     ghost room: { sum_by room_of calls ≤ spare run.names },
     ghost early: { run.domain.time + left + length calls * 60000000 ≤ 2 ^ 42 },
+    ghost inside: { base + run.domain.cpus ≤ 512 },
 }
 
 impl NamedDomain {
@@ -217,24 +220,26 @@ impl NamedDomain {
 }
 
 impl Playing {
-    ghost use Rattle.std.specs.Prelude.{◌<◌, ◌++◌, ℕ, [], true, false, IfOk};
+    ghost use Rattle.std.specs.Prelude.{◌<◌, ◌++◌, ℕ, [], true, false, IfOk, IfNone, IfSome};
     ghost use Rattle.domain_run.specs.Passing.{without_switches};
     ghost use Rattle.domain_run.specs.Run.{after_calls};
     ghost use Rattle.calls_text.specs.SectionView.{SectionView};
+    ghost use Rattle.calls_text.specs.Limits.{IsSection};
     ghost use Rattle.switch_text.specs.Names.{name_of_task};
     ghost use Rattle.switch_text.specs.Runs.{IsPrintable};
     ghost use Rattle.switch_text.specs.Names.{SameNames};
-    ghost use Rattle.calls_trace.specs.Told.{domain_of, names_in};
+    ghost use Rattle.switch_text.specs.SlicedTrace.{whole_of, without_first};
+    ghost use Rattle.calls_trace.specs.Replay.{run_view};
     ghost use Rattle.calls_trace.specs.private.Kept.{IsKeptSection, KeepsSection};
-    ghost use Rattle.calls_trace.specs.private.Playing.{calls_left, played_domain, rest_of, all_names, work_of};
+    ghost use Rattle.calls_trace.specs.private.Playing.{played_domain, all_names, sliced_of};
 
-    /// A section whose calls are made up to its first advance.
-    pub(crate) fn open(alloc: Global, kept: KeptSection) -> Result<Playing, NoMemory>
-        requires { KeepsSection kept }
-        ensures rest { (section : SectionView) → IsKeptSection section kept
-            → IfOk result (λ p. rest_of p ≡ (domain_of section).switches) }
-        ensures names { (section : SectionView) → IsKeptSection section kept
-            → IfOk result (λ p. (n : ℕ) → all_names p n ≡ names_in section n) }
+    /// A section whose calls are made up to its first advance, on the CPUs of the machine from
+    /// `base` on.
+    pub(crate) fn open(alloc: Global, base: u32, kept: KeptSection) -> Result<Playing, NoMemory>
+        requires kept { KeepsSection kept }
+        requires inside { base + kept.cpus ≤ 512 }
+        ensures { (section : SectionView) → IsSection section → IsKeptSection section kept
+            → IfOk result (λ p. whole_of (sliced_of p) ≡ run_view base section) }
     {
         let KeptSection { run, calls, .. } = kept;
         // The calls are let go of by one call: their parts would be written out on each way.
@@ -246,42 +251,30 @@ impl Playing {
             }
         };
         Ok(Playing {
+            base,
             run: domain,
             left: 0,
             calls: calls.into_left(alloc),
         })
     }
 
-    /// Forgets the switches at hand.
-    fn free_buffer(&mut self)
-        ensures end { played_domain self.new
-            ≡ after_calls (without_switches self.old.run.domain) (calls_left self.old) }
-        ensures names { (n : ℕ) → all_names self.new n ≡ all_names self.old n }
+    /// Makes what the buffer has room for of the advance under way. The switches are added to those
+    /// at hand.
+    fn advance(&mut self)
+        ensures whole { whole_of (sliced_of self.new) ≡ whole_of (sliced_of self.old) }
+        ensures full { 0 < self.new.left → 0 < length self.new.run.domain.switches }
+        ensures calls { self.new.calls ≡ self.old.calls }
     {
-        self.run.domain.forget_switches();
-    }
-
-    /// Goes on with the advance under way. `false` where the buffer is full.
-    fn advance(&mut self) -> bool
-        requires { 0 < self.old.left }
-        ensures end { played_domain self.new ≡ played_domain self.old }
-        ensures names { (n : ℕ) → all_names self.new n ≡ all_names self.old n }
-        ensures ahead { result ≡ true → work_of self.new < work_of self.old }
-        ensures stopped { result ≡ false → self.new.run.domain.switches ≡ []
-            → work_of self.new ≡ 0 }
-    {
-        let made = self.run.domain.advance(self.left);
-        self.left -= made;
-        made > 0
+        self.left = self.run.domain.fill(self.left);
     }
 
     /// Begins with the next call. `false` where none is left.
     fn begin(&mut self) -> bool
         requires { self.old.left ≡ 0 }
-        ensures end { played_domain self.new ≡ played_domain self.old }
-        ensures names { (n : ℕ) → all_names self.new n ≡ all_names self.old n }
-        ensures ahead { result ≡ true → work_of self.new < work_of self.old }
-        ensures stopped { result ≡ false → work_of self.new ≡ 0 }
+        ensures whole { whole_of (sliced_of self.new) ≡ whole_of (sliced_of self.old) }
+        ensures ahead { result ≡ true → length self.new.calls < length self.old.calls }
+        ensures none { result ≡ false → self.new.left ≡ 0 }
+        ensures last { result ≡ false → self.new.calls ≡ [] }
     {
         match self.calls.next() {
             Some((call, text)) => {
@@ -292,43 +285,73 @@ impl Playing {
         }
     }
 
-    /// Goes on with the advance under way, or else with the next call. `false` where the buffer is
-    /// full or nothing is left.
+    /// Goes on with the advance under way, and once it is made with the next call. `false` where
+    /// the buffer is full or nothing is left.
     fn play(&mut self) -> bool
-        ensures end { played_domain self.new ≡ played_domain self.old }
-        ensures names { (n : ℕ) → all_names self.new n ≡ all_names self.old n }
-        ensures ahead { result ≡ true → work_of self.new < work_of self.old }
-        ensures stopped { result ≡ false → self.new.run.domain.switches ≡ []
-            → work_of self.new ≡ 0 }
+        ensures whole { whole_of (sliced_of self.new) ≡ whole_of (sliced_of self.old) }
+        ensures ahead { result ≡ true → length self.new.calls < length self.old.calls }
+        ensures full { result ≡ false → 0 < self.new.left
+            → 0 < length self.new.run.domain.switches }
+        ensures last { result ≡ false → self.new.left ≡ 0 → self.new.calls ≡ [] }
     {
+        self.advance();
         if self.left > 0 {
-            return self.advance();
+            return false;
         }
         self.begin()
     }
 
-    /// Makes the next switches, and forgets those before. `false` where none are left.
-    pub(crate) fn next_slice(&mut self) -> bool
-        ensures rest { rest_of self.old ≡ self.new.run.domain.switches ++ rest_of self.new }
-        ensures names { (n : ℕ) → all_names self.new n ≡ all_names self.old n }
-        ensures some { result ≡ true → 0 < length self.new.run.domain.switches }
-        ensures none { result ≡ false → rest_of self.old ≡ [] }
+    /// Up to which time the run is made, if anything is left of it.
+    fn time_if_left(&self) -> Option<u64>
+        requires full { 0 < self.now.left → 0 < length self.now.run.domain.switches }
+        requires last { self.now.left ≡ 0 → self.now.calls ≡ [] }
+        ensures none { IfNone result ((sliced_of self.now).to_come ≡ []) }
+        ensures some { IfSome result (λ _. 0 < length (sliced_of self.now).at_hand) }
+        ensures past { IfSome result
+            (λ time. All (λ s. s.time < time) (sliced_of self.now).at_hand) }
+        ensures later { IfSome result
+            (λ time. All (λ s. time ≤ s.time) (sliced_of self.now).to_come) }
     {
-        self.free_buffer();
+        let left = self.left;
+        if left == 0 {
+            return None;
+        }
+        let state = self.run.domain.state();
+        Some(state.now())
+    }
+
+    /// Makes more switches, until the buffer is full or nothing is left. Up to which time the run
+    /// is made then, if anything is left of it.
+    pub(crate) fn make_more(&mut self) -> Option<u64>
+        ensures whole { whole_of (sliced_of self.new) ≡ whole_of (sliced_of self.old) }
+        ensures none { IfNone result ((sliced_of self.new).to_come ≡ []) }
+        ensures some { IfSome result (λ _. 0 < length (sliced_of self.new).at_hand) }
+        ensures past { IfSome result
+            (λ time. All (λ s. s.time < time) (sliced_of self.new).at_hand) }
+        ensures later { IfSome result
+            (λ time. All (λ s. time ≤ s.time) (sliced_of self.new).to_come) }
+    {
         'pieces: while self.play() {}
-        !self.run.domain.switches().is_empty()
+        self.time_if_left()
+    }
+
+    /// Forgets the first `count` of the switches at hand.
+    pub(crate) fn forget_first(&mut self, count: usize)
+        ensures { sliced_of self.new ≡ without_first count (sliced_of self.old) }
+    {
+        self.run.domain.forget_front(count);
     }
 
     /// The switches at hand, as they are written.
     pub(crate) fn as_written(&self) -> Run<'_>
         ensures run { IsPrintable result }
-        ensures base { result.base ≡ 0 }
+        ensures base { result.base ≡ self.now.base }
         ensures switches { result.switches.now ≡ self.now.run.domain.switches }
         ensures names { All (SameNames (name_of_task result.names.now) (all_names self.now))
             result.switches.now }
     {
         Run {
-            base: 0,
+            base: self.base,
             names: &self.run.names,
             switches: self.run.domain.switches(),
         }
@@ -336,18 +359,16 @@ impl Playing {
 }
 
 impl Slices for Playing {
-    ghost use Rattle.calls_trace.specs.private.Playing.{rest_of, all_names};
+    ghost use Rattle.calls_trace.specs.private.Playing.{sliced_of};
 
-    ghost base = { λ p. 0 };
+    ghost sliced = { sliced_of };
 
-    ghost names = { all_names };
+    fn fill(&mut self) -> Option<u64> {
+        self.make_more()
+    }
 
-    ghost at_hand = { λ p. p.run.domain.switches };
-
-    ghost rest = { rest_of };
-
-    fn go_on(&mut self) -> bool {
-        self.next_slice()
+    fn forget_front(&mut self, count: usize) {
+        self.forget_first(count);
     }
 
     fn slice(&self) -> Run<'_> {

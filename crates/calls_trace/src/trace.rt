@@ -1,19 +1,17 @@
 //! The runs of the domains of a machine as one trace, alone or with what happens in them.
 
-ghost use Rattle.std.specs.Prelude.{◌≡◌, ◌<◌, ◌≤◌, ◌^◌, [], ◌∷◌, All, IfOk, IfErr, OnOk, length, map};
+ghost use Rattle.std.specs.Prelude.{◌≡◌, ◌<◌, ◌≤◌, ◌^◌, All, IfOk, IfErr, OnOk, length, map};
 ghost use Rattle.switch_text.specs.Runs as runs;
 ghost use Rattle.switch_text.specs.Telling.{told_view, told_views, IsTold};
 ghost use Rattle.counted_io.specs.Sides.{faults_of, side};
-ghost use Rattle.calls_text.specs.SectionView.{SectionView};
-ghost use Rattle.calls_text.specs.Limits.{IsSection};
-ghost use Rattle.calls_trace.specs.Replay.{trace_of_sections};
+ghost use Rattle.switch_text.specs.SlicedTrace.{wholes, all_entries};
+ghost use Rattle.switch_text.specs.Trace.{trace_of};
 ghost use Rattle.calls_trace.specs.Written.{IsWritten, IsUnwritten};
 ghost use Rattle.calls_trace.specs.declared.run_text.RunText.TheVariants as texts;
-ghost use Rattle.calls_trace.specs.private.Kept.{IsKeptSection, KeepsSection};
+ghost use Rattle.calls_trace.specs.private.Playing.{sliced_of};
 ghost use Rattle.calls_trace.specs.private.Replaying.{IsPlaced, placed_view_of, placed_run_view, told_in, heard, text_of_runs};
 
 use crate::fault::TraceFault;
-use crate::kept_section::KeptSection;
 use crate::placed_run::PlacedRun;
 use crate::playing::Playing;
 use domain_run::{Happened, Log, NoMemory};
@@ -118,31 +116,29 @@ pub(crate) fn write_trace_of<W: Write>(
     }
 }
 
-/// Writes the trace of the run of one section, while the run is made. What needs memory is made
-/// before the first byte.
+/// Writes the trace of runs under way while they are made. What needs memory is made before the
+/// first byte.
 pub(crate) fn write_played<W: Write>(
     alloc: Global,
-    kept: KeptSection,
+    mut playing: Vec<Playing>,
     writer: &mut Counted<W>,
 ) -> Result<(), TraceFault>
-    requires kept { KeepsSection kept }
+    requires few { length playing.items ≤ 8 }
+    requires countable { length (all_entries (wholes (map sliced_of playing.items))) ≤ 2 ^ 54 }
     requires faults { faults_of writer.old < 2 ^ 63 }
-    ensures ok { (section : SectionView) → IsSection section → IsKeptSection section kept
-        → OnOk result (IsWritten (side W.contents writer.old writer.new)
-        (trace_of_sections (section ∷ []))) }
-    ensures err { (section : SectionView) → IsSection section → IsKeptSection section kept
-        → IfErr result (IsUnwritten (side W.contents writer.old writer.new)
-        (trace_of_sections (section ∷ []))) }
+    ensures ok { OnOk result (IsWritten (side W.contents writer.old writer.new)
+        (trace_of (wholes (map sliced_of playing.items)))) }
+    ensures err { IfErr result (IsUnwritten (side W.contents writer.old writer.new)
+        (trace_of (wholes (map sliced_of playing.items)))) }
 {
     let room = match room_in(alloc) {
         Ok(room) => room,
         Err(error) => {
-            drop(kept);
+            drop(playing);
             return Err(error.into());
         }
     };
-    let mut playing = Playing::open(alloc, kept)?;
-    let written = write_slices(&mut playing, room, writer);
+    let written = write_slices(playing.as_mut_slice(), room, writer);
     drop(playing);
     match written {
         Ok(()) => Ok(()),

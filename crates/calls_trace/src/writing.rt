@@ -17,7 +17,7 @@ use crate::charting::write_chart_of;
 use crate::fault::{ReplayFault, TraceFault};
 use crate::figures::{write_jobs_of, write_summary_of, write_whole};
 use crate::placed_run::{PlacedRun, place_runs};
-use crate::read_text::{ReadText, read_text, runs_of_text};
+use crate::read_text::{playing_of_text, runs_of_text};
 use crate::run_text::RunText;
 use crate::trace::{write_events_of, write_played, write_trace_of};
 use calls_text::{Section, read_calls};
@@ -69,8 +69,7 @@ fn write_read_runs<W: Write>(
     Ok(write_runs(alloc, kind, &runs, writer)?)
 }
 
-/// Makes the calls of a text, and writes the trace of their runs; that of one section alone while
-/// they are made.
+/// Makes the calls of a text, and writes the trace of their runs while they are made.
 fn write_read_trace<W: Write>(
     alloc: Global,
     text: &[u8],
@@ -82,10 +81,8 @@ fn write_read_trace<W: Write>(
     ensures err { IfErr result
         (IsUnreplayed text.now (text_of_all texts.Trace) (side W.contents writer.old writer.new)) }
 {
-    match read_text(alloc, text)? {
-        ReadText::Alone(kept) => Ok(write_played(alloc, kept, writer)?),
-        ReadText::Runs(runs) => Ok(write_runs(alloc, RunText::Trace, &runs, writer)?),
-    }
+    let playing = playing_of_text(alloc, text)?;
+    Ok(write_played(alloc, playing, writer)?)
 }
 
 /// Makes the calls of a text, and writes a text of their runs.

@@ -36,6 +36,7 @@ pub use Rattle.domain_run.proofs.OrderGathered.{gathered, gather, gathered_both}
 pub use Rattle.domain_run.proofs.Logging.{tells_none, tells_more, tells_silent}
 pub use Rattle.domain_run.proofs.ToldRising.{IsSooner, IsSoonerUnlessCut, IsRising}
 pub use Rattle.domain_run.proofs.ToldIn.{IsToldIn, run_tells, run_rises, run_cpus}
+pub use Rattle.domain_run.proofs.Coming.{ticks_then, to_come_after, to_come_later, calls_later}
 pub use Rattle.domain_run.proofs.Passing.{after_call_behind, after_calls_behind, ticks_behind, told_by_ticks_behind}
 pub use Rattle.domain_run.proofs.ToldIn.{HasKnown, has_call, has_opened}
 pub use Rattle.domain_run.proofs.ToldRising.{IsBeginning, IsEnd, beginning_is, ending_is}

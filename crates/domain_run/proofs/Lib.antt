@@ -17,6 +17,7 @@ pub mod OrderGathered
 pub mod CallerLemmas
 pub mod Staying
 pub mod Passing
+pub mod Coming
 pub mod Jumping
 pub mod Paying
 pub mod Runners

@@ -1,15 +1,15 @@
 -- No rule reads the switches: with more before them, each step does the same.
-use Rattle.std.proofs.Common.{◌≡◌, ℕ, zero, suc, Bool, true, false, List, [], ◌∷◌, ◌++◌, refl, ap, ◌∙◌, arith}
-use Rattle.std.proofs.lemmas.List.{append_assoc, append-nil}
-use Rattle.std.proofs.lemmas.List.Elements.{All-nil}
-use Rattle.std.specs.Prelude.{if◌then◌else◌}
+use Rattle.std.proofs.Common.{◌≡◌, ℕ, zero, suc, ◌+◌, ◌<◌, Bool, true, false, List, [], ◌∷◌, ◌++◌, length, drop, refl, ap, ◌∙◌, arith}
+use Rattle.std.proofs.lemmas.List.{append_assoc, append-nil, get_or-drop, length-drop}
+use Rattle.std.proofs.lemmas.List.Elements.{All-nil, All-drop}
+use Rattle.std.specs.Prelude.{if◌then◌else◌, AllPairs, IsTrue}
 use Rattle.domain_run.specs.Switch.{Switch}
 use Rattle.domain_run.specs.declared.call.Call.{Call}
 use Rattle.domain_run.specs.declared.call.Call.TheVariants.{Admit, Regrade, Wake, Leave, Advance, Limit, Depart, Arrive}
 use Rattle.domain_run.specs.Domain.{Domain}
-use Rattle.domain_run.specs.Passing.{with_past, without_switches}
-use Rattle.domain_run.specs.Sound.{IsDomain}
-use Rattle.domain_run.specs.Switches.{switches_from}
+use Rattle.domain_run.specs.Passing.{with_past, without_front, without_switches}
+use Rattle.domain_run.specs.Sound.{IsDomain, IsSwitch}
+use Rattle.domain_run.specs.Switches.{switches_from, is_switch_before}
 use Rattle.domain_run.specs.Tick.{candidates, prepared, with_tick_begun, finished, ticked, ticks}
 use Rattle.domain_run.specs.Calls.{reply_to, is_refusal, after_granted, after_call}
 use Rattle.domain_run.specs.Run.{after_calls}
@@ -93,3 +93,29 @@ forgets_keeps d is = record {
 -- behind what was passed on, a domain without its switches is as it was
 pub passed_behind : (past : List Switch) (d : Domain) → with_past (past ++ d.switches) (without_switches d) ≡ with_past past d
 passed_behind past d = ap (λ s. record d { switches = s }) (append-nil (past ++ d.switches))
+
+pairs_behind : {X : Type 0} (R : X → X → Type 0) (n : ℕ) (xs : List X) → AllPairs R xs → AllPairs R (drop n xs)
+pairs_behind R n xs all i j d less within = rw (get_or-drop n xs i d, get_or-drop n xs j d) (all (n + i) (n + j) d (omega (arith, less)) (omega (arith, length-drop n xs, within)))
+
+-- and without the first ones
+pub front_keeps : (count : ℕ) (d : Domain) → IsDomain d → IsDomain (without_front count d)
+front_keeps count d is = record {
+  steady = record {
+    early = is.steady.early;
+    cpus = is.steady.cpus;
+    limit = is.steady.limit;
+    within = is.steady.within;
+    listed = is.steady.listed;
+    sound = is.steady.sound;
+    homes = is.steady.homes;
+    numbered = is.steady.numbered;
+    known = is.steady.known;
+    wide = is.steady.wide;
+    apart = is.steady.apart;
+  };
+  traced = record {
+    switches = All-drop (IsSwitch d.cpus d.time d.used) count d.switches is.traced.switches;
+    rising = pairs_behind (λ a b. IsTrue (is_switch_before a b)) count d.switches is.traced.rising;
+    standing = is.traced.standing;
+  };
+}

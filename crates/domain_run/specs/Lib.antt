@@ -5,6 +5,7 @@ pub mod Parts
 pub mod Switch
 pub mod Switches
 pub mod Tick
+pub mod Coming
 pub mod Calls
 pub mod Busy
 pub mod Happened

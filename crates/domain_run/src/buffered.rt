@@ -1,13 +1,14 @@
 //! A domain that goes on without memory: its switches wait in a buffer until they are taken.
 
-ghost use Rattle.std.specs.Prelude.{◌≡◌, [], ◌<◌, ◌≤◌, ◌^◌, ◌+◌, IfOk, IfErr, IfNone, OnOk, IsTrue};
+ghost use Rattle.std.specs.Prelude.{◌≡◌, [], ◌<◌, ◌≤◌, ◌^◌, ◌+◌, ◌-◌, ◌++◌, All, length, IfOk, IfErr, IfNone, OnOk, IsTrue};
 ghost use Rattle.domain_run.specs.declared.call.Call.TheVariants as Call;
 ghost use Rattle.domain_run.specs.declared.call.Reply.TheVariants as Reply;
 ghost use Rattle.domain_run.specs.Calls as calls;
+ghost use Rattle.domain_run.specs.Coming.{switches_to_come};
 ghost use Rattle.domain_run.specs.Busy.{IfBusy, LacksRoomFor, LacksRoomToChange, IsAboveLimit};
 ghost use Rattle.domain_run.specs.Domain.{IsLimit};
 ghost use Rattle.domain_run.specs.Keys.{AreKept};
-ghost use Rattle.domain_run.specs.Passing.{without_switches};
+ghost use Rattle.domain_run.specs.Passing.{without_front, without_switches};
 ghost use Rattle.domain_run.specs.Sound.{IsDomain};
 ghost use Rattle.domain_run.specs.Tick as tick;
 
@@ -79,6 +80,41 @@ impl Buffered {
         self.state.forget_switches();
     }
 
+    /// Forgets the first `count` of the switches that wait, or all if they are fewer; the others
+    /// stay, in their order, and the buffer has room for that many more. Nothing else changes.
+    pub fn forget_front(&mut self, count: usize)
+        ensures { self.new ≡ without_front count self.old }
+    {
+        self.state.forget_front(count);
+    }
+
+    /// Makes at most `n` ticks, from event to event, until the buffer has no room for the switches
+    /// of one more event, and answers how many of them are left. The new switches are added after
+    /// those that wait. If ticks are left, at least one switch waits. So if none waited before, at
+    /// least one tick is made. All switches still to come are at the domain's time or later. Time
+    /// stays within 2^42 us. Tasks that have left may go off the list; nobody comes, and the others
+    /// keep number, bandwidth and order.
+    pub fn fill(&mut self, n: u64) -> u64
+        requires { self.old.time + n ≤ 2 ^ 42 }
+        ensures made { self.new ≡ tick.ticks (n - result) self.old }
+        ensures most { result ≤ n }
+        ensures full { 0 < result → 0 < length self.new.switches }
+        ensures more { self.new.switches ++ switches_to_come result self.new
+            ≡ self.old.switches ++ switches_to_come n self.old }
+        ensures later { All (λ s. self.new.time ≤ s.time) (switches_to_come result self.new) }
+        ensures keys { AreKept self.old.tasks self.new.tasks }
+    {
+        let mut left = n;
+        'events: while left > 0 {
+            let made = self.state.leap_in_room(left);
+            if made == 0 {
+                return left;
+            }
+            left -= made;
+        }
+        0
+    }
+
     /// Goes on from event to event, by at most so many ticks, and answers how many they were: the
     /// domain and its switches are exactly those of so many single ticks. It stops early where the
     /// buffer has no room for the switches of one more event; where no switch waits, at least one
@@ -91,15 +127,7 @@ impl Buffered {
         ensures some { self.old.switches ≡ [] → 0 < n → 0 < result }
         ensures keys { AreKept self.old.tasks self.new.tasks }
     {
-        let mut ticks = 0;
-        'events: while ticks < n {
-            let made = self.state.leap_in_room(n - ticks);
-            if made == 0 {
-                return ticks;
-            }
-            ticks += made;
-        }
-        ticks
+        n - self.fill(n)
     }
 }
 

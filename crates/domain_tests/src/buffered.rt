@@ -41,3 +41,30 @@ fn an_advance_stops_where_the_buffer_is_full(rt: HostRuntime) -> Result<(), Fail
     assert!(rt; all.len().saturating_sub(first) == buffered.switches().len());
     Ok(())
 }
+
+/// A buffer is filled after the switches that wait. Where the first of them are forgotten, the
+/// others stay, and there is room for as many more.
+#[test]
+fn a_buffer_is_filled_behind_what_waits(rt: HostRuntime) -> Result<(), Fail> {
+    let tasks = [forever((2, 8, 8), &[Event::Run(1), Event::Sleep(3)])];
+    let mut ticked = admitted(rt.alloc(), 1, &tasks)?;
+    single_ticks(&mut ticked[0], 10000)?;
+    let all = ticked[0].switches();
+    let state = admitted(rt.alloc(), 1, &tasks)?.pop().unwrap();
+    let mut buffers = buffered_alone(rt.alloc(), state)?;
+    let buffered = &mut buffers[0];
+    let room = (1_u64 << 42).saturating_sub(buffered.state().now());
+    let left = buffered.fill(10000_u64.min(room));
+    assert!(rt; 0 < left && left < 10000);
+    let first = buffered.switches().len();
+    assert!(rt; first > 100 && have_part(all, 0, buffered.switches()));
+    buffered.forget_front(100);
+    assert!(rt; first.saturating_sub(100) == buffered.switches().len());
+    let room = (1_u64 << 42).saturating_sub(buffered.state().now());
+    let more = buffered.fill(left.min(room));
+    assert!(rt; 0 < more && more < left && have_part(all, 100, buffered.switches()));
+    buffered.forget_front(usize::MAX);
+    let room = (1_u64 << 42).saturating_sub(buffered.state().now());
+    assert!(rt; buffered.fill(more.min(room)) == 0);
+    Ok(())
+}

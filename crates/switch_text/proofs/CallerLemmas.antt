@@ -1,6 +1,6 @@
 -- Laws of the trace text that callers may cite: the trace of one run, that only the names that occur matter, and what it
 -- means that the entries are in order.
-use Rattle.std.proofs.Common.{◌≡◌, ℕ, suc, ◌+◌, Bool, true, false, cond, List, [], ◌∷◌, ◌++◌, map, Option, Some, None, get_or, refl, sym, ap, ◌∙◌, append-nil, arith}
+use Rattle.std.proofs.Common.{◌≡◌, ℕ, suc, ◌+◌, Bool, true, false, cond, List, [], ◌∷◌, ◌++◌, map, Option, Some, None, get_or, refl, ap, ◌∙◌, append-nil, arith}
 use Rattle.std.specs.Prelude.{AllPairs, All, IsTrue, IfSome, filter, ◌&&◌, ◌==◌}
 use Rattle.std.specs.List.{AllByRecursion, AllZip, flat_map}
 use Rattle.std.proofs.lemmas.Bool.Decides.{nat_tests}
@@ -10,7 +10,6 @@ use Rattle.domain_run.specs.declared.switch.PrevState.{PrevState}
 use Rattle.switch_text.specs.Names.{SameNames}
 use Rattle.switch_text.specs.Line.{title_of, comm_of, task_part, prev_part, next_part, switch_line}
 use Rattle.switch_text.specs.Trace.{SwitchesView, Entry, entry_of, entries_of, is_earlier, placed_in, entries_in_order, header, text_of_entries, trace_of}
-use Rattle.switch_text.specs.SlicedTrace.{sliced_trace}
 use Rattle.domain_run.specs.Switches.{is_switch_before}
 use Rattle.switch_text.proofs.Order.{AllByRecursion-weaker, AllByRecursion-placed_in, placed_in-first, not_later-from_earlier, not_later_twice}
 
@@ -56,10 +55,6 @@ lines_of-one_run r h =
 pub trace_of-one_run : (r : SwitchesView) → AllPairs (λ a b. IsTrue (is_switch_before a b)) r.switches → trace_of (r ∷ []) ≡ header ++ flat_map (switch_line r.names r.base) r.switches
 unfolding trace_of
 trace_of-one_run r h = ap (λ (xs : List ℕ). header ++ xs) (lines_of-one_run r h)
-
--- what is written while a run is made is its trace
-pub sliced_trace-is : (r : SwitchesView) → AllPairs (λ a b. IsTrue (is_switch_before a b)) r.switches → sliced_trace r.base r.names r.switches ≡ trace_of (r ∷ [])
-sliced_trace-is r h = sym (trace_of-one_run r h)
 
 -- ---- the names that occur
 
@@ -124,7 +119,7 @@ entries_of-same r q h =
     names ∙ ap (λ (b : ℕ). entries_of (record { base = b; names = q.names; switches = r.switches })) h.base
     ∙ ap (λ (ss : List Switch). entries_of (record { base = q.base; names = q.names; switches = ss })) h.switches
 
-all_entries-same : (rs qs : List SwitchesView) → AllZip SameRun rs qs → flat_map entries_of rs ≡ flat_map entries_of qs
+pub all_entries-same : (rs qs : List SwitchesView) → AllZip SameRun rs qs → flat_map entries_of rs ≡ flat_map entries_of qs
 all_entries-same [] [] h = refl
 all_entries-same [] (q ∷ qs) h = absurd h
 all_entries-same (r ∷ rs) [] h = absurd h

@@ -10,7 +10,10 @@ mod Merged
 mod Few
 mod UnderWay
 mod Sliced
+mod Cutting
+mod Splitting
 mod Slicing
+mod SliceFronts
 mod EventRoom
 mod EventOrder
 mod ToldAhead

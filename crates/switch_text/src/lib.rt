@@ -6,11 +6,10 @@
 //! (`specs/Trace.antt`, with worked rows in `specs/Examples.antt`). To the crates above it promises
 //! that [`write_trace`] appends exactly that text, or stops at the writer's first fault with the
 //! exact number of bytes taken, as [`write_text`] does with a text in memory. [`Counted`] is the
-//! crate `counted_io`'s. [`write_slices`] writes the trace of one run while it is made, slice by
-//! slice (`specs/SlicedTrace.antt`), from a type of the caller. `proofs/CallerLemmas.antt` has laws
-//! of the text for callers: the trace of one run is its lines as they stand, also where it is
-//! written slice by slice, only the names that occur matter, and what it means that the entries are
-//! in order.
+//! crate `counted_io`'s. [`write_slices`] writes the trace of several runs while they are made,
+//! slice by slice (`specs/SlicedTrace.antt`), from a type of the caller. `proofs/CallerLemmas.antt`
+//! has laws of the text for callers: the trace of one run is its lines as they stand, only the
+//! names that occur matter, and what it means that the entries are in order.
 //!
 //! Meets the definition "Events text" in the same way: a line (`specs/ToldLine.antt`) and the whole
 //! text (`specs/Events.antt`, with worked rows in `specs/EventExamples.antt`), which

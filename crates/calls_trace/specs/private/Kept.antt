@@ -80,10 +80,3 @@ pub record IsReadSection (text : List ℕ) (before : List SectionView) (reader :
   pub is : IsSection section
   pub behind : IsBehind text (before ++ section ∷ []) reader
   pub same : IsKeptSection section k
-
--- the text spells one section, and its calls are kept
-pub record IsOnly (text : List ℕ) (k : KeptSection) : Type 0 where
-  pub section : SectionView
-  pub read : AreRead (section ∷ [])
-  pub spelled : text ≡ spelling (section ∷ [])
-  pub same : IsKeptSection section k

@@ -1,5 +1,5 @@
 -- The run of a section while it is made.
-use Rattle.std.specs.Prelude.{ℕ, ◌+◌, ◌*◌, List, ◌∷◌, length}
+use Rattle.std.specs.Prelude.{ℕ, List, ◌∷◌}
 use Rattle.domain_run.specs.declared.call.Call.{Call}
 use Rattle.domain_run.specs.declared.call.Call.TheVariants.{Advance}
 use Rattle.domain_run.specs.Switch.{Switch}
@@ -7,6 +7,7 @@ use Rattle.domain_run.specs.Domain.{Domain}
 use Rattle.domain_run.specs.Passing.{without_switches}
 use Rattle.domain_run.specs.Run.{after_calls}
 use Rattle.switch_text.specs.Names.{name_of_task}
+use Rattle.switch_text.specs.SlicedTrace.{SlicedView}
 use Rattle.calls_trace.specs.Replay.{names_of}
 use Rattle.calls_trace.specs.declared.playing.Playing.{Playing}
 
@@ -26,6 +27,11 @@ rest_of p = (after_calls (without_switches p.run.domain) (calls_left p)).switche
 abbrev pub all_names : Playing → (ℕ → List ℕ)
 all_names p = names_of p.run.domain (calls_left p) (name_of_task p.run.names)
 
--- how much is left; an advance has at most 60000000 ticks
-abbrev pub work_of : Playing → ℕ
-work_of p = p.left + length p.calls * 60000001
+-- as it is written
+abbrev pub sliced_of : Playing → SlicedView
+sliced_of p = record {
+  base = p.base;
+  names = all_names p;
+  at_hand = p.run.domain.switches;
+  to_come = rest_of p;
+}

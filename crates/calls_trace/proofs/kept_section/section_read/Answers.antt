@@ -60,6 +60,7 @@ calls-init c =
         };
       };
       kept = kept;
+      never_more = omega arith;
     }
 
 pub take-requires : goal.take-requires
@@ -89,6 +90,7 @@ calls-preserved c =
             };
           };
       kept = more.kept;
+      never_more = omega (arith, c.calls.invariant.never_more, c.next_of.ensures.never_more);
     }
 
 pub returns : goal.returns
@@ -101,4 +103,5 @@ returns c = record {
         behind = subst (λ (o : Option Kept). IsNextKept text before m.section c.next_of.new.reader (Ok o)) c.in_default.is (c.in-Ok.ensures.next text before m.section m.within);
         same = m.same;
       };
+  never_more = omega (arith, c.calls.invariant.never_more, c.next_of.ensures.never_more);
 }

@@ -1,27 +1,32 @@
-use Rattle.std.proofs.Common.{List, ℕ, subst}
+use Rattle.std.proofs.Common.{◌≤◌, ◌^◌, List, length, map, ap, sym, subst, arith}
 use Rattle.std.specs.Io.KnownBytes.{Appends}
 use Rattle.counted_io.specs.Sides.{Side, side}
 use Rattle.counted_io.specs.Faults.{TakesFront}
-use Rattle.calls_trace.specs.private.Playing.{rest_of, all_names}
-use Rattle.calls_trace.proofs.Played.{played_is, played_few}
+use Rattle.switch_text.specs.SlicedTrace.{wholes, all_entries}
+use Rattle.switch_text.specs.Trace.{trace_of}
+use Rattle.calls_trace.specs.declared.playing.Playing.{Playing}
+use Rattle.calls_trace.specs.private.Playing.{sliced_of}
 use Rattle.calls_trace.proofs.trace.write_played.Goals as goal
 
 pub write_slices-written-requires-clause-few : goal.write_slices-written-requires-clause-few
-write_slices-written-requires-clause-few g c =
-    let p = c.in_ok-playing.playing in
-    let k = c.requires.kept in
-    played_few k.section (rest_of p) k.is (c.in_ok-playing.ensures.rest k.section k.same)
+write_slices-written-requires-clause-few g c = omega (arith, ap length c.as_mut_slice.ensures.value, c.requires.few)
+
+pub write_slices-written-requires-clause-countable : goal.write_slices-written-requires-clause-countable
+write_slices-written-requires-clause-countable g c =
+    subst (λ (runs : List Playing). length (all_entries (wholes (map sliced_of runs))) ≤ 2 ^ 54) (sym c.as_mut_slice.ensures.value) c.requires.countable
 
 pub returns-in-Ok-written-clause-ok : goal.returns-in-Ok-written-clause-ok
-returns-in-Ok-written-clause-ok g c = λ s is kept.
+returns-in-Ok-written-clause-ok g c =
     let w : Side = side g.W.Write.contents c.args.writer.now c.write_slices-written.new.writer in
-    let p = c.in_ok-playing.playing in
-    let same = played_is s (all_names p) (rest_of p) is (c.in_ok-playing.ensures.rest s kept) (c.in_ok-playing.ensures.names s kept) in
-    record { taken = subst (Appends w.before.bytes w.after.bytes) same c.in-Ok-written.ensures.ok; writes = c.in-Ok-written.ensures.faults }
+    record {
+      taken = subst (λ (runs : List Playing). Appends w.before.bytes w.after.bytes (trace_of (wholes (map sliced_of runs)))) c.as_mut_slice.ensures.value c.in-Ok-written.ensures.ok;
+      writes = c.in-Ok-written.ensures.faults;
+    }
 
 pub returns-in-Err-written-clause-err : goal.returns-in-Err-written-clause-err
-returns-in-Err-written-clause-err g c = λ s is kept.
+returns-in-Err-written-clause-err g c =
     let w : Side = side g.W.Write.contents c.args.writer.now c.write_slices-written.new.writer in
-    let p = c.in_ok-playing.playing in
-    let same = played_is s (all_names p) (rest_of p) is (c.in_ok-playing.ensures.rest s kept) (c.in_ok-playing.ensures.names s kept) in
-    record { taken = subst (λ (t : List ℕ). TakesFront w.before.bytes w.after.bytes t c.in-Err-written.fault.written) same c.in-Err-written.ensures.err; writes = c.in-Err-written.ensures.faults }
+    record {
+      taken = subst (λ (runs : List Playing). TakesFront w.before.bytes w.after.bytes (trace_of (wholes (map sliced_of runs))) c.in-Err-written.fault.written) c.as_mut_slice.ensures.value c.in-Err-written.ensures.err;
+      writes = c.in-Err-written.ensures.faults;
+    }

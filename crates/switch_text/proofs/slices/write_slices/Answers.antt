@@ -1,126 +1,132 @@
-use Rattle.std.proofs.Common.{◌≡◌, ◌+◌, ◌∙◌, [], length, refl, sym, subst, ap, arith}
+use Rattle.std.proofs.Common.{◌≡◌, ℕ, Bool, cond, List, ◌+◌, ◌∙◌, length, map, All, refl, sym, subst, ap, arith}
+use Rattle.std.proofs.lemmas.Bool.{true≢false}
 use Rattle.counted_io.specs.Sides.{inner_of}
-use Rattle.switch_text.specs.Trace.{header}
-use Rattle.switch_text.specs.SlicedTrace.{sliced_trace}
-use Rattle.switch_text.specs.private.Ready.{AreEnough, AreNobodys}
-use Rattle.switch_text.proofs.Kept.{nobody_is_slot, slots_kept}
+use Rattle.switch_text.specs.SlicedTrace.{wholes, AreEndsOf}
+use Rattle.switch_text.specs.Trace.{SwitchesView, header, trace_of}
+use Rattle.switch_text.specs.private.Ready.{AreEnough, AreNobodys, IsSlot}
+use Rattle.switch_text.specs.private.Sliced.{IsSlicing, names_by}
+use Rattle.switch_text.proofs.Kept.{nobody_is_slot}
 use Rattle.switch_text.proofs.UnderWay.{length-header}
 use Rattle.switch_text.proofs.Sliced.{ends_all, stops_all}
-use Rattle.switch_text.proofs.Slicing.{IsSlicing-start, IsSlicing-next, IsSlicing-stops, IsSlicing-ends, sliced_fits, end_of_end, IsStopped-here}
+use Rattle.switch_text.proofs.Slicing.{IsSlicing-start, IsSlicing-next, IsSlicing-stops, IsSlicing-ends, slicing_fits, IsStopped-here, AreEndsOf-all, AreEndsOf-next, names_cut, round_smaller, round_last}
 use Rattle.switch_text.proofs.slices.write_slices.Goals as goal
 
-pub loop-slots-init : goal.loop-slots-init
-loop-slots-init g c =
-    let slices = c.args.slices.now in
+pub rounds-init : goal.rounds-init
+rounds-init g c =
+    let all = wholes (map g.S.Slices.sliced c.args.slices.now) in
     let waiting : c.append.new.self ≡ header = rw (c.append.ensures, c.new-batch.ensures) c.header_text.ensures.text in
     record {
-      base = refl;
-      names = λ number. refl;
-      slicing = IsSlicing-start (g.W.Write.contents (inner_of c.args.writer.now)) (g.S.Slices.base slices) (g.S.Slices.names slices) (g.S.Slices.rest slices) c.append.new.self waiting;
-      left = ([], refl);
+      slicing = IsSlicing-start (g.W.Write.contents (inner_of c.args.writer.now)) all c.append.new.self waiting;
+      left = AreEndsOf-all all;
+      last = λ no. absurd (true≢false no);
+      few = c.requires.few;
       room = omega (arith, ap length waiting, length-header);
-      many = subst AreEnough (sym c.as_mut_slice-slots.ensures.value) c.args.room.many;
-      slots = nobody_is_slot (λ run. g.S.Slices.names slices) _ (subst AreNobodys (sym c.as_mut_slice-slots.ensures.value) c.args.room.empty);
+      many = subst AreEnough (sym c.as_mut_slice-slots.ensures.value) c.widened-room.result.many;
+      slots = nobody_is_slot (names_by all) _ (subst AreNobodys (sym c.as_mut_slice-slots.ensures.value) c.widened-room.result.empty);
       texts = c.no_texts-texts.ensures;
       faults = refl;
     }
 
-pub send_slice-requires : goal.send_slice-requires
-send_slice-requires g c =
-    let l = c.loop-slots in
-    let i = l.invariant in
-    let names = g.S.Slices.names c.go_on.new.self in
-    let slots = slots_kept (g.S.Slices.names l.slices) names l.slots (λ number. sym (c.go_on.ensures.names number)) i.slots in
-    λ κs lives. (lives.0, (lives.1, (refl {a = names}, (i.many, (slots, (i.texts, (i.room, omega (arith, i.faults, c.requires.faults))))))))
-
 pub overflow_add-written : goal.overflow_add-written
 overflow_add-written g c =
-    let slices = c.args.slices.now in
+    let f = g.S.Slices.sliced in
+    let all = wholes (map f c.args.slices.now) in
+    let l = c.rounds in
+    let full = map f c.fill_all-cut.new.slices in
+    let slicing = subst (λ (rs : List SwitchesView). IsSlicing (g.W.Write.contents (inner_of c.args.writer.now)) (g.W.Write.contents (inner_of l.writer)) all rs l.written l.batch) (sym c.fill_all-cut.ensures.whole) l.invariant.slicing in
     let bound = c.in-Ok.ensures.bound in
-    omega (
-      arith,
-      sliced_fits _ _ (g.S.Slices.base slices) (g.S.Slices.names slices) (g.S.Slices.rest slices) (g.S.Slices.rest c.loop-slots.slices) (g.S.Slices.at_hand c.go_on.new.self) (g.S.Slices.rest c.go_on.new.self)
-          c.loop-slots.written c.in-Ok.n c.loop-slots.batch c.loop-slots.invariant.slicing c.go_on.ensures.rest c.requires.few (omega (arith, bound)),
-    )
+    omega (arith, slicing_fits _ _ all c.fill_all-cut.result full l.written c.in-Ok.n l.batch slicing c.fill_all-cut.ensures.cut.final c.requires.countable (omega (arith, bound)))
 
-pub loop-slots-preserved : goal.loop-slots-preserved
-loop-slots-preserved g c =
-    let slices = c.args.slices.now in
-    let l = c.loop-slots in
-    let now = c.go_on.new.self in
-    let is_base = c.go_on.ensures.base ∙ l.invariant.base in
-    record {
-      base = is_base;
-      names = λ number. c.go_on.ensures.names number ∙ l.invariant.names number;
-      slicing = IsSlicing-next (g.W.Write.contents (inner_of c.args.writer.now)) (g.W.Write.contents (inner_of l.writer)) (g.W.Write.contents (inner_of c.send_slice.new.writer))
-          (g.S.Slices.base slices) (g.S.Slices.base now) (g.S.Slices.names slices) (g.S.Slices.names now) (g.S.Slices.rest slices) (g.S.Slices.rest l.slices) (g.S.Slices.at_hand now) (g.S.Slices.rest now)
-          l.written c.in-Ok.n l.batch c.send_slice.new.batch l.invariant.slicing c.go_on.ensures.rest is_base (λ number. c.go_on.ensures.names number ∙ l.invariant.names number) c.in-Ok.ensures.ok c.in-Ok.ensures.bound;
-      left = end_of_end (g.S.Slices.rest slices) (g.S.Slices.rest l.slices) (g.S.Slices.at_hand now) (g.S.Slices.rest now) l.invariant.left c.go_on.ensures.rest;
-      room = c.in-Ok.ensures.room;
-      many = c.send_slice.ensures.many;
-      slots = c.send_slice.ensures.slots;
-      texts = c.send_slice.ensures.texts;
-      faults = c.in-Ok.ensures.faults ∙ l.invariant.faults;
-    }
+pub stopped_after-requires : goal.stopped_after-requires
+stopped_after-requires g c =
+    let f = g.S.Slices.sliced in
+    let all = wholes (map f c.args.slices.now) in
+    let l = c.rounds in
+    let full = map f c.fill_all-cut.new.slices in
+    let slicing = subst (λ (rs : List SwitchesView). IsSlicing (g.W.Write.contents (inner_of c.args.writer.now)) (g.W.Write.contents (inner_of l.writer)) all rs l.written l.batch) (sym c.fill_all-cut.ensures.whole) l.invariant.slicing in
+    omega (arith, slicing_fits _ _ all c.fill_all-cut.result full l.written c.in-Err.n l.batch slicing c.fill_all-cut.ensures.cut.final c.requires.countable c.in-Err.ensures.stopped)
 
 pub returns-in-Err-clause-err : goal.returns-in-Err-clause-err
 returns-in-Err-clause-err g c =
-    let slices = c.args.slices.now in
-    let l = c.loop-slots in
-    let now = c.go_on.new.self in
+    let f = g.S.Slices.sliced in
+    let all = wholes (map f c.args.slices.now) in
+    let l = c.rounds in
     let before = g.W.Write.contents (inner_of c.args.writer.now) in
-    let after = g.W.Write.contents (inner_of c.send_slice.new.writer) in
-    let stops = IsSlicing-stops before (g.W.Write.contents (inner_of l.writer)) after
-    (g.S.Slices.base slices) (g.S.Slices.base now) (g.S.Slices.names slices) (g.S.Slices.names now) (g.S.Slices.rest slices) (g.S.Slices.rest l.slices) (g.S.Slices.at_hand now) (g.S.Slices.rest now)
-    l.written c.in-Err.n l.batch l.invariant.slicing c.go_on.ensures.rest (c.go_on.ensures.base ∙ l.invariant.base) (λ number. c.go_on.ensures.names number ∙ l.invariant.names number) c.in-Err.ensures.err in
+    let mid = g.W.Write.contents (inner_of l.writer) in
+    let full = map f c.fill_all-cut.new.slices in
+    let slicing = subst (λ (rs : List SwitchesView). IsSlicing before mid all rs l.written l.batch) (sym c.fill_all-cut.ensures.whole) l.invariant.slicing in
+    let stops = IsSlicing-stops before mid (g.W.Write.contents (inner_of c.send_fronts.new.writer)) all c.fill_all-cut.result full l.written c.in-Err.n l.batch slicing c.fill_all-cut.ensures.cut.final c.in-Err.ensures.err in
     rw c.stopped_after.ensures stops
-
-pub returns-in-Ok-flush-clause-ok : goal.returns-in-Ok-flush-clause-ok
-returns-in-Ok-flush-clause-ok g c =
-    let slices = c.args.slices.now in
-    let l = c.loop-slots in
-    let text = sliced_trace (g.S.Slices.base slices) (g.S.Slices.names slices) (g.S.Slices.rest slices) in
-    let sends = IsSlicing-ends _ _ (g.S.Slices.base slices) (g.S.Slices.names slices) (g.S.Slices.rest slices) (g.S.Slices.rest l.slices) l.written l.batch l.invariant.slicing (c.go_on.ensures.none c.loop-slots-test.false) in
-    ends_all _ _ _ text l.batch c.flush.new.self l.written c.in-Ok-flush.field-0 sends c.in-Ok-flush.ensures.ok c.in-Ok-flush.ensures.emptied
-
-pub returns-clause-err : goal.returns-clause-err
-returns-clause-err g c =
-    let slices = c.args.slices.now in
-    let l = c.loop-slots in
-    let text = sliced_trace (g.S.Slices.base slices) (g.S.Slices.names slices) (g.S.Slices.rest slices) in
-    let sends = IsSlicing-ends _ _ (g.S.Slices.base slices) (g.S.Slices.names slices) (g.S.Slices.rest slices) (g.S.Slices.rest l.slices) l.written l.batch l.invariant.slicing (c.go_on.ensures.none c.loop-slots-test.false) in
-    rw c.stopped_after-in-Err-flush.ensures (stops_all _ _ _ text l.batch l.written c.in-Err-flush.n sends c.in-Err-flush.ensures.err)
-
-pub returns-in-Err-clause-left : goal.returns-in-Err-clause-left
-returns-in-Err-clause-left g c = end_of_end (g.S.Slices.rest c.args.slices.now) (g.S.Slices.rest c.loop-slots.slices) (g.S.Slices.at_hand c.go_on.new.self) (g.S.Slices.rest c.go_on.new.self) c.loop-slots.invariant.left c.go_on.ensures.rest
 
 pub returns-in-Err-clause-stopped : goal.returns-in-Err-clause-stopped
 returns-in-Err-clause-stopped g c =
-    let slices = c.args.slices.now in
-    let l = c.loop-slots in
-    let now = c.go_on.new.self in
-    IsStopped-here _ _ (g.S.Slices.base slices) (g.S.Slices.names slices) (g.S.Slices.rest slices) (g.S.Slices.rest l.slices) (g.S.Slices.at_hand now) (g.S.Slices.rest now) l.written c.in-Err.n _ l.batch l.invariant.slicing l.invariant.left c.go_on.ensures.rest l.invariant.room
-    c.stopped_after.ensures
+    let f = g.S.Slices.sliced in
+    let all = wholes (map f c.args.slices.now) in
+    let l = c.rounds in
+    let full = wholes (map f c.fill_all-cut.new.slices) in
+    let same = sym c.fill_all-cut.ensures.whole in
+    let slicing = subst (λ (rs : List SwitchesView). IsSlicing (g.W.Write.contents (inner_of c.args.writer.now)) (g.W.Write.contents (inner_of l.writer)) all rs l.written l.batch) same l.invariant.slicing in
+    IsStopped-here _ _ all full l.written c.in-Err.n _ l.batch slicing (subst (AreEndsOf all) same l.invariant.left) l.invariant.room c.stopped_after.ensures
+
+pub rounds-smaller : goal.rounds-smaller
+rounds-smaller g c =
+    let f = g.S.Slices.sliced in
+    let more : cond {A = ℕ} c.rounds.has_more 1 0 ≡ 1 = ap (λ (b : Bool). cond {A = ℕ} b 1 0) c.rounds-test.true in
+    omega (
+      arith,
+      more,
+      round_smaller c.fill_all-cut.result c.is_some-has_more.result (wholes (map f c.rounds.slices)) (map f c.fill_all-cut.new.slices) (map f c.forget_all.new.slices) c.fill_all-cut.ensures.cut c.fill_all-cut.ensures.whole
+          c.forget_all.ensures.left c.is_some-has_more.ensures,
+    )
+
+pub rounds-preserved : goal.rounds-preserved
+rounds-preserved g c =
+    let f = g.S.Slices.sliced in
+    let all = wholes (map f c.args.slices.now) in
+    let l = c.rounds in
+    let cut = c.fill_all-cut.result in
+    let full = map f c.fill_all-cut.new.slices in
+    let left = map f c.forget_all.new.slices in
+    let final = c.fill_all-cut.ensures.cut.final in
+    let same = sym c.fill_all-cut.ensures.whole in
+    let gone = sym (ap wholes c.forget_all.ensures.left) in
+    let before = g.W.Write.contents (inner_of c.args.writer.now) in
+    let mid = g.W.Write.contents (inner_of l.writer) in
+    let after = g.W.Write.contents (inner_of c.send_fronts.new.writer) in
+    let batch = c.send_fronts.new.batch in
+    let slicing = subst (λ (rs : List SwitchesView). IsSlicing before mid all rs l.written l.batch) same l.invariant.slicing in
+    let next = IsSlicing-next before mid after all cut full l.written c.in-Ok.n l.batch batch slicing final c.in-Ok.ensures.ok c.in-Ok.ensures.bound in
+    let names : names_by (wholes full) ≡ names_by (wholes left) = sym (names_cut cut full) ∙ ap names_by gone in
+    record {
+      slicing = subst (λ (rs : List SwitchesView). IsSlicing before after all rs (l.written + c.in-Ok.n) batch) gone next;
+      left = subst (AreEndsOf all) gone (AreEndsOf-next cut all full c.forget_all.ensures.split (subst (AreEndsOf all) same l.invariant.left));
+      last = λ none. round_last cut c.is_some-has_more.result full left final c.forget_all.ensures.left c.is_some-has_more.ensures none;
+      few = omega (arith, c.forget_all.auto.slices, c.fill_all-cut.auto.slices, l.invariant.few);
+      room = c.in-Ok.ensures.room;
+      many = c.send_fronts.ensures.many;
+      slots = subst (λ (names : ℕ → ℕ → List ℕ). All (IsSlot names) c.send_fronts.new.slots) names c.send_fronts.ensures.slots;
+      texts = c.send_fronts.ensures.texts;
+      faults = c.in-Ok.ensures.faults ∙ l.invariant.faults;
+    }
+
+pub returns-in-Ok-flush-clause-ok : goal.returns-in-Ok-flush-clause-ok
+returns-in-Ok-flush-clause-ok g c =
+    let f = g.S.Slices.sliced in
+    let all = wholes (map f c.args.slices.now) in
+    let l = c.rounds in
+    let sends = IsSlicing-ends _ _ all (wholes (map f l.slices)) l.written l.batch l.invariant.slicing (l.invariant.last c.rounds-test.false) in
+    ends_all _ _ _ (trace_of all) l.batch c.flush.new.self l.written c.in-Ok-flush.field-0 sends c.in-Ok-flush.ensures.ok c.in-Ok-flush.ensures.emptied
+
+pub returns-clause-err : goal.returns-clause-err
+returns-clause-err g c =
+    let f = g.S.Slices.sliced in
+    let all = wholes (map f c.args.slices.now) in
+    let l = c.rounds in
+    let sends = IsSlicing-ends _ _ all (wholes (map f l.slices)) l.written l.batch l.invariant.slicing (l.invariant.last c.rounds-test.false) in
+    rw c.stopped_after-in-Err-flush.ensures (stops_all _ _ _ (trace_of all) l.batch l.written c.in-Err-flush.n sends c.in-Err-flush.ensures.err)
 
 pub returns-clause-stopped : goal.returns-clause-stopped
 returns-clause-stopped g c =
-    let slices = c.args.slices.now in
-    let l = c.loop-slots in
-    let now = c.go_on.new.self in
-    IsStopped-here _ _ (g.S.Slices.base slices) (g.S.Slices.names slices) (g.S.Slices.rest slices) (g.S.Slices.rest l.slices) (g.S.Slices.at_hand now) (g.S.Slices.rest now) l.written c.in-Err-flush.n _ l.batch l.invariant.slicing l.invariant.left c.go_on.ensures.rest l.invariant.room
-    c.stopped_after-in-Err-flush.ensures
-
-pub returns-in-Err-clause-faults : goal.returns-in-Err-clause-faults
-returns-in-Err-clause-faults g c = c.in-Err.ensures.faults ∙ ap (λ n. n + 1) c.loop-slots.invariant.faults
-
-pub returns-in-Ok-flush-clause-faults : goal.returns-in-Ok-flush-clause-faults
-returns-in-Ok-flush-clause-faults g c = c.in-Ok-flush.ensures.faults ∙ c.loop-slots.invariant.faults
-
-pub returns-clause-faults : goal.returns-clause-faults
-returns-clause-faults g c = c.in-Err-flush.ensures.faults ∙ ap (λ n. n + 1) c.loop-slots.invariant.faults
-
-pub returns-in-Ok-flush-clause-left : goal.returns-in-Ok-flush-clause-left
-returns-in-Ok-flush-clause-left g c = end_of_end (g.S.Slices.rest c.args.slices.now) (g.S.Slices.rest c.loop-slots.slices) (g.S.Slices.at_hand c.go_on.new.self) (g.S.Slices.rest c.go_on.new.self) c.loop-slots.invariant.left c.go_on.ensures.rest
-
-pub returns-clause-left : goal.returns-clause-left
-returns-clause-left g c = end_of_end (g.S.Slices.rest c.args.slices.now) (g.S.Slices.rest c.loop-slots.slices) (g.S.Slices.at_hand c.go_on.new.self) (g.S.Slices.rest c.go_on.new.self) c.loop-slots.invariant.left c.go_on.ensures.rest
+    let f = g.S.Slices.sliced in
+    let l = c.rounds in
+    IsStopped-here _ _ (wholes (map f c.args.slices.now)) (wholes (map f l.slices)) l.written c.in-Err-flush.n _ l.batch l.invariant.slicing l.invariant.left l.invariant.room c.stopped_after-in-Err-flush.ensures

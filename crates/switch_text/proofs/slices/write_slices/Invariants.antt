@@ -1,25 +1,25 @@
-use Rattle.std.proofs.Common.{ℕ, length, ◌≡◌, ◌≤◌, All}
+use Rattle.std.proofs.Common.{length, map, ◌≡◌, ◌≤◌, ◌+◌, false, cond, All, []}
 use Rattle.counted_io.specs.Sides.{inner_of}
-use Rattle.switch_text.specs.SlicedTrace.{IsEndOf}
+use Rattle.switch_text.specs.SlicedTrace.{wholes, all_entries, AreEndsOf}
 use Rattle.switch_text.specs.private.Ready.{AreEnough, IsSlot, IsTexts}
-use Rattle.switch_text.specs.private.Sliced.{IsSlicing}
+use Rattle.switch_text.specs.private.Sliced.{IsSlicing, names_by}
 use Rattle.switch_text.proofs.slices.write_slices.Given as goal
 
-abbrev pub invariant-loop-slots : goal.invariant-loop-slots
-invariant-loop-slots g l = record {
-  base : g.S.Slices.base l.slices ≡ g.S.Slices.base l.fn.slices;
-  names : (number : ℕ) → g.S.Slices.names l.slices number ≡ g.S.Slices.names l.fn.slices number;
-  slicing : IsSlicing (g.W.Write.contents (inner_of l.fn.writer)) (g.W.Write.contents (inner_of l.writer)) (g.S.Slices.base l.fn.slices) (g.S.Slices.names l.fn.slices) (g.S.Slices.rest l.fn.slices) (g.S.Slices.rest l.slices) l.written l.batch;
-  left : IsEndOf (g.S.Slices.rest l.fn.slices) (g.S.Slices.rest l.slices);
+abbrev pub invariant-rounds : goal.invariant-rounds
+invariant-rounds g l = record {
+  slicing : IsSlicing (g.W.Write.contents (inner_of l.fn.writer)) (g.W.Write.contents (inner_of l.writer)) (wholes (map g.S.Slices.sliced l.fn.slices)) (wholes (map g.S.Slices.sliced l.slices)) l.written l.batch;
+  left : AreEndsOf (wholes (map g.S.Slices.sliced l.fn.slices)) (wholes (map g.S.Slices.sliced l.slices));
+  last : l.has_more ≡ false → all_entries (wholes (map g.S.Slices.sliced l.slices)) ≡ [];
+  few : length l.slices ≤ 8;
   room : length l.batch ≤ 65536;
   many : AreEnough l.slots;
-  slots : All (IsSlot (λ run. g.S.Slices.names l.slices)) l.slots;
+  slots : All (IsSlot (names_by (wholes (map g.S.Slices.sliced l.slices)))) l.slots;
   texts : IsTexts l.texts;
   faults : l.writer.faults ≡ l.fn.writer.faults;
 }
 
-abbrev pub ghost-send_slice : goal.ghost-send_slice
-ghost-send_slice g a = g.S.Slices.names a.slices.now
+abbrev pub ghost-send_fronts : goal.ghost-send_fronts
+ghost-send_fronts g a = names_by (wholes (map g.S.Slices.sliced a.slices.now))
 
-abbrev pub decreases-loop-slots : goal.decreases-loop-slots
-decreases-loop-slots g l = length (g.S.Slices.rest l.slices)
+abbrev pub decreases-rounds : goal.decreases-rounds
+decreases-rounds g l = length (all_entries (wholes (map g.S.Slices.sliced l.slices))) + cond l.has_more 1 0

@@ -9,22 +9,23 @@ use Rattle.domain_run.specs.Switch.{Switch}
 use Rattle.calls_text.specs.Limits.{IsCall}
 use Rattle.switch_text.specs.Names.{name_of_task}
 use Rattle.calls_trace.specs.Replay.{names_of}
+use Rattle.calls_trace.specs.Told.{domain_of, names_in}
 use Rattle.calls_trace.specs.private.Calls.{IsCallReady}
 use Rattle.calls_trace.specs.private.Kept.{room_of}
-use Rattle.calls_trace.proofs.Ready.{call_ready}
+use Rattle.calls_trace.proofs.Ready.{call_ready, kept_cpus}
 use Rattle.calls_trace.proofs.Naming.{still_named}
-use Rattle.calls_trace.proofs.Pieces.{switches_left}
+use Rattle.calls_trace.proofs.Pieces.{switches_left, run_as}
 use Rattle.calls_trace.proofs.playing.Playing.open.Goals as goal
 
 pub invariant_of-result-clause-called : goal.invariant_of-result-clause-called
 invariant_of-result-clause-called c =
     let run = c.args.kept.run in
     let d = c.in-Ok.domain in
-    still_named run.state d.domain run.names d.names c.in-Ok.ensures.domain c.in-Ok.ensures.names c.requires.same.kept.start.all_named
+    still_named run.state d.domain run.names d.names c.in-Ok.ensures.domain c.in-Ok.ensures.names c.requires.kept.same.kept.start.all_named
 
 pub invariant_of-result-clause-kept : goal.invariant_of-result-clause-kept
 invariant_of-result-clause-kept c =
-    subst (All IsCallReady) (sym c.into_left.ensures) (All-weaker IsCall IsCallReady call_ready c.args.kept.calls c.requires.same.kept.are)
+    subst (All IsCallReady) (sym c.into_left.ensures) (All-weaker IsCall IsCallReady call_ready c.args.kept.calls c.requires.kept.same.kept.are)
 
 pub invariant_of-result-clause-room : goal.invariant_of-result-clause-room
 invariant_of-result-clause-room c =
@@ -33,30 +34,33 @@ invariant_of-result-clause-room c =
 
 pub invariant_of-result-clause-early : goal.invariant_of-result-clause-early
 invariant_of-result-clause-early c =
-    let r = c.requires in
+    let r = c.requires.kept in
     let many = ap (λ (cs : List Call). length cs) c.into_left.ensures in
     let time = ap (λ (d : Domain). d.time) c.in-Ok.ensures.domain in
     omega (arith, many, time, r.same.kept.start.time, r.same.few, r.is.most_entries)
 
-pub returns-clause-rest : goal.returns-clause-rest
-returns-clause-rest c = λ s same.
-    let d = c.in-Ok.domain.domain in
-    let left = c.into_left.result in
-    let rest = (after_calls (without_switches d) left).switches in
-    let bare : d.switches ≡ [] = ap (λ (x : Domain). x.switches) c.in-Ok.ensures.domain ∙ same.kept.start.bare in
-    sym (switches_left d left ∙ ap (λ (ss : List Switch). ss ++ rest) bare)
-    ∙ ap (λ (x : Domain). (after_calls x left).switches) c.in-Ok.ensures.domain
-    ∙ ap (λ (cs : List Call). (after_calls c.args.kept.run.state cs).switches) c.into_left.ensures
-    ∙ ap (λ (x : Domain). x.switches) same.made.domain
+pub invariant_of-result-clause-inside : goal.invariant_of-result-clause-inside
+invariant_of-result-clause-inside c =
+    let k = c.requires.kept in
+    let cpus = ap (λ (d : Domain). d.cpus) c.in-Ok.ensures.domain in
+    omega (arith, cpus, kept_cpus k.section c.args.kept k.same, c.requires.inside)
 
-pub returns-clause-names : goal.returns-clause-names
-returns-clause-names c = λ s same.
+pub returns : goal.returns
+returns c = λ s is same.
     let run = c.args.kept.run in
     let d = c.in-Ok.domain.domain in
     let names = c.in-Ok.domain.names in
+    let left = c.into_left.result in
+    let switches : d.switches ++ (after_calls (without_switches d) left).switches ≡ (domain_of s).switches =
+    sym (switches_left d left)
+    ∙ ap (λ (x : Domain). (after_calls x left).switches) c.in-Ok.ensures.domain
+    ∙ ap (λ (cs : List Call). (after_calls run.state cs).switches) c.into_left.ensures
+    ∙ ap (λ (x : Domain). x.switches) same.made.domain in
     let as_before : name_of_task names ≡ name_of_task run.names = λ i m. c.in-Ok.ensures.names m i in
-    λ n.
+    let each : (n : ℕ) → names_of d left (name_of_task names) n ≡ names_in s n = λ n.
     ap (λ (cs : List Call). names_of d cs (name_of_task names) n) c.into_left.ensures
     ∙ ap (λ (e : Domain). names_of e c.args.kept.calls (name_of_task names) n) c.in-Ok.ensures.domain
     ∙ ap (λ (f : ℕ → List ℕ). names_of run.state c.args.kept.calls f n) as_before
-    ∙ same.made.called n
+    ∙ same.made.called n in
+    let called : names_of d left (name_of_task names) ≡ names_in s = λ i n. each n i in
+    ap (λ (f : ℕ → List ℕ). run_as c.args.base f (d.switches ++ (after_calls (without_switches d) left).switches)) called ∙ ap (λ (ss : List Switch). run_as c.args.base (names_in s) ss) switches

@@ -1,0 +1,32 @@
+use Rattle.std.proofs.Common.{◌≡◌, ℕ, suc, ◌+◌, ◌<◌, ◌≤◌, length, map, set, subst, arith}
+use Rattle.std.proofs.lemmas.List.{length-map}
+use Rattle.switch_text.proofs.SliceFronts.{HaveForgotten, forgotten_none, forgotten_more, forgotten_left, forgotten_split}
+use Rattle.switch_text.proofs.slices.forget_all.Goals as goal
+
+pub runs-init : goal.runs-init
+runs-init g c = forgotten_none c.args.cut (map g.S.Slices.sliced c.args.slices.now)
+
+pub runs-preserved : goal.runs-preserved
+runs-preserved g c =
+    let f = g.S.Slices.sliced in
+    let i = c.runs.slice-index in
+    let xs = c.runs.slices in
+    let y = c.forget.new.slices in
+    let olds = c.args.slices.now in
+    let inside : i < length xs = omega (arith, c.runs-test.true, c.runs.auto.slices) in
+    let next : suc i ≡ i + 1 = omega arith in
+    subst (λ (k : ℕ). HaveForgotten c.args.cut k (map f olds) (map f (set xs i y))) next (forgotten_more f c.args.cut i olds xs y _ c.runs.invariant inside c.forget.ensures.left c.forget.ensures.split)
+
+pub returns-clause-left : goal.returns-clause-left
+returns-clause-left g c =
+    let f = g.S.Slices.sliced in
+    let olds = c.args.slices.now in
+    let done : length (map f olds) ≤ c.runs.slice-index = omega (arith, length-map olds f, c.runs-test.false) in
+    forgotten_left c.args.cut c.runs.slice-index (map f olds) (map f c.runs.slices) done c.runs.invariant
+
+pub returns-clause-split : goal.returns-clause-split
+returns-clause-split g c =
+    let f = g.S.Slices.sliced in
+    let olds = c.args.slices.now in
+    let done : length (map f olds) ≤ c.runs.slice-index = omega (arith, length-map olds f, c.runs-test.false) in
+    forgotten_split c.args.cut c.runs.slice-index (map f olds) (map f c.runs.slices) done c.runs.invariant

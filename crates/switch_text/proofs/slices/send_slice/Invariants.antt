@@ -1,4 +1,0 @@
-use Rattle.switch_text.proofs.slices.send_slice.Given as goal
-
-abbrev pub ghost-send_runs : goal.ghost-send_runs
-ghost-send_runs g a = λ run. g.names
