@@ -394,6 +394,7 @@ WRONG = {
     "run --from 0": UNCUT,
     "run --to 4398046511104": UNCUT,
     "run --print jobs --from 6 --to 5": UNCUT,
+    "run --print promises --to 6": UNCUT,
     "run --print calls --from 1 --rt-runtime 2000000": UNCUT,
     "replay --from 1": UNCUT,
     "replay --print events --to 9": UNCUT,

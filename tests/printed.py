@@ -1,5 +1,7 @@
-"""The texts of --print beside trace, calls and replies: what happens, the jobs, the summary."""
-from texts import A, B, BUSY, DOMAIN, HEADER, IDLE, ONE_MINUTE, RACE, T1, THROTTLED, TWO_DOMAINS, Row, calls, scenario, switch
+"""The texts of --print beside trace, calls and replies: what happens, the jobs, the summary, the promises."""
+from pathlib import Path
+
+from texts import A, B, BUSY, DOMAIN, HEADER, IDLE, ONE_MINUTE, RACE, T1, THROTTLED, TWO_DOMAINS, Row, calls, deadline, scenario, switch, working
 
 # What may happen to a task: the event, its last field, and whether the task itself stands in front of the line, where a tick ends.
 ENDS, NEXT, SPENT = ("dl_job_end", None, True), ("sched_wakeup", "cpu", True), ("dl_throttle", "deadline", True)
@@ -362,15 +364,129 @@ RUNS = [
     Row("the same by six clients and two workers", "run --domains 1,1 --clients 6 --workers 2 --print summary", TWO_DOMAINS, 0, OF_TWO, ""),
 ]
 
+PROMISE_HEADER = "#          task    pid dom   work_max    gap_min promise\n"
+EXAMPLES = Path(__file__).parent.parent / "examples"
+
+
+def promises(*tasks):
+    """The line of each task: its name and number, its domain, its longest work and shortest gap, and the answer."""
+    return PROMISE_HEADER + "".join(
+        f"{name:>15} {1000 + number:>6} {domain:>3} {work:>10} {gap:>10} {answer}\n" for (name, number), domain, work, gap, answer in tasks
+    )
+
+
+def promised(example, words, *tasks):
+    return Row(f"promises of {example}", f"run {words} --print promises", (EXAMPLES / f"{example}.json").read_text(), 0, promises(*tasks), "")
+
+
+def timer(us):
+    return f',"timer":{{"ref":"unique","period":{us}}}'
+
+
+# With the whole CPU as the limit each budget is kept, and c and d are late: their shares are rounded down (docs/PROMISES.md).
+FULL_CPU = scenario(*((name, deadline(10000, 30000, timer(30000))) for name in "abc"), ("d", deadline(2, 2000000, timer(2000000))), duration=20)
+THIRDS = [((name, n), 0, 10000, 30000) for n, name in enumerate("abc", 1)]
+A_TRIFLE = ("d", 4), 0, 2, 2000000
+# The first seven are each in a domain of its own; EACH has one for each answer.
+EACH = scenario(
+    ("kept", working(30, 100, 30, ',"sleep":100,"cpus":[0]')),
+    ("over", working(30, 100, 20, ',"sleep":100,"run1":11,"cpus":[1]')),
+    ("endless", working(30, 100, 5, ',"cpus":[2]')),
+    ("near", working(30, 100, 30, timer(99) + ',"cpus":[3]')),
+    ("mixed", working(30, 100, 30, ',"sleep":100,"run1":20' + timer(100) + ',"cpus":[4]')),
+    ("short", working(30, 100, 30, ',"dl-deadline":99,"sleep":100,"cpus":[5]')),
+    ("apart", working(30, 100, 30, ',"sleep":100,"cpus":[6,7]')),
+    ("beside", working(30, 100, 30, ',"sleep":100,"cpus":[5]')),
+    ("small", working(1, 100, 1, ',"cpus":[0]')),
+    ("nowhere", working(30, 100, 10, ',"loop":2,"sleep":100,"run1":20,"cpus":[0,1]')),
+    ("busy", working(70, 100, 70, ',"loop":1,"cpus":[0]')),
+)
+PROMISES = [
+    promised("periodic", "", (("sensor", 1), 0, 40000, 200000, "never late"), (("control", 2), 0, 180000, 500000, "never late")),
+    promised(
+        "late",
+        "--domains 2",
+        (("light-0", 1), 0, 2000, 10000, "several CPUs"),
+        (("light-1", 2), 0, 2000, 10000, "several CPUs"),
+        (("heavy", 3), 0, 9000, "-", "several CPUs"),
+    ),
+    promised("reclaim", "--reclaim", (("idler", 1), 0, 10000, 90000, "reclaiming"), (("worker", 2), 0, 300000, "-", "reclaiming")),
+    promised("reclaim", "", (("idler", 1), 0, 10000, 90000, "near releases"), (("worker", 2), 0, 300000, "-", "over budget")),
+    promised("two-phases", "", (("player", 1), 0, 80000, 20000, "over budget")),
+    promised("overrun", "", (("camera", 1), 0, 130000, 100000, "near releases")),
+    Row(
+        "promises of tasks of which five are refused",
+        "run --domains 2 --print promises",
+        RACE,
+        0,
+        promises(*(((f"t-{n}", n + 1), 0, 100, 900, "several CPUs") if n < 3 else ((f"t-{n}", n + 1), "-", 100, 900, "refused") for n in range(8))),
+        BUSY,
+    ),
+    Row(
+        "promises, each for its own reason",
+        "run --domains 1,1,1,1,1,1,2 --clients 5 --print promises",
+        EACH,
+        0,
+        promises(
+            (("kept", 1), 0, 30, 100, "never late"),
+            (("over", 2), 1, 31, 100, "over budget"),
+            (("endless", 3), 2, "-", "-", "over budget"),
+            (("near", 4), 3, 30, 99, "near releases"),
+            (("mixed", 5), 4, 30, 100, "mixed waits"),
+            (("short", 6), 5, 30, 100, "short deadline"),
+            (("apart", 7), 6, 30, 100, "several CPUs"),
+            (("beside", 8), 5, 30, 100, "short deadline"),
+            (("small", 9), "-", "-", "-", "refused"),
+            (("nowhere", 10), "-", 30, 100, "refused"),
+            (("busy", 11), "-", 70, "-", "refused"),
+        ),
+        "dlsim: task 9 EINVAL 22 Small\ndlsim: task 10 EPERM 1\ndlsim: task 11 EBUSY 16 seen 314572\n",
+    ),
+    Row(
+        "promises at the full limit",
+        "run --rt-runtime 1000000 --print promises",
+        FULL_CPU,
+        0,
+        promises(*((*task, "full limit") for task in (*THIRDS, A_TRIFLE))),
+        "",
+    ),
+    Row(
+        "and the summary, with late jobs",
+        "run --rt-runtime 1000000 --print summary",
+        FULL_CPU,
+        0,
+        summary(
+            [
+                (("a", 1), 0, 667, 0, (10000, 10009, 10020, 19980), (0, 0), (0, 0, 6670000), ("33.35", "33.33")),
+                (("b", 2), 0, 666, 0, (20000, 20009, 20018, 9982), (0, 0), (0, 0, 6669980), ("33.34", "33.33")),
+                (("c", 3), 0, 666, 9, (30000, 30000, 30002, -2), (666, 0), (666, 0, 6660000), ("33.30", "33.33")),
+                (("d", 4), 0, 10, 3, (1980002, 1989003, 2000006, -6), (3, 0), (3, 0, 20), ("0.00", "0.00")),
+            ],
+            [(0, 0, 20000000, "100.00", 2010)],
+            [(0, 1, 1048576, 1048576, "100.00", 20000000)],
+        ),
+        "",
+    ),
+    Row(
+        "below the full limit one is refused, and the others are never late",
+        "run --print promises",
+        FULL_CPU,
+        0,
+        promises(*((*task, "never late") for task in THIRDS[:2]), (("c", 3), "-", 10000, 30000, "refused"), (*A_TRIFLE, "never late")),
+        "dlsim: task 3 EBUSY 16 seen 699050\n",
+    ),
+]
+
 # Of an input that is none nothing is written, whatever is asked for.
 REFUSALS = [
     row
-    for text in ("events", "jobs", "summary")
+    for text in ("events", "jobs", "summary", "promises")
     for row in (
-        Row(f"no calls text: {text}", f"replay --print {text}", "dlcalls 1\n", 1, "", "dlsim: calls 30 line 2\n"),
         Row(f"no JSON: {text}", f"run --print {text}", '{"a":01}', 1, "", "dlsim: json 10 at 6\n"),
         Row(f"no scenario: {text}", f"run --print {text}", scenario(), 1, "", "dlsim: scenario 20\n"),
     )
+] + [
+    Row(f"no calls text: {text}", f"replay --print {text}", "dlcalls 1\n", 1, "", "dlsim: calls 30 line 2\n") for text in ("events", "jobs", "summary")
 ]
 
-ROWS = [*REPLAYS, *RUNS, *REFUSALS]
+ROWS = [*REPLAYS, *RUNS, *PROMISES, *REFUSALS]

@@ -93,6 +93,7 @@ print_some prints.Replies bad = absurd (omega arith)
 print_some prints.Events bad = absurd (omega arith)
 print_some prints.Jobs bad = absurd (omega arith)
 print_some prints.Summary bad = absurd (omega arith)
+print_some prints.Promises bad = absurd (omega arith)
 print_some (prints.Chart span) bad = absurd (omega arith)
 
 pub print_named : (rows : List Row) (text : List ℕ) (words : SpanWords) (p : Print) → IsTextAt rows (codes "print") text → AreSpanWordsAt rows words
@@ -108,8 +109,8 @@ pub record IsOther (text : List ℕ) : Type 0 where
   pub summary : text ≡ codes "summary" → ⊥
 
 pub print_other : (rows : List Row) (text : List ℕ) (words : SpanWords) → IsTextAt rows (codes "print") text → AreSpanWordsAt rows words
-    → (text ≡ codes "calls" → ⊥) → IsOther text → no_part_asked words ≡ Ok tt → IsPrintAt rows prints.Trace
-print_other rows text words read at_words calls differs cut = other print_text span_in prints.Trace rows text words read at_words go cut
+    → (text ≡ codes "calls" → ⊥) → (text ≡ codes "promises" → ⊥) → IsOther text → no_part_asked words ≡ Ok tt → IsPrintAt rows prints.Trace
+print_other rows text words read at_words calls promises differs cut = other print_text span_in prints.Trace rows text words read at_words go cut
   where
     go : (p : Print) → text ≡ print_text p → codes "trace" ≡ print_text p
     go prints.Trace is = refl
@@ -118,6 +119,7 @@ print_other rows text words read at_words calls differs cut = other print_text s
     go prints.Events is = absurd (differs.events is)
     go prints.Jobs is = absurd (differs.jobs is)
     go prints.Summary is = absurd (differs.summary is)
+    go prints.Promises is = absurd (promises is)
     go (prints.Chart span) is = absurd (differs.chart is)
 
 -- ---- of a replay

@@ -22,7 +22,7 @@ AreTexts texts names = map (λ name. name.now) names.now ≡ texts
 abbrev pub run_texts : List Text
 run_texts =
     codes "trace" ∷ codes "calls" ∷ codes "replies" ∷ codes "events"
-    ∷ codes "jobs" ∷ codes "summary" ∷ codes "chart" ∷ []
+    ∷ codes "jobs" ∷ codes "summary" ∷ codes "promises" ∷ codes "chart" ∷ []
 
 -- what `--print` of `replay` takes
 abbrev pub replay_texts : List Text

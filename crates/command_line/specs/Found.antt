@@ -73,6 +73,7 @@ print_text prints.Replies = codes "replies"
 print_text prints.Events = codes "events"
 print_text prints.Jobs = codes "jobs"
 print_text prints.Summary = codes "summary"
+print_text prints.Promises = codes "promises"
 print_text (prints.Chart span) = codes "chart"
 
 abbrev pub span_in : Print → Option Span
@@ -82,6 +83,7 @@ span_in prints.Replies = None
 span_in prints.Events = None
 span_in prints.Jobs = None
 span_in prints.Summary = None
+span_in prints.Promises = None
 span_in (prints.Chart span) = Some span
 
 abbrev pub IsPrintAt : List Row → Print → Type 0

@@ -33,8 +33,8 @@ pub const MOST_CLIENTS: u64 = 64;
 /// How many workers may compute a domain.
 pub const MOST_WORKERS: u64 = 8;
 
-const RUN_TEXTS: [&str; 7] = [
-    "trace", "calls", "replies", "events", "jobs", "summary", "chart",
+const RUN_TEXTS: [&str; 8] = [
+    "trace", "calls", "replies", "events", "jobs", "summary", "promises", "chart",
 ];
 
 const REPLAY_TEXTS: [&str; 6] = ["trace", "replies", "events", "jobs", "summary", "chart"];

@@ -69,6 +69,9 @@ Out: the text that --print names, of all domains:
      jobs     a line for each job: its release, end, response time and slack
      summary  a table each of the tasks, the CPUs and the domains: late jobs,
               response times, throttles, CPU time, bandwidth
+     promises a line for each task: `never late` in a run of any length and
+              whatever the other tasks do, or why that is not promised; the
+              tasks are admitted, and no time passes
      chart    an SVG picture, for a browser: where each task ran, wanted a CPU
               or was throttled, and when its jobs were released and due; the
               part of the run from --from to --to

@@ -100,6 +100,7 @@ fn print_of(found: &ArgMatches<'_>) -> Result<Print, WordsFault>
         "events" => Print::Events,
         "jobs" => Print::Jobs,
         "summary" => Print::Summary,
+        "promises" => Print::Promises,
         _ => Print::Trace,
     })
 }

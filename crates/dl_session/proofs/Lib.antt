@@ -8,6 +8,12 @@ pub mod OrderSplit
 pub mod ByCap
 pub mod OrderLaw
 pub mod Logged
+pub mod WrittenAs
 pub mod PrintedAs
+pub mod Checked
+pub mod Numbering
+pub mod OfTasks
+pub mod Rows
+pub mod KeptPromises
 pub mod Ran
 pub mod Endings

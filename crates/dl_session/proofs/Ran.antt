@@ -31,10 +31,13 @@ use Rattle.session.specs.Options.{IsSessionOf}
 use Rattle.dl_session.specs.ScenarioAnswers.{AnswersScenario}
 use Rattle.dl_session.specs.FullBook.{IsFullDomain}
 use Rattle.calls_trace.specs.Answer.{Streams, IsInput, NothingWritten}
-use Rattle.dl_session.specs.RunAnswer.{IsJson, IsScenario, with_reclaim, IsRun, printed_text, IsRunAnswer, IsRunFault}
+use Rattle.run_options.specs.declared.options.Print.{Print}
+use Rattle.run_options.specs.declared.options.Print.TheVariants as prints
+use Rattle.deadline_promise.specs.Answer.{IsPromiseKept}
+use Rattle.dl_session.specs.RunAnswer.{IsJson, IsScenario, with_reclaim, advance_for, IsRun, IsTextOfRun, IsRunAnswer, IsRunFault}
+use Rattle.dl_session.specs.private.Printing.{IsMadeText, IsWrittenAs, IsUnwrittenAs}
 use Rattle.calls_trace.specs.declared.fault.TraceFault.{TraceFault}
 use Rattle.calls_trace.specs.declared.fault.TraceFault.TheVariants as traces
-use Rattle.calls_trace.specs.Written.{IsWritten, IsUnwritten}
 use Rattle.session.specs.RunEnd.{FirstIsOne, IsFinished, IsFullWith, IsRunStopped}
 use Rattle.session.specs.declared.fault.EndFault.{EndFault}
 use Rattle.session.specs.declared.fault.EndFault.TheVariants as ends
@@ -42,6 +45,8 @@ use Rattle.dl_session.specs.Upward.{of_end, from_trace}
 use Rattle.dl_session.specs.private.Running.{IsJsonTold, IsScenarioTold, IsRan, IsOrMemory, IsHalted}
 use Rattle.dl_session.proofs.ScenarioLaw.{answers_all, answers_tasks}
 use Rattle.dl_session.proofs.OrderLaw.{in_order}
+use Rattle.dl_session.proofs.Numbering.{AreFrom, scenario_from}
+use Rattle.dl_session.proofs.KeptPromises.{promised}
 use Rattle.dl_session.proofs.Logged.{left_as}
 use Rattle.calls_trace.proofs.CallerLemmas.{read_again, same_trace}
 use Rattle.session.proofs.CallerLemmas.{length_sets}
@@ -141,19 +146,21 @@ full_domain id tasks duration cs es refused some new asked met = (
   },
 )
 
-abbrev pub ran_answers : (o : Options) (scenario : ScenarioView) (duration : ℕ) (wanted : Wanted) (given tasks : List TaskSpecView) (id : SessionId) (f : Finished)
-    → record { duration_us = duration; tasks = given } ≡ scenario → tasks ≡ map (with_reclaim o.reclaim) given → IsSessionOf o id → IsRan id tasks duration wanted f
-    → AnswersScenario id o.clients (map (with_reclaim o.reclaim) scenario.tasks) scenario.duration_us (map (λ h. h.entries) f.report.histories.items) f.report.refused.items
-ran_answers o scenario duration wanted given tasks id f view same session ran =
+abbrev pub ran_answers : (o : Options) (scenario : ScenarioView) (duration advance : ℕ) (wanted : Wanted) (given tasks : List TaskSpecView) (id : SessionId) (f : Finished)
+    → record { duration_us = duration; tasks = given } ≡ scenario → advance ≡ advance_for o.print duration → tasks ≡ map (with_reclaim o.reclaim) given → IsSessionOf o id → IsRan id tasks advance wanted f
+    → AnswersScenario id o.clients (map (with_reclaim o.reclaim) scenario.tasks) (advance_for o.print scenario.duration_us) (map (λ h. h.entries) f.report.histories.items) f.report.refused.items
+ran_answers o scenario duration advance wanted given tasks id f view far same session ran =
     let hs = map (λ h. h.entries) f.report.histories.items in
-    subst (λ (x : ScenarioView). AnswersScenario id o.clients (map (with_reclaim o.reclaim) x.tasks) x.duration_us hs f.report.refused.items) view
-    (subst (λ (ts : List TaskSpecView). AnswersScenario id o.clients ts duration hs f.report.refused.items) same
-    (subst (λ (n : ℕ). AnswersScenario id n tasks duration hs f.report.refused.items) session.clients ran.answers))
+    subst (λ (x : ScenarioView). AnswersScenario id o.clients (map (with_reclaim o.reclaim) x.tasks) (advance_for o.print x.duration_us) hs f.report.refused.items) view
+    (subst (λ (ts : List TaskSpecView). AnswersScenario id o.clients ts (advance_for o.print duration) hs f.report.refused.items) same
+    (subst (λ (n : ℕ). AnswersScenario id n tasks (advance_for o.print duration) hs f.report.refused.items) session.clients
+    (subst (λ (n : ℕ). AnswersScenario id id.clients tasks n hs f.report.refused.items) far ran.answers)))
 
-abbrev pub is_run : (s : Streams) (o : Options) (scenario : ScenarioView) (duration : ℕ) (wanted : Wanted) (given tasks : List TaskSpecView) (id : SessionId) (f : Finished)
-    → AreOptions o → IsScenario s scenario → record { duration_us = duration; tasks = given } ≡ scenario → tasks ≡ map (with_reclaim o.reclaim) given → IsSessionOf o id → IsRan id tasks duration wanted f
+abbrev pub is_run : (s : Streams) (o : Options) (scenario : ScenarioView) (duration advance : ℕ) (wanted : Wanted) (given tasks : List TaskSpecView) (id : SessionId) (f : Finished)
+    → AreOptions o → IsScenario s scenario → record { duration_us = duration; tasks = given } ≡ scenario → advance ≡ advance_for o.print duration → tasks ≡ map (with_reclaim o.reclaim) given → IsSessionOf o id
+    → IsRan id tasks advance wanted f
     → IsRun s o f.report.histories.items f.report.refused.items
-is_run s o scenario duration wanted given tasks id f options input view same session ran = record {
+is_run s o scenario duration advance wanted given tasks id f options input view far same session ran = record {
   scenario = scenario;
   input = input;
   id = id;
@@ -167,35 +174,67 @@ is_run s o scenario duration wanted given tasks id f options input view same ses
         read_again f.report.histories.items (omega (arith, options.some_domains, domains, count)) (omega (arith, options.few_domains, domains, count)) (λ d x inside. (ran.left.histories d x (omega (arith, inside, count))).spelled);
     same = same_trace f.report.histories.items;
   };
-  answers = ran_answers o scenario duration wanted given tasks id f view same session ran;
-  in_order = in_order id o.clients (map (with_reclaim o.reclaim) scenario.tasks) scenario.duration_us f.report.histories.items f.report.refused.items options.a_client ran.left.count ran.left.histories
-      (ran_answers o scenario duration wanted given tasks id f view same session ran);
+  answers = ran_answers o scenario duration advance wanted given tasks id f view far same session ran;
+  in_order = in_order id o.clients (map (with_reclaim o.reclaim) scenario.tasks) (advance_for o.print scenario.duration_us) f.report.histories.items f.report.refused.items options.a_client ran.left.count ran.left.histories
+      (ran_answers o scenario duration advance wanted given tasks id f view far same session ran);
 }
+
+-- ---- what is written of it
+
+-- what was made is what is printed: promises are kept
+printed_as : (print : Print) (duration : ℕ) (id : SessionId) (clients : ℕ) (tasks : List TaskSpecView) (hs : List SectionView) (refused : List (ℕ × Refusal)) (text : List ℕ)
+    → IsPromiseKept → AreFrom 1 tasks → length hs ≡ length id.cpu_sets → ((d : ℕ) (x : SectionView) → IsDomainIndex id d → IsHistoryOf id d [] (get_or hs d x))
+    → AnswersScenario id clients tasks (advance_for print duration) (map (λ h. h.entries) hs) refused → IsMadeText print tasks hs text → IsTextOfRun print tasks hs text
+printed_as prints.Trace duration id clients tasks hs refused text kept numbered count legal answers made = made
+printed_as prints.Calls duration id clients tasks hs refused text kept numbered count legal answers made = made
+printed_as prints.Replies duration id clients tasks hs refused text kept numbered count legal answers made = made
+printed_as prints.Events duration id clients tasks hs refused text kept numbered count legal answers made = made
+printed_as prints.Jobs duration id clients tasks hs refused text kept numbered count legal answers made = made
+printed_as prints.Summary duration id clients tasks hs refused text kept numbered count legal answers made = made
+printed_as prints.Promises duration id clients tasks hs refused text kept numbered count legal answers made = promised id clients tasks hs refused text kept numbered count legal answers made
+printed_as (prints.Chart span) duration id clients tasks hs refused text kept numbered count legal answers made = made
+
+run_printed : (s : Streams) (o : Options) (hs : List SectionView) (refused : List (ℕ × Refusal)) (run : IsRun s o hs refused) (tasks : List TaskSpecView) (written : List SectionView) (text : List ℕ)
+    → IsPromiseKept → tasks ≡ map (with_reclaim o.reclaim) run.scenario.tasks → written ≡ hs → IsMadeText o.print tasks written text → IsTextOfRun o.print (map (with_reclaim o.reclaim) run.scenario.tasks) hs text
+run_printed s o hs refused run tasks written text kept same_tasks same made =
+    printed_as o.print run.scenario.duration_us run.id o.clients (map (with_reclaim o.reclaim) run.scenario.tasks) hs refused text kept
+    (scenario_from run.input.value run.scenario o.reclaim run.input.parsed) run.count run.legal run.answers
+    (subst (λ (ts : List TaskSpecView). IsMadeText o.print ts hs text) same_tasks (subst (λ (xs : List SectionView). IsMadeText o.print tasks xs text) same made))
+
+pub tasks_as : (o : Options) (scenario : ScenarioView) (duration : ℕ) (given tasks : List TaskSpecView) → record { duration_us = duration; tasks = given } ≡ scenario → tasks ≡ map (with_reclaim o.reclaim) given
+    → tasks ≡ map (with_reclaim o.reclaim) scenario.tasks
+tasks_as o scenario duration given tasks view same = same ∙ ap (λ (x : ScenarioView). map (with_reclaim o.reclaim) x.tasks) view
 
 -- the text of the run was written
-pub run_answered : (s : Streams) (o : Options) (scenario : ScenarioView) (duration : ℕ) (wanted : Wanted) (given tasks : List TaskSpecView) (id : SessionId) (f : Finished) (histories : List SectionView)
-    → AreOptions o → IsScenario s scenario → record { duration_us = duration; tasks = given } ≡ scenario → tasks ≡ map (with_reclaim o.reclaim) given → IsSessionOf o id → IsRan id tasks duration wanted f
-    → histories ≡ f.report.histories.items → HasNoFault s.reader → IsWritten s.writer (printed_text o.print histories) → IsRunAnswer s o f.report
-run_answered s o scenario duration wanted given tasks id f histories options input view same session ran written_are reads written = record {
-  run = is_run s o scenario duration wanted given tasks id f options input view same session ran;
-  left = ran.left;
-  written = subst (λ (hs : List SectionView). Appends s.writer.before.bytes s.writer.after.bytes (printed_text o.print hs)) written_are written.taken;
-  reads = reads;
-  writes = written.writes;
-}
+pub run_answered : (s : Streams) (o : Options) (scenario : ScenarioView) (duration advance : ℕ) (wanted : Wanted) (given tasks : List TaskSpecView) (id : SessionId) (f : Finished) (histories : List SectionView)
+    → IsPromiseKept → AreOptions o → IsScenario s scenario → record { duration_us = duration; tasks = given } ≡ scenario → advance ≡ advance_for o.print duration → tasks ≡ map (with_reclaim o.reclaim) given → IsSessionOf o id
+    → IsRan id tasks advance wanted f → histories ≡ f.report.histories.items → HasNoFault s.reader → IsWrittenAs (IsMadeText o.print tasks histories) s.writer → IsRunAnswer s o f.report
+run_answered s o scenario duration advance wanted given tasks id f histories kept options input view far same session ran written_are reads written =
+    let run = is_run s o scenario duration advance wanted given tasks id f options input view far same session ran in
+    record {
+      run = run;
+      left = ran.left;
+      text = written.text;
+      printed = run_printed s o f.report.histories.items f.report.refused.items run tasks histories written.text kept (tasks_as o scenario duration given tasks view same) written_are written.said;
+      written = written.written.taken;
+      reads = reads;
+      writes = written.written.writes;
+    }
 
 -- the last step found a fault
-pub run_faulted : (s : Streams) (o : Options) (histories written : List SectionView) (refused : List (ℕ × Refusal)) (e : TraceFault)
-    → IsRun s o histories refused → written ≡ histories → HasNoFault s.reader → IsUnwritten s.writer (printed_text o.print written) e → IsRunFault s o (from_trace e)
-run_faulted s o histories written refused (traces.Write n) run same reads unwritten = record {
+pub run_faulted : (s : Streams) (o : Options) (histories written : List SectionView) (refused : List (ℕ × Refusal)) (tasks : List TaskSpecView) (e : TraceFault) (run : IsRun s o histories refused)
+    → IsPromiseKept → tasks ≡ map (with_reclaim o.reclaim) run.scenario.tasks → written ≡ histories → HasNoFault s.reader → IsUnwrittenAs (IsMadeText o.print tasks written) s.writer e → IsRunFault s o (from_trace e)
+run_faulted s o histories written refused tasks (traces.Write n) run kept same_tasks same reads unwritten = record {
   histories = histories;
   refused = refused;
   run = run;
-  taken = subst (λ (hs : List SectionView). TakesFront s.writer.before.bytes s.writer.after.bytes (printed_text o.print hs) n) same unwritten.taken;
+  text = unwritten.text;
+  printed = run_printed s o histories refused run tasks written unwritten.text kept same_tasks same unwritten.said;
+  taken = unwritten.cut.taken;
   reads = reads;
-  writes = unwritten.writes;
+  writes = unwritten.cut.writes;
 }
-run_faulted s o histories written refused traces.Memory run same reads unwritten = record { unwritten = unwritten.kept; reads = reads; writes = unwritten.no_fault }
+run_faulted s o histories written refused tasks traces.Memory run kept same_tasks same reads unwritten = record { unwritten = unwritten.kept; reads = reads; writes = unwritten.no_fault }
 
 -- why the end was not made, as a run tells it
 pub halted : (P Q : Type 0) (e : EndFault) (f : SessionFault) → (P → Q) → IsRunStopped P e → f ≡ of_end e → IsHalted Q f
@@ -203,18 +242,18 @@ halted P Q ends.Full f make met is = subst (IsHalted Q) (sym is) (make met)
 halted P Q ends.Memory f make met is = subst (IsHalted Q) (sym is) tt
 
 -- a client's thread was not started, or a run had no room for an advance, or no memory
-pub run_halted : (s : Streams) (o : Options) (scenario : ScenarioView) (duration : ℕ) (given tasks : List TaskSpecView)
+pub run_halted : (s : Streams) (o : Options) (scenario : ScenarioView) (duration advance : ℕ) (given tasks : List TaskSpecView)
     (id : SessionId) (e : SessionFault) → IsScenario s scenario → record { duration_us = duration; tasks = given } ≡ scenario
-    → tasks ≡ map (with_reclaim o.reclaim) given → IsSessionOf o id → NothingWritten s → HasNoFault s.reader → HasNoFault s.writer
-    → IsHalted ((0 < duration) × IsFullDomain id id.clients tasks) e → IsRunFault s o e
-run_halted s o scenario duration given tasks id faults.Start input view same session unwritten reads writes met =
+    → advance ≡ advance_for o.print duration → tasks ≡ map (with_reclaim o.reclaim) given → IsSessionOf o id → NothingWritten s → HasNoFault s.reader → HasNoFault s.writer
+    → IsHalted ((0 < advance) × IsFullDomain id id.clients tasks) e → IsRunFault s o e
+run_halted s o scenario duration advance given tasks id faults.Start input view far same session unwritten reads writes met =
     record { scenario = scenario; input = input; unwritten = unwritten; reads = reads; writes = writes }
-run_halted s o scenario duration given tasks id faults.Memory input view same session unwritten reads writes met =
+run_halted s o scenario duration advance given tasks id faults.Memory input view far same session unwritten reads writes met =
     record { unwritten = unwritten; reads = reads; writes = writes }
-run_halted s o scenario duration given tasks id faults.Full input view same session unwritten reads writes met = record {
+run_halted s o scenario duration advance given tasks id faults.Full input view far same session unwritten reads writes met = record {
   scenario = scenario;
   input = input;
-  advances = subst (λ (x : ScenarioView). 0 < x.duration_us) view met.0;
+  advances = subst (λ (x : ScenarioView). 0 < advance_for o.print x.duration_us) view (subst (λ (n : ℕ). 0 < n) far met.0);
   id = id;
   session = session;
   full =
@@ -225,8 +264,8 @@ run_halted s o scenario duration given tasks id faults.Full input view same sess
   reads = reads;
   writes = writes;
 }
-run_halted s o scenario duration given tasks id (faults.Json f) input view same session unwritten reads writes met = absurd met
-run_halted s o scenario duration given tasks id (faults.Scenario f) input view same session unwritten reads writes met = absurd met
-run_halted s o scenario duration given tasks id (faults.Calls n) input view same session unwritten reads writes met = absurd met
-run_halted s o scenario duration given tasks id faults.Read input view same session unwritten reads writes met = absurd met
-run_halted s o scenario duration given tasks id (faults.Write n) input view same session unwritten reads writes met = absurd met
+run_halted s o scenario duration advance given tasks id (faults.Json f) input view far same session unwritten reads writes met = absurd met
+run_halted s o scenario duration advance given tasks id (faults.Scenario f) input view far same session unwritten reads writes met = absurd met
+run_halted s o scenario duration advance given tasks id (faults.Calls n) input view far same session unwritten reads writes met = absurd met
+run_halted s o scenario duration advance given tasks id faults.Read input view far same session unwritten reads writes met = absurd met
+run_halted s o scenario duration advance given tasks id (faults.Write n) input view far same session unwritten reads writes met = absurd met

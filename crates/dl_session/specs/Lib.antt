@@ -7,5 +7,6 @@ pub mod Comparing
 pub mod ScenarioAnswers
 pub mod FullBook
 pub mod InOrder
+pub mod Promised
 pub mod RunAnswer
 pub mod private

@@ -30,6 +30,7 @@ use Rattle.session.specs.Report.{IsHistoryOf, IsLeft}
 use Rattle.dl_session.specs.ScenarioAnswers.{AnswersScenario}
 use Rattle.dl_session.specs.FullBook.{IsFullDomain}
 use Rattle.dl_session.specs.InOrder.{sections_in_order}
+use Rattle.dl_session.specs.Promised.{ArePromises}
 use Rattle.reply_text.specs.Replies.{replies_of}
 use Rattle.calls_trace.specs.Replay.{trace_of_sections}
 use Rattle.calls_trace.specs.Told.{events_of_sections, jobs_of_sections, summary_of_sections}
@@ -57,6 +58,18 @@ with_reclaim reclaim t = if reclaim then record t { attr = record t.attr { flags
 
 -- ---- the run
 
+-- how far each domain is advanced, in microseconds: by the whole duration, and not at all for
+-- promises
+abbrev pub advance_for : Print → ℕ → ℕ
+advance_for prints.Trace duration = duration
+advance_for prints.Calls duration = duration
+advance_for prints.Replies duration = duration
+advance_for prints.Events duration = duration
+advance_for prints.Jobs duration = duration
+advance_for prints.Summary duration = duration
+advance_for prints.Promises duration = 0
+advance_for (prints.Chart span) duration = duration
+
 -- the calls text of histories is read again, as the same calls, and its replay writes the same
 -- trace
 pub record AreReplayed (histories : List SectionView) : Type 0 where
@@ -78,22 +91,29 @@ pub record IsRun (s : Streams) (o : Options) (histories : List SectionView)
       → IsHistoryOf id d [] (slice_index_or histories d x)
   pub replayed : AreReplayed histories
   pub answers : AnswersScenario id o.clients
-      (map (with_reclaim o.reclaim) scenario.tasks) scenario.duration_us
+      (map (with_reclaim o.reclaim) scenario.tasks) (advance_for o.print scenario.duration_us)
       (map (λ h. h.entries) histories) refused
   pub in_order : trace_of_sections histories
-      ≡ trace_of_sections (sections_in_order id answers.asked scenario.duration_us)
+      ≡ trace_of_sections
+      (sections_in_order id answers.asked (advance_for o.print scenario.duration_us))
 
 -- what is written of histories: the trace of their run, their calls text, their calls with the
 -- replies, the trace with what happens, the jobs or the figures of what happens, or a part of their
--- run as a chart
-abbrev pub printed_text : Print → List SectionView → List ℕ
-printed_text prints.Trace histories = trace_of_sections histories
-printed_text prints.Calls histories = spelling histories
-printed_text prints.Replies histories = replies_of histories
-printed_text prints.Events histories = events_of_sections histories
-printed_text prints.Jobs histories = jobs_of_sections histories
-printed_text prints.Summary histories = summary_of_sections histories
-printed_text (prints.Chart span) histories = chart_of_sections span histories
+-- run as a chart; or promises, of which this is said
+abbrev pub IsTextWith : (List ℕ → Type 0) → Print → List SectionView → List ℕ → Type 0
+IsTextWith promises prints.Trace histories text = text ≡ trace_of_sections histories
+IsTextWith promises prints.Calls histories text = text ≡ spelling histories
+IsTextWith promises prints.Replies histories text = text ≡ replies_of histories
+IsTextWith promises prints.Events histories text = text ≡ events_of_sections histories
+IsTextWith promises prints.Jobs histories text = text ≡ jobs_of_sections histories
+IsTextWith promises prints.Summary histories text = text ≡ summary_of_sections histories
+IsTextWith promises prints.Promises histories text = promises text
+IsTextWith promises (prints.Chart span) histories text = text ≡ chart_of_sections span histories
+
+-- what is written of the histories of a run with these tasks
+abbrev pub IsTextOfRun : Print → List TaskSpecView → List SectionView → List ℕ → Type 0
+IsTextOfRun print tasks histories text =
+    IsTextWith (ArePromises tasks histories) print histories text
 
 -- ---- what is answered
 
@@ -102,8 +122,10 @@ printed_text (prints.Chart span) histories = chart_of_sections span histories
 pub record IsRunAnswer (s : Streams) (o : Options) (r : Report) : Type 0 where
   pub run : IsRun s o r.histories.items r.refused.items
   pub left : IsLeft run.id [] r
-  pub written : Appends s.writer.before.bytes s.writer.after.bytes
-      (printed_text o.print r.histories.items)
+  pub text : List ℕ
+  pub printed : IsTextOfRun o.print (map (with_reclaim o.reclaim) run.scenario.tasks)
+      r.histories.items text
+  pub written : Appends s.writer.before.bytes s.writer.after.bytes text
   pub reads : HasNoFault s.reader
   pub writes : HasNoFault s.writer
 
@@ -135,7 +157,7 @@ pub record IsNoScenario (s : Streams) (fault : ScenarioFault) : Type 0 where
 pub record LacksRoomToAdvance (s : Streams) (o : Options) : Type 0 where
   pub scenario : ScenarioView
   pub input : IsScenario s scenario
-  pub advances : 0 < scenario.duration_us
+  pub advances : 0 < advance_for o.print scenario.duration_us
   pub id : SessionId
   pub session : IsSessionOf o id
   pub full : IsFullDomain id o.clients (map (with_reclaim o.reclaim) scenario.tasks)
@@ -157,8 +179,9 @@ pub record IsRunCutOff (s : Streams) (o : Options) (written : ℕ) : Type 0 wher
   pub histories : List SectionView
   pub refused : List (ℕ × Refusal)
   pub run : IsRun s o histories refused
-  pub taken : TakesFront s.writer.before.bytes s.writer.after.bytes
-      (printed_text o.print histories) written
+  pub text : List ℕ
+  pub printed : IsTextOfRun o.print (map (with_reclaim o.reclaim) run.scenario.tasks) histories text
+  pub taken : TakesFront s.writer.before.bytes s.writer.after.bytes text written
   pub reads : HasNoFault s.reader
   pub writes : HasOneFault s.writer
 

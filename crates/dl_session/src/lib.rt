@@ -29,6 +29,7 @@ mod comparing;
 mod ending;
 mod fault;
 mod printing;
+mod promising;
 mod putting;
 mod replaying;
 mod running;

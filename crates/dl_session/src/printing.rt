@@ -6,13 +6,14 @@ ghost use Rattle.calls_text.specs.Spelling.{spelling};
 ghost use Rattle.calls_text.specs.Histories.{AreLegal};
 ghost use Rattle.counted_io.specs.Sides.{faults_of, side};
 ghost use Rattle.calls_trace.specs.Written.{IsWritten, IsUnwritten};
-ghost use Rattle.dl_session.specs.RunAnswer.{printed_text};
 ghost use Rattle.dl_session.specs.private.Printing as printing;
 ghost use Rattle.dl_session.specs.private.Running.{AreLeftAs};
 
+use crate::promising::write_promises;
 use call_book::{Section, write_calls};
 use calls_trace::{ReplayPrint, TraceFault, write_heard_summary, write_run_as};
 use domain_run::{Log, State};
+use rtapp_scenario::TaskSpec;
 use run_figures::Accounting;
 use session::{Print, Wanted};
 use std::alloc::Global;
@@ -24,7 +25,7 @@ pub(crate) fn wanted_for(print: Print) -> Wanted
     ensures { result ≡ printing.wanted_for print }
 {
     match print {
-        Print::Trace | Print::Calls | Print::Replies => Wanted::Switches,
+        Print::Trace | Print::Calls | Print::Replies | Print::Promises => Wanted::Switches,
         Print::Events | Print::Jobs | Print::Chart(_) => Wanted::Happened,
         Print::Summary => Wanted::Figures,
     }
@@ -37,6 +38,8 @@ enum Source {
     Histories,
     /// Of what was heard while the run was made: its figures.
     Heard,
+    /// Of the tasks and the states: what is promised.
+    Tasks,
     /// Of states and logs: the text for which a replay of the calls text would be asked.
     Logs(ReplayPrint),
 }
@@ -51,6 +54,7 @@ fn source_of(print: Print) -> Source
         Print::Events => Source::Logs(ReplayPrint::Events),
         Print::Jobs => Source::Logs(ReplayPrint::Jobs),
         Print::Summary => Source::Heard,
+        Print::Promises => Source::Tasks,
         Print::Chart(span) => Source::Logs(ReplayPrint::Chart(span)),
     }
 }
@@ -80,7 +84,8 @@ fn write_histories<W: Write>(
 
 /// Writes the text of histories that led to these states, with what happened in them as these logs
 /// have it, where that is printed; where their figures are, as they were heard, and the states may
-/// have forgotten their switches. Nothing is run again.
+/// have forgotten their switches; or what is promised of the tasks in these states. Nothing is run
+/// again.
 ///
 /// # Errors
 /// [`TraceFault::Memory`]: a growth was refused, and nothing was written. [`TraceFault::Write`]:
@@ -88,6 +93,7 @@ fn write_histories<W: Write>(
 pub(crate) fn write_run<W: Write>(
     alloc: Global,
     print: Print,
+    tasks: &[TaskSpec],
     histories: &[Section],
     states: Vec<State>,
     logs: Vec<Log>,
@@ -102,13 +108,16 @@ pub(crate) fn write_run<W: Write>(
         heard.now }
     requires faults { faults_of writer.old < 2 ^ 63 }
     ensures ok { OnOk result
-        (IsWritten (side W.contents writer.old writer.new) (printed_text print histories.now)) }
+        (printing.IsWrittenAs (printing.IsMadeText print tasks.now histories.now)
+        (side W.contents writer.old writer.new)) }
     ensures err { IfErr result
-        (IsUnwritten (side W.contents writer.old writer.new) (printed_text print histories.now)) }
+        (printing.IsUnwrittenAs (printing.IsMadeText print tasks.now histories.now)
+        (side W.contents writer.old writer.new)) }
 {
     match source_of(print) {
         Source::Histories => write_histories(alloc, histories, writer),
         Source::Heard => write_heard_summary(alloc, histories, &states, heard, writer),
+        Source::Tasks => write_promises(alloc, &states, tasks, writer),
         Source::Logs(text) => write_run_as(alloc, text, histories, states, logs, writer),
     }
 }

@@ -7,6 +7,7 @@ ghost use Rattle.run_options.specs.Options.{AreOptions};
 ghost use Rattle.session.specs.Admissions.{AreNew};
 ghost use Rattle.calls_trace.specs.Answer.{streams, NothingWritten};
 ghost use Rattle.dl_session.specs.FullBook.{IsFullDomain};
+ghost use Rattle.dl_session.specs.RunAnswer as answers;
 ghost use Rattle.dl_session.specs.RunAnswer.{with_reclaim, IsScenario, IsRunAnswer, IsRunFault};
 ghost use Rattle.dl_session.specs.private.Running.{IsJsonTold, IsScenarioTold, IsRan, IsHalted};
 
@@ -14,10 +15,11 @@ use crate::admitting::admit_all;
 use crate::fault::SessionFault;
 use crate::printing::{wanted_for, write_run};
 use call_book::NoMemory;
+use deadline_promise::budgets_isolate;
 use json_order::{JsonFault, JsonKind, read_lent};
 use rtapp_scenario::{Scenario, ScenarioFault, TaskSpec, parse_lent};
 use session::{
-    Client, Finished, Names, Options, Parts, Report, Session, Turnstile, Wanted, end_run,
+    Client, Finished, Names, Options, Parts, Print, Report, Session, Turnstile, Wanted, end_run,
 };
 use std::alloc::Global;
 use std::io::{Read, Write};
@@ -85,6 +87,24 @@ fn flag_all(tasks: &mut Vec<TaskSpec>, reclaim: bool)
     }
 }
 
+/// How far each domain is advanced, in microseconds: by the whole duration, and not at all for
+/// promises.
+fn advance_for(print: Print, duration: u64) -> u64
+    ensures advance { result ≡ answers.advance_for print duration }
+    ensures most { result ≤ duration }
+{
+    match print {
+        Print::Promises => 0,
+        Print::Trace
+        | Print::Calls
+        | Print::Replies
+        | Print::Events
+        | Print::Jobs
+        | Print::Summary
+        | Print::Chart(_) => duration,
+    }
+}
+
 /// The clients of a session, as they wait.
 fn take_clients<N: Names>(
     alloc: Global,
@@ -147,11 +167,14 @@ fn run_in<N: Names + Send + Sync, T: Turnstile, X: Threads + Wait + Sync>(
 /// admission. Then client 1 advances each domain by the scenario's duration as the last entry of
 /// its book, the session is closed, and what is asked for is written of all domains: the trace, the
 /// calls text of the histories, these with their replies, the trace with what happens, the jobs,
-/// the summary, or a chart of a part of the run. A duration of 0 makes no advance.
+/// the summary, or a chart of a part of the run. A duration of 0 makes no advance. For promises
+/// there is none either: the tasks are admitted, and no time passes.
 ///
 /// `Ok`: the histories in the report are legal and answer the scenario together with the refusals,
 /// and what was written is the text of their run, and nothing else. A task that is refused is no
-/// fault: it stands in the report.
+/// fault: it stands in the report. Of promises it is the text of the answers, and a task that is
+/// said to be never late is not: whatever number of ticks is made after the same admissions, `late`
+/// in its figures is 0.
 ///
 /// # Errors
 /// [`SessionFault::Json`] and [`SessionFault::Scenario`] where the input is no scenario,
@@ -190,6 +213,8 @@ pub fn run<R: Read, W: Write, T: Turnstile, X: Threads + Wait + Sync>(
         return Err(SessionFault::Memory);
     };
     let many = options.clients;
+    // For the prover alone: that promises are kept.
+    budgets_isolate();
     let Finished {
         report,
         states,
@@ -201,7 +226,7 @@ pub fn run<R: Read, W: Write, T: Turnstile, X: Threads + Wait + Sync>(
         parts,
         many,
         &tasks,
-        duration_us,
+        advance_for(options.print, duration_us),
         wanted_for(options.print),
         turnstile,
     )?;
@@ -209,6 +234,7 @@ pub fn run<R: Read, W: Write, T: Turnstile, X: Threads + Wait + Sync>(
     match write_run(
         alloc,
         options.print,
+        &tasks,
         histories,
         states,
         logs,

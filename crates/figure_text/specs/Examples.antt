@@ -1,9 +1,11 @@
--- Worked rows: the texts of two domains.
+-- Worked rows: the texts of two domains, and of promises.
 use Rattle.std.specs.Prelude.{ℕ, ◌≡◌, ◌==◌, true, false, if◌then◌else◌, negsuc, List, [], ◌∷◌, Some, None, codes, refl}
 use Rattle.std.specs.Fmt.{digits}
 use Rattle.figure_text.specs.Columns.{share}
 use Rattle.figure_text.specs.Jobs.{JobsView, jobs_text}
 use Rattle.figure_text.specs.Summary.{SummaryView, summary_text}
+use Rattle.deadline_promise.specs.declared.answer.Promise.TheVariants.{NeverLate, Refused}
+use Rattle.figure_text.specs.Promises.{PromiseView, promises_text}
 
 abbrev names : ℕ → List ℕ
 names n = if n == 1 then codes "player" else codes "of-sixteen-bytes"
@@ -99,3 +101,29 @@ summary : summary_text (one ∷ other ∷ []) ≡ codes
     "#          task    pid dom    jobs    late   resp_min   resp_avg   resp_max   slack_min throttled throttled_us preempted migrated       cpu_us   used%    has%\n         player   1001   0       5       1      40000      40001     160000          -2         6            7         8        9       200000   20.00   25.00\nof-sixteen-bytes   1002   1       0       0          -          -          -           -         0            0         0        0            0    0.00   66.66\n#  cpu dom      busy_us   busy%  switches\n   000   0       560000   56.00        13\n   001   1            0    0.00         0\n   002   1            0    0.00         0\n#domain cpus  bandwidth        cap  taken%      time_us\n      0    1     681574     996147   68.42      1000000\n      1    2          0    1992294    0.00            0\n"
 unfolding digits
 summary = refl
+
+abbrev kept : PromiseView
+kept = record {
+  name = codes "sensor";
+  number = 1;
+  domain = Some 0;
+  work_max = Some 40000;
+  gap_min = Some 200000;
+  promise = NeverLate;
+}
+
+-- its work never ends, and no domain admitted it; a wide number widens its own line
+abbrev other_one : PromiseView
+other_one = record {
+  name = codes "of-sixteen-bytes";
+  number = 2;
+  domain = None;
+  work_max = None;
+  gap_min = Some 12345678901;
+  promise = Refused;
+}
+
+promises : promises_text (kept ∷ other_one ∷ []) ≡ codes
+    "#          task    pid dom   work_max    gap_min promise\n         sensor   1001   0      40000     200000 never late\nof-sixteen-bytes   1002   -          - 12345678901 refused\n"
+unfolding digits
+promises = refl

@@ -1,4 +1,5 @@
 pub mod Columns
 pub mod Jobs
 pub mod Summary
+pub mod Promises
 pub mod Examples

@@ -1,15 +1,18 @@
 //! The figures of runs, as texts.
 //!
-//! Meets the definitions of the jobs' text (`specs/Jobs.antt`) and of the summary's
-//! (`specs/Summary.antt`), over the columns of a table (`specs/Columns.antt`). To the crate above
-//! it promises that [`put_jobs`] and [`put_summary`] put exactly that text behind what stands
-//! before, or that the draft tells at its end that memory was refused.
+//! Meets the definitions of the jobs' text (`specs/Jobs.antt`), of the summary's
+//! (`specs/Summary.antt`) and of the promises' (`specs/Promises.antt`), over the columns of a table
+//! (`specs/Columns.antt`). To the crates above it promises that [`put_jobs`], [`put_summary`] and
+//! [`put_promises`] put exactly that text behind what stands before, or that the draft tells at its
+//! end that memory was refused.
 #![tactic(auto)]
 
 mod columns;
 mod jobs;
 mod names;
+mod promises;
 mod summary;
 
 pub use jobs::{DomainJobs, put_jobs};
+pub use promises::{PromiseRow, put_promises};
 pub use summary::{DomainSummary, put_summary};

@@ -18,6 +18,9 @@ pub enum Print {
     Jobs,
     /// The figures of each task, of each CPU and of each domain.
     Summary,
+    /// For each task, that it is never late, or the first reason why that is not promised. The
+    /// tasks are admitted, and no time passes.
+    Promises,
     /// A part of the run as a chart, an SVG file: which task ran where, when it wanted a CPU or was
     /// throttled, and when its jobs were released and due. [`Span::window`] says what is shown.
     Chart(Span),

@@ -16,6 +16,12 @@ const ONE: [&[u8]; 2] = [
     br#"{"tasks":{"t":{"policy":"SCHED_DEADLINE","dl-runtime":500,"dl-period":1000,"run":100}},"global":{"duration":0}}"#,
 ];
 
+/// What is promised of it: it works without end.
+const PROMISES: &[u8] = b"\
+#          task    pid dom   work_max    gap_min promise
+              t   1001   0          -          - over budget
+";
+
 /// A run of this scenario in a book of one entry: what is used of the word, or none where the book
 /// is full; and what is written.
 fn run_in_one_entry<R: Threads + Wait + Sync>(
@@ -36,7 +42,8 @@ fn run_in_one_entry<R: Threads + Wait + Sync>(
 }
 
 // A book of one entry has no room for the advance behind an admission, and is told to be full, also
-// where the run is heard: that is no want of memory. Without an advance it has room.
+// where the run is heard: that is no want of memory. Without an advance it has room, and promises
+// make none.
 #[test]
 fn history_of_one_entry(rt: HostRuntime) -> Result<(), Fail> {
     let [second, moment] = ONE;
@@ -46,5 +53,7 @@ fn history_of_one_entry(rt: HostRuntime) -> Result<(), Fail> {
     assert!(rt; used.is_none() && written.is_empty());
     let (used, written) = run_in_one_entry(&rt, rt.alloc(), moment, Print::Trace)?;
     assert!(rt; used == Some(524288) && written.as_slice() == b"# tracer: nop\n".as_slice());
+    let (used, written) = run_in_one_entry(&rt, rt.alloc(), second, Print::Promises)?;
+    assert!(rt; used == Some(524288) && written.as_slice() == PROMISES.as_slice());
     Ok(())
 }

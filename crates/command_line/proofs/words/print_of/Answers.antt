@@ -19,9 +19,12 @@ returns-in-jobs-clause-print c = print_named _ _ _ prints.Jobs c.text_of-text.en
 pub returns-in-summary-clause-print : goal.returns-in-summary-clause-print
 returns-in-summary-clause-print c = print_named _ _ _ prints.Summary c.text_of-text.ensures c.span_words_of-words.ensures c.in-summary.is (sym c.in_ok-read_uncut.ensures)
 
+pub returns-in-promises-clause-print : goal.returns-in-promises-clause-print
+returns-in-promises-clause-print c = print_named _ _ _ prints.Promises c.text_of-text.ensures c.span_words_of-words.ensures c.in-promises.is (sym c.in_ok-read_uncut.ensures)
+
 pub returns-in_default-clause-print : goal.returns-in_default-clause-print
 returns-in_default-clause-print c =
-    print_other _ _ _ c.text_of-text.ensures c.span_words_of-words.ensures c.in_default.not-calls (record {
+    print_other _ _ _ c.text_of-text.ensures c.span_words_of-words.ensures c.in_default.not-calls c.in_default.not-promises (record {
       chart = λ is. true≢false (sym ((bytes_eq-Decides _ _).1 is) ∙ (sym c.eq.ensures ∙ c.if-eq.false));
       replies = c.in_default.not-replies;
       events = c.in_default.not-events;

@@ -1,9 +1,14 @@
-use Rattle.std.proofs.Common.{List, ℕ, sym, subst, ◌∙◌}
-use Rattle.std.specs.Prelude.{IfErr, OnOk}
+use Rattle.std.proofs.Common.{List, sym, subst, ◌∙◌}
 use Rattle.counted_io.specs.Sides.{Side, side}
 use Rattle.calls_trace.specs.Heard.{AreRunsButSwitches}
-use Rattle.calls_trace.specs.Written.{IsUnwritten, IsWritten}
-use Rattle.dl_session.proofs.PrintedAs.{text_is, are_logged, are_figured, summary_alone}
+use Rattle.calls_trace.specs.Answer.{replayed_text}
+use Rattle.calls_trace.specs.Told.{summary_of_sections}
+use Rattle.calls_text.specs.Spelling.{spelling}
+use Rattle.domain_run.specs.Domain.{Domain}
+use Rattle.dl_session.specs.Promised.{IsRowOf, AreRows}
+use Rattle.dl_session.specs.private.Printing.{IsMadeText}
+use Rattle.dl_session.proofs.WrittenAs.{written_as, unwritten_as, written_also, unwritten_also}
+use Rattle.dl_session.proofs.PrintedAs.{text_is, are_logged, are_figured, summary_alone, calls_alone, rows_alone}
 use Rattle.dl_session.proofs.printing.write_run.Goals as goal
 
 -- ---- of states and logs
@@ -20,14 +25,16 @@ write_run_as-requires-clause-told g c = (are_logged c.args.print c.in-Logs.text 
 pub returns-in-Logs-clause-ok : goal.returns-in-Logs-clause-ok
 returns-in-Logs-clause-ok g c =
     let w : Side = side g.W.Write.contents c.args.writer.now c.write_run_as.new.writer in
-    let same = text_is c.args.print c.in-Logs.text (sym c.source_of.ensures ∙ c.in-Logs.is) c.args.histories.now in
-    subst (λ (t : List ℕ). OnOk c.write_run_as.result (IsWritten w t)) same c.write_run_as.ensures.ok
+    let hs = c.args.histories.now in
+    written_as c.write_run_as.result (IsMadeText c.args.print c.args.tasks.now hs) w (replayed_text c.in-Logs.text hs)
+    (text_is c.args.print c.in-Logs.text (sym c.source_of.ensures ∙ c.in-Logs.is) c.args.tasks.now hs) c.write_run_as.ensures.ok
 
 pub returns-in-Logs-clause-err : goal.returns-in-Logs-clause-err
 returns-in-Logs-clause-err g c =
     let w : Side = side g.W.Write.contents c.args.writer.now c.write_run_as.new.writer in
-    let same = text_is c.args.print c.in-Logs.text (sym c.source_of.ensures ∙ c.in-Logs.is) c.args.histories.now in
-    subst (λ (t : List ℕ). IfErr c.write_run_as.result (IsUnwritten w t)) same c.write_run_as.ensures.err
+    let hs = c.args.histories.now in
+    unwritten_as c.write_run_as.result (IsMadeText c.args.print c.args.tasks.now hs) w (replayed_text c.in-Logs.text hs)
+    (text_is c.args.print c.in-Logs.text (sym c.source_of.ensures ∙ c.in-Logs.is) c.args.tasks.now hs) c.write_run_as.ensures.err
 
 -- ---- of what was heard
 
@@ -45,11 +52,49 @@ write_heard_summary-requires-clause-heard g c = (are_figured c.args.print (sym c
 pub returns-in-Heard-clause-ok : goal.returns-in-Heard-clause-ok
 returns-in-Heard-clause-ok g c =
     let w : Side = side g.W.Write.contents c.args.writer.now c.write_heard_summary.new.writer in
-    let same = summary_alone c.args.print (sym c.source_of.ensures ∙ c.in-Heard.is) c.args.histories.now in
-    subst (λ (t : List ℕ). OnOk c.write_heard_summary.result (IsWritten w t)) same c.write_heard_summary.ensures.ok
+    let hs = c.args.histories.now in
+    written_as c.write_heard_summary.result (IsMadeText c.args.print c.args.tasks.now hs) w (summary_of_sections hs)
+    (summary_alone c.args.print (sym c.source_of.ensures ∙ c.in-Heard.is) c.args.tasks.now hs) c.write_heard_summary.ensures.ok
 
 pub returns-in-Heard-clause-err : goal.returns-in-Heard-clause-err
 returns-in-Heard-clause-err g c =
     let w : Side = side g.W.Write.contents c.args.writer.now c.write_heard_summary.new.writer in
-    let same = summary_alone c.args.print (sym c.source_of.ensures ∙ c.in-Heard.is) c.args.histories.now in
-    subst (λ (t : List ℕ). IfErr c.write_heard_summary.result (IsUnwritten w t)) same c.write_heard_summary.ensures.err
+    let hs = c.args.histories.now in
+    unwritten_as c.write_heard_summary.result (IsMadeText c.args.print c.args.tasks.now hs) w (summary_of_sections hs)
+    (summary_alone c.args.print (sym c.source_of.ensures ∙ c.in-Heard.is) c.args.tasks.now hs) c.write_heard_summary.ensures.err
+
+-- ---- of histories alone
+
+pub returns-in-Histories-clause-ok : goal.returns-in-Histories-clause-ok
+returns-in-Histories-clause-ok g c =
+    let w : Side = side g.W.Write.contents c.args.writer.now c.write_histories.new.writer in
+    let hs = c.args.histories.now in
+    written_as c.write_histories.result (IsMadeText c.args.print c.args.tasks.now hs) w (spelling hs)
+    (calls_alone c.args.print (sym c.source_of.ensures ∙ c.in-Histories.is) c.args.tasks.now hs) c.write_histories.ensures.ok
+
+pub returns-in-Histories-clause-err : goal.returns-in-Histories-clause-err
+returns-in-Histories-clause-err g c =
+    let w : Side = side g.W.Write.contents c.args.writer.now c.write_histories.new.writer in
+    let hs = c.args.histories.now in
+    unwritten_as c.write_histories.result (IsMadeText c.args.print c.args.tasks.now hs) w (spelling hs)
+    (calls_alone c.args.print (sym c.source_of.ensures ∙ c.in-Histories.is) c.args.tasks.now hs) c.write_histories.ensures.err
+
+-- ---- of tasks and states
+
+pub returns-in-Tasks-clause-ok : goal.returns-in-Tasks-clause-ok
+returns-in-Tasks-clause-ok g c =
+    let w : Side = side g.W.Write.contents c.args.writer.now c.write_promises.new.writer in
+    let hs = c.args.histories.now in
+    written_also c.write_promises.result (AreRows (IsRowOf c.deref-in-Tasks.result.now) c.args.tasks.now) (IsMadeText c.args.print c.args.tasks.now hs) w
+    (λ text rows. rows_alone c.args.print (sym c.source_of.ensures ∙ c.in-Tasks.is) c.args.tasks.now hs c.args.states.items c.args.logs.items c.args.heard.now text c.requires.count c.requires.runs
+    (subst (λ (ds : List Domain). AreRows (IsRowOf ds) c.args.tasks.now text) c.deref-in-Tasks.ensures.value rows))
+    c.write_promises.ensures.ok
+
+pub returns-in-Tasks-clause-err : goal.returns-in-Tasks-clause-err
+returns-in-Tasks-clause-err g c =
+    let w : Side = side g.W.Write.contents c.args.writer.now c.write_promises.new.writer in
+    let hs = c.args.histories.now in
+    unwritten_also c.write_promises.result (AreRows (IsRowOf c.deref-in-Tasks.result.now) c.args.tasks.now) (IsMadeText c.args.print c.args.tasks.now hs) w
+    (λ text rows. rows_alone c.args.print (sym c.source_of.ensures ∙ c.in-Tasks.is) c.args.tasks.now hs c.args.states.items c.args.logs.items c.args.heard.now text c.requires.count c.requires.runs
+    (subst (λ (ds : List Domain). AreRows (IsRowOf ds) c.args.tasks.now text) c.deref-in-Tasks.ensures.value rows))
+    c.write_promises.ensures.err
