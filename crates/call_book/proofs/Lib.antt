@@ -10,6 +10,7 @@ pub mod Moves
 pub mod Limiting
 pub mod TicketSums
 pub mod Ended
+pub mod Played
 pub mod CoreBook
 pub mod Spared
 pub mod CallerLemmas

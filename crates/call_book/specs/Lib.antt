@@ -5,5 +5,6 @@ pub mod BookAnswers
 pub mod LimitAnswers
 pub mod MoveAnswers
 pub mod Ending
+pub mod Playing
 pub mod CoreSteps
 pub mod private

@@ -3,4 +3,5 @@ pub mod Stock
 pub mod Listing
 pub mod Kept
 pub mod Ended
+pub mod Played
 pub mod Moving

@@ -9,7 +9,7 @@ mod stock;
 
 pub use domain::{
     Admit, AdvanceError, Closed, Domain, EndingBook, Full, HeardAdvance, Limit, Move, MoveFault,
-    move_task,
+    PlayingBook, move_task, playing_is_advancing,
 };
 pub use prepared::{Prepared, prepare};
 

@@ -47,10 +47,32 @@ impl Buffered {
     pub fn of(state: State) -> Result<Buffered, NoMemory>
         ensures { IfOk result (λ b. b ≡ state) }
     {
-        match state.with_room(PIECE) {
-            Ok(state) => Ok(Buffered { state }),
-            Err(error) => Err(error),
+        match Buffered::try_of(state) {
+            Ok(buffered) => Ok(buffered),
+            Err(state) => {
+                drop(state);
+                Err(NoMemory)
+            }
         }
+    }
+
+    /// As [`Buffered::of`], but the state comes back as it was where the room was refused.
+    pub fn try_of(mut state: State) -> Result<Buffered, State>
+        ensures ok { IfOk result (λ b. b ≡ state) }
+        ensures err { IfErr result (λ s. s ≡ state) }
+    {
+        match state.make_room(PIECE) {
+            Ok(()) => Ok(Buffered { state }),
+            Err(_) => Err(state),
+        }
+    }
+
+    /// The domain, whose switches wait in a buffer no more. Takes no memory.
+    pub fn into_state(self) -> State
+        ensures { result ≡ self }
+    {
+        let Buffered { state } = self;
+        state
     }
 
     /// The domain, to be looked at.

@@ -495,7 +495,7 @@ is_finished id duration wanted cs es books f t advanced is ended count named end
     }
 
 -- what the clients have in a domain in which the first of them has entered nothing more
-kept_own : (d : ℕ) (history : List Entry) (cs : List ClientView) (b c : ClientView) → 0 < length cs → b ≡ get_or cs 0 b → c.number ≡ b.number → client_pass_in c d ≡ client_pass_in b d
+pub kept_own : (d : ℕ) (history : List Entry) (cs : List ClientView) (b c : ClientView) → 0 < length cs → b ≡ get_or cs 0 b → c.number ≡ b.number → client_pass_in c d ≡ client_pass_in b d
     → All (λ (v : ClientView). client_pass_in v d ≡ own_entries v.number history) (set cs 0 c) → All (λ (v : ClientView). client_pass_in v d ≡ own_entries v.number history) cs
 kept_own d history [] b c some first number if_wanted own = absurd (omega (arith, some))
 kept_own d history (v ∷ cs) b c some first number if_wanted own =

@@ -8,3 +8,4 @@ pub mod Sighted
 pub mod Replied
 pub mod Passes
 pub mod Moved
+pub mod Begun

@@ -8,4 +8,5 @@ pub mod Clients
 pub mod Admissions
 pub mod Report
 pub mod RunEnd
+pub mod Begun
 pub mod private

@@ -4,3 +4,4 @@ pub mod Parts
 pub mod Admitting
 pub mod Closing
 pub mod Ending
+pub mod Begun

@@ -1,12 +1,13 @@
 //! A client: its passes, the piece in its hand, and the calls that it makes.
 
-ghost use Rattle.std.specs.Prelude.{◌≡◌, Some, None, IfSome, IfNone, IfOk, IfErr, OnOk, IsSome, Ok, true, false, [], ◌∷◌, length};
+ghost use Rattle.std.specs.Prelude.{◌≡◌, Some, None, IfSome, IfNone, IfOk, IfErr, OnOk, OnErr, IsSome, Ok, true, false, [], ◌∷◌, length};
 ghost use Rattle.attr_check.specs.Accepted.{accepted, params_of};
 ghost use Rattle.domain_run.specs.declared.call.Call.TheVariants as calls;
 ghost use Rattle.domain_run.specs.Domain.{IsLimit};
 ghost use Rattle.domain_run.specs.Log.{Tells};
 ghost use Rattle.calls_text.specs.Limits.{IsCall};
 ghost use Rattle.call_book.specs.Book.{IsMember, IsFull, admission, own_entries};
+ghost use Rattle.call_book.specs.Playing.{HasWholeRun};
 ghost use Rattle.session.specs.SessionId.{IsSession, IsDomainIndex, cpu_set_of, spine_of};
 ghost use Rattle.session.specs.Seen.{AnswerWasSeen, EntryWasSeen, RefusalWasSeen};
 ghost use Rattle.session.specs.Asks.{Asks, admit_call, client_pass_in, part_in, Makes, made_by, MakesRegrade, MakesLimit, MakesAdvance, RefusesOnlyFull, RefusesOnlyFullOrMemory, IsLastFound, blank_or_new, AsksGate, IsHandAfter};
@@ -26,7 +27,8 @@ use crate::shared::{Shared, Shares};
 use attr_check::{Params, check};
 use bw_gate::{Blank, Gate, Take, used_of};
 use call_book::{
-    AdvanceError, Domain, EndingBook, HeardAdvance, NoMemory, Pass, Prepared, prepare,
+    AdvanceError, Domain, EndingBook, Full, HeardAdvance, NoMemory, Pass, PlayingBook, Prepared,
+    prepare,
 };
 use domain_run::{Log, Reply};
 use rtapp_scenario::TaskSpec;
@@ -156,6 +158,39 @@ impl<N: Names> Client<N> {
             ≡ own_entries self.new.number book.new.book.history }
     {
         book.agree(&mut self.passes[place]);
+    }
+
+    /// The same with a book whose advance is under way.
+    pub(crate) fn agree_played(&mut self, book: &mut PlayingBook, place: usize)
+        requires place { IsDomainIndex N.id place }
+        requires spine { book.old.book.spine ≡ spine_of N.id place }
+        ensures book { book.new ≡ book.old }
+        ensures same { self.new ≡ self.old }
+        ensures own { client_pass_in self.new place
+            ≡ own_entries self.new.number book.new.book.history }
+    {
+        book.agree(&mut self.passes[place]);
+    }
+
+    /// Enters an advance of so many ticks in a book, 1 to 60000000, of which none is made yet.
+    /// [`Full`] where the book is full: nothing has changed.
+    pub(crate) fn begin_book(
+        &mut self,
+        book: &mut PlayingBook,
+        place: usize,
+        ticks: u64,
+    ) -> Result<(), Full>
+        requires named { IsSessionBook N.id place book.old.book }
+        requires made { book.old.left ≡ 0 }
+        requires call { IsCall (calls.Advance ticks) }
+        ensures named { IsSessionBook N.id place book.new.book }
+        ensures domains { length self.old.passes ≡ length N.id.cpu_sets }
+        ensures made { OnOk result (MakesAll self.old self.new place ticks) }
+        ensures ends { OnOk result (IsEndBy self.old.number ticks book.new.book.history) }
+        ensures whole { HasWholeRun book.old → HasWholeRun book.new }
+        ensures full { OnErr result (IsFull book.new.book × (self.new ≡ self.old)) }
+    {
+        book.begin_advance(&mut self.passes[place], ticks)
     }
 
     /// Makes exactly so many ticks of a domain that stands behind no lock, 1 to 60000000, as one

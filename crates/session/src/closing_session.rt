@@ -188,6 +188,21 @@ impl Room {
             refused: Vec::new(alloc),
         })
     }
+
+    /// Lets go of a room that is not used.
+    pub(crate) fn destroy(self)
+        requires { self.tickets.items ≡ [] }
+    {
+        let Room {
+            tickets,
+            histories: _,
+            states: _,
+            words: _,
+            caps: _,
+            refused: _,
+        } = self;
+        tickets.destroy_empty();
+    }
 }
 
 /// Room for so many books at their end, and for the end itself.
@@ -290,11 +305,11 @@ fn end_all(books: Vec<Domain>, ending: &mut Vec<EndingBook>)
 pub(crate) struct Unlocked<N: Names> {
     pub(crate) gate: Gate,
     pub(crate) books: Vec<Domain>,
-    limit: u64,
-    blanks: Vec<Blank>,
-    ending: Vec<EndingBook>,
-    room: Room,
-    of: PhantomData<N>,
+    pub(crate) limit: u64,
+    pub(crate) blanks: Vec<Blank>,
+    pub(crate) ending: Vec<EndingBook>,
+    pub(crate) room: Room,
+    pub(crate) of: PhantomData<N>,
     ghost session: { IsSession N.id },
     ghost same_limit: { limit ≡ N.id.limit },
     ghost same_gate: { gate ≡ N.id.gate },
@@ -365,10 +380,10 @@ impl<N: Names> Unlocked<N> {
 pub(crate) struct Ending<N: Names> {
     pub(crate) gate: Gate,
     pub(crate) books: Vec<EndingBook>,
-    limit: u64,
-    blanks: Vec<Blank>,
-    room: Room,
-    of: PhantomData<N>,
+    pub(crate) limit: u64,
+    pub(crate) blanks: Vec<Blank>,
+    pub(crate) room: Room,
+    pub(crate) of: PhantomData<N>,
     ghost session: { IsSession N.id },
     ghost same_limit: { limit ≡ N.id.limit },
     ghost same_gate: { gate ≡ N.id.gate },

@@ -18,10 +18,14 @@
 //!
 //! [`end_run`] ends a session whose tasks are to run for a duration. It meets the definition "The
 //! end of a run" (`specs/RunEnd.antt`) and promises: client 1's advance is the last entry of each
-//! book, and nothing else was entered; or a book had no room for it.
+//! book, and nothing else was entered; or a book had no room for it. [`begin_end`] enters these
+//! advances before their ticks are made, and makes all room for them (`specs/Begun.antt`). After it
+//! nothing is refused: [`finish_end`] ends the session when all ticks are made, and leaves the
+//! histories that were begun.
 #![tactic(auto)]
 
 mod admitting;
+mod begun_run;
 mod books;
 mod client;
 mod closing_session;
@@ -40,6 +44,7 @@ mod shared;
 mod turnstile;
 
 pub use admitting::admit_all;
+pub use begun_run::{RunBegun, UnderWay, begin_end, finish_end, shut_end};
 pub use chart_pieces::Span;
 pub use client::Client;
 pub use ending_run::end_run;

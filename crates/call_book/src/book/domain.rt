@@ -23,7 +23,7 @@ use attr_check::Params;
 use bw_gate::{Blank, Gate, Ticket, used_of};
 use calls_text::Entry;
 use domain_run::{Call, Log, NoMemory, Reply, State};
-pub use ending::{EndingBook, HeardAdvance};
+pub use ending::{EndingBook, HeardAdvance, PlayingBook, playing_is_advancing};
 use jump_run::Silent;
 pub use moving::{Move, MoveFault, move_task};
 use std::alloc::Global;

@@ -75,6 +75,14 @@ impl Ledger {
         self.entries.len() == self.room
     }
 
+    /// The entries, to be looked at.
+    pub(crate) fn entries(&self) -> &[Entry]
+        ensures entries { result.now ≡ self.now.history }
+        ensures history { IsHistory self.now.clients self.now.room self.now.history }
+    {
+        &self.entries
+    }
+
     /// Adds a call with its reply to the history and to the pass that it is made with.
     pub(crate) fn enter(&mut self, pass: &mut Pass, call: Call, reply: Reply)
         requires own { pass.old.spine ≡ self.old.spine }

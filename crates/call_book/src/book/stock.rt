@@ -178,6 +178,18 @@ impl Stock {
         sweep_held(gate, state, &mut self.held, &mut self.blanks);
     }
 
+    /// Gives all tickets back.
+    pub(crate) fn give_back(self, gate: &Gate)
+        requires { gate.now ≡ self.gate }
+    {
+        let (mut tickets, blanks) = self.into_pieces();
+        drop(blanks);
+        while let Some(ticket) = tickets.pop() {
+            gate.give(ticket);
+        }
+        tickets.destroy_empty();
+    }
+
     /// The tickets, in the order of the tasks, and the blanks.
     pub(crate) fn into_pieces(self) -> (Vec<Ticket>, Vec<Blank>)
         ensures tickets { result.0.items ≡ map (λ h. h.ticket) self.tickets }

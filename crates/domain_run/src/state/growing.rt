@@ -65,7 +65,7 @@ impl State {
     /// Room for so many switches more, and for those of an event beside them. `Err` where a growth
     /// was refused; nothing has changed, either way.
     #[inline(always)]
-    fn make_room(&mut self, more: usize) -> Result<(), NoMemory>
+    pub(crate) fn make_room(&mut self, more: usize) -> Result<(), NoMemory>
         requires { more ≤ 65536 }
         ensures same { self.new ≡ self.old }
         ensures domain { IsDomain self.old }
@@ -75,21 +75,6 @@ impl State {
         match made {
             Ok(()) => Ok(()),
             Err(_) => Err(NoMemory),
-        }
-    }
-
-    /// The same state, with room for so many switches more. `Err` where a growth was refused; the
-    /// state is gone then.
-    pub(crate) fn with_room(mut self, more: usize) -> Result<State, NoMemory>
-        requires { more ≤ 65536 }
-        ensures { IfOk result (λ state. state ≡ self) }
-    {
-        match self.make_room(more) {
-            Ok(()) => Ok(self),
-            Err(error) => {
-                drop(self);
-                Err(error)
-            }
         }
     }
 

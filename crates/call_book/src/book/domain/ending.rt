@@ -1,4 +1,5 @@
-//! A book at its end: no call is made on it any more, but one last advance that is heard.
+//! A book at its end: no call is made on it any more, but one last advance that is heard, or that
+//! is made piece by piece.
 
 ghost use Rattle.std.specs.Prelude.{◌≡◌, ◌≤◌, ◌+◌, [], length, map, true, false, All, IfOk, IfErr, OnErr};
 ghost use Rattle.bw_gate.specs.Pieces.{cpus_of};
@@ -8,6 +9,8 @@ ghost use Rattle.domain_run.specs.Tick as tick;
 ghost use Rattle.domain_run.specs.Domain.{IsLimit};
 ghost use Rattle.heard_run.specs.Heard.{heard_of, heard_after};
 
+mod playing;
+
 use super::{AdvanceError, Closed, Domain};
 use crate::book::Pass;
 use crate::book::ledger::Ledger;
@@ -15,6 +18,7 @@ use crate::book::stock::Stock;
 use bw_gate::Gate;
 use domain_run::{Call, NoMemory, Reply, State};
 use heard_run::{Accounting, advance_heard, open_heard};
+pub use playing::{PlayingBook, playing_is_advancing};
 use std::alloc::Global;
 use std::marker::Model;
 

@@ -1,0 +1,262 @@
+-- Books whose advance is entered first, and made piece by piece then.
+use Rattle.std.proofs.Common.{◌≡◌, ℕ, zero, suc, ◌+◌, ◌≤◌, ◌<◌, Bool, true, false, eqb, List, [], ◌∷◌, ◌++◌, length, map, set, get_or, Some, None, All, refl, sym, ap, subst, ◌∙◌, arith}
+use Rattle.std.specs.Prelude.{slice_index_or, Result, Ok, Err, OnOk, OnErr}
+use Rattle.std.proofs.lemmas.Bool.{eqb-true, eqb-false}
+use Rattle.std.proofs.lemmas.List.{append_assoc, append-nil, get_or-set_same, get_or-set_other, get_or-map, length-map, length-set, map-set, same_lists}
+use Rattle.std.proofs.lemmas.List.Elements.{All-get_or}
+use Rattle.bw_gate.specs.Pieces.{GateId}
+use Rattle.pass_seats.specs.Lists.{PassView}
+use Rattle.domain_run.specs.declared.call.Call.TheVariants.{Advance}
+use Rattle.domain_run.specs.declared.call.Reply.TheVariants as replies
+use Rattle.domain_run.specs.Domain.{Domain, empty_domain}
+use Rattle.calls_text.specs.declared.section.Entry.{Entry}
+use Rattle.calls_text.specs.SectionView.{SectionView}
+use Rattle.calls_text.specs.Limits.{IsSection}
+use Rattle.call_book.specs.Book.{BookView, EntersAlone, IsBookHistory, IsMember, own_entries, state_of}
+use Rattle.call_book.specs.Ending.{EndingView}
+use Rattle.call_book.specs.Playing.{PlayingView, HasWholeRun, IsSweptBook}
+use Rattle.session.specs.SessionId.{SessionId, IsSession, IsDomainIndex, cpu_set_of}
+use Rattle.session.specs.Asks.{ClientView, client_pass_in}
+use Rattle.session.specs.Report.{IsHistoryOf, IsSessionReport}
+use Rattle.session.specs.declared.report.Report.{Report}
+use Rattle.session.specs.Begun.{section_of, played_books, AreAllMade, AreBookHistories, HaveWholeRuns}
+use Rattle.session.specs.RunEnd.{IsFullWith}
+use Rattle.session.specs.private.Begun.{unplayed, without_pieces}
+use Rattle.session.specs.private.Closing.{HaveEnded}
+use Rattle.session.specs.private.Ending.{books_of, IsEndBy, IsFullAmong, unheard_ending}
+use Rattle.session.specs.private.Entering.{IsSessionBook}
+use Rattle.session.specs.private.Parts.{AreSessionBooks}
+use Rattle.session.proofs.Advanced.{kept_own}
+
+-- ---- books with their buffers, before anything is entered
+
+pub played_back : (books : List BookView) → played_books (map unplayed books) ≡ books
+played_back [] = refl
+played_back (b ∷ books) = ap (λ (bs : List BookView). b ∷ bs) (played_back books)
+
+unplayed_made : (books : List BookView) → AreAllMade (map unplayed books)
+unplayed_made [] d x inside = absurd (omega (arith, inside))
+unplayed_made (b ∷ books) zero x inside = refl
+unplayed_made (b ∷ books) (suc d) x inside = unplayed_made books d x (omega (arith, inside))
+
+unplayed_whole : (books : List BookView) → HaveWholeRuns (map unplayed books)
+unplayed_whole [] d x inside = absurd (omega (arith, inside))
+unplayed_whole (b ∷ books) zero x inside = append-nil (state_of b).switches
+unplayed_whole (b ∷ books) (suc d) x inside = unplayed_whole books d x (omega (arith, inside))
+
+pub all_made : (playing : List PlayingView) (books : List BookView) → playing ≡ map unplayed books → AreAllMade playing
+all_made playing books is = subst AreAllMade (sym is) (unplayed_made books)
+
+pub all_whole : (playing : List PlayingView) (books : List BookView) → playing ≡ map unplayed books → HaveWholeRuns playing
+all_whole playing books is = subst HaveWholeRuns (sym is) (unplayed_whole books)
+
+pub books_named : (id : SessionId) (playing : List PlayingView) (books : List BookView) → playing ≡ map unplayed books → AreSessionBooks id books → AreSessionBooks id (played_books playing)
+books_named id playing books is named = subst (AreSessionBooks id) (sym (ap played_books is ∙ played_back books)) named
+
+-- one buffer more
+pub played_more : (playing after : List PlayingView) (rest left : List BookView) (b : BookView) (p : PlayingView) (total : List PlayingView) → after ≡ playing ++ p ∷ [] → rest ≡ b ∷ left → p ≡ unplayed b
+    → playing ++ map unplayed rest ≡ total → after ++ map unplayed left ≡ total
+played_more playing after rest left b p total after_is rest_is is sum =
+    ap (λ (ps : List PlayingView). ps ++ map unplayed left) after_is ∙ append_assoc playing (p ∷ []) (map unplayed left)
+    ∙ ap (λ (x : PlayingView). playing ++ x ∷ map unplayed left) is ∙ ap (λ (bs : List BookView). playing ++ map unplayed bs) (sym rest_is) ∙ sum
+
+-- the gates of a session's books
+pub gates_of : (id : SessionId) (gate : GateId) (books : List BookView) → gate ≡ id.gate → AreSessionBooks id books → All (λ (b : BookView). b.gate ≡ gate) books
+gates_of id gate books same named d x inside = (named d x inside).gate ∙ sym same
+
+pub played_gates : (id : SessionId) (gate : GateId) (books : List PlayingView) → gate ≡ id.gate → AreSessionBooks id (played_books books) → All (λ (p : PlayingView). p.book.gate ≡ gate) books
+played_gates id gate books same named d x inside =
+    let f : PlayingView → BookView = λ p. p.book in
+    let there : d < length (played_books books) = omega (arith, inside, length-map books f) in
+    sym (ap (λ (b : BookView). b.gate) (get_or-map f books d x x.book inside)) ∙ (named d x.book there).gate ∙ sym same
+
+-- ---- one book after the other
+
+-- the book at a place
+pub played_at : (books : List PlayingView) (n : ℕ) (p : PlayingView) → n < length books → p ≡ get_or books n p → get_or (played_books books) n p.book ≡ p.book
+played_at books n p inside is = get_or-map (λ (x : PlayingView). x.book) books n p p.book inside ∙ sym (ap (λ (x : PlayingView). x.book) is)
+
+-- with another book at a place
+pub put_played : (books : List PlayingView) (n : ℕ) (p : PlayingView) → set (played_books books) n p.book ≡ played_books (set books n p)
+put_played books n p = sym (map-set (λ (x : PlayingView). x.book) books n p)
+
+pub whole_set : (books : List PlayingView) (n : ℕ) (p : PlayingView) → n < length books → HaveWholeRuns books → HasWholeRun p → HaveWholeRuns (set books n p)
+whole_set books n p there whole new d x inside = by (eqb n d) refl
+  where
+    by : (e : Bool) → eqb n d ≡ e → HasWholeRun (get_or (set books n p) d x)
+    by true is =
+        subst (λ (k : ℕ). HasWholeRun (get_or (set books n p) k x)) (eqb-true n d is) (subst HasWholeRun (sym (get_or-set_same books n p x there)) new)
+    by false is =
+        let other = eqb-false n d is in
+        subst HasWholeRun (sym (get_or-set_other books n d p x (λ at. other (sym at)))) (whole d x (omega (arith, inside, length-set books n p)))
+
+-- the others are not begun yet
+abbrev pub RestMade : ℕ → List PlayingView → Type 0
+RestMade n books = (d : ℕ) (p : PlayingView) → n ≤ d → d < length books → (slice_index_or books d p).left ≡ 0
+
+pub rest_made : (n m : ℕ) (books : List PlayingView) (p : PlayingView) → m ≡ n + 1 → RestMade n books → RestMade m (set books n p)
+rest_made n m books p more rest = λ d x behind inside.
+    ap (λ (x : PlayingView). x.left) (get_or-set_other books n d p x (λ same. absurd (omega (arith, same, behind, more))))
+    ∙ rest d x (omega (arith, behind, more)) (omega (arith, inside, length-set books n p))
+
+-- what is said of a call that was made, and of one that was not
+pub ok_so : {A E : Type 0} (r : Result A E) (P Q : Type 0) → OnOk r P → (P → Q) → OnOk r Q
+ok_so (Ok a) P Q is f = f is
+ok_so (Err e) P Q is f = tt
+
+pub err_so : {A E : Type 0} (r : Result A E) (P Q : Type 0) → OnErr r P → (P → Q) → OnErr r Q
+err_so (Ok a) P Q is f = tt
+err_so (Err e) P Q is f = f is
+
+-- the last entry is that of the pass
+pub ends_entered : (old new : BookView) (p q : PassView Entry) (client n : ℕ) → p.client ≡ client → EntersAlone old new p q (Advance n) (replies.Done n) → IsEndBy client n new.history
+ends_entered old new p q client n owner is = record {
+  before = old.history;
+  seq = length p.entries;
+  all = ap (λ (b : BookView). b.history) is.entered.book
+      ∙ ap (λ (k : ℕ). old.history ++ record { client = k; seq = length p.entries; call = Advance n; reply = Some (replies.Done n) } ∷ []) owner;
+}
+
+-- ---- histories
+
+pub history_of : (id : SessionId) (d : ℕ) (clients : List ClientView) (b : BookView) → IsSession id → IsSessionBook id d b → IsBookHistory b
+    → All (λ (c : ClientView). client_pass_in c d ≡ own_entries c.number b.history) clients → IsHistoryOf id d clients (section_of b)
+history_of id d clients b session named is own =
+    let some = All-get_or (λ (cpus : List ℕ). 0 < length cpus) id.cpu_sets d [] named.place session.some_cpus in
+    let most = All-get_or (λ (cpus : List ℕ). length cpus ≤ 64) id.cpu_sets d [] named.place session.most_cpus in
+    record {
+      cpus = named.cpus;
+      limit = named.limit;
+      legal = is.legal;
+      numbered = is.numbered;
+      members = subst (λ (n : ℕ). All (λ e. IsMember n e.client) b.history) named.clients is.members;
+      spelled = record {
+        some_cpus = omega (arith, some, named.cpus);
+        most_cpus = omega (arith, most, named.cpus);
+        least_limit = omega (arith, named.limit, session.limit.0);
+        most_limit = omega (arith, named.limit, session.limit.1);
+        most_entries = omega (arith, is.within, is.short);
+        entries = is.spelled;
+        numbered = is.numbered;
+      };
+      own = own;
+    }
+
+-- the first so many
+abbrev pub FirstHistories : ℕ → SessionId → List ClientView → List BookView → Type 0
+FirstHistories n id clients books = (d : ℕ) (x : BookView) → d < n → IsHistoryOf id d clients (section_of (slice_index_or books d x))
+
+pub histories_more : (n m : ℕ) (id : SessionId) (clients : List ClientView) (books : List BookView) → m ≡ n + 1 → FirstHistories n id clients books
+    → ((x : BookView) → IsHistoryOf id n clients (section_of (get_or books n x))) → FirstHistories m id clients books
+histories_more n m id clients books more first last d x upto = by (eqb n d) refl
+  where
+    by : (e : Bool) → eqb n d ≡ e → IsHistoryOf id d clients (section_of (get_or books d x))
+    by true is = subst (λ (k : ℕ). IsHistoryOf id k clients (section_of (get_or books k x))) (eqb-true n d is) (last x)
+    by false is = first d x (let other = eqb-false n d is in omega (arith, upto, more, other))
+
+-- a book was full: the history that it has, and that client 1 has entered nothing in it
+pub full_played : (id : SessionId) (duration : ℕ) (cs : List ClientView) (b c : ClientView) (books : List BookView) → 0 < length cs → b ≡ get_or cs 0 b
+    → length books ≡ length id.cpu_sets → AreSessionBooks id books → AreBookHistories id (set cs 0 c) books → IsFullAmong duration books b c → IsFullWith id duration cs
+full_played id duration cs b c [] some first count named histories met = absurd (omega (arith, met.place))
+full_played id duration cs b c (y ∷ ys) some first count named histories met =
+    let books = y ∷ ys in
+    let d = met.domain in
+    let book = get_or books d y in
+    let left = histories d y met.place in
+    record {
+      advances = met.advances;
+      domain = d;
+      place = omega (arith, met.place, count);
+      history = section_of book;
+      legal = record {
+        cpus = left.cpus;
+        limit = left.limit;
+        legal = left.legal;
+        numbered = left.numbered;
+        members = left.members;
+        spelled = left.spelled;
+        own = kept_own d book.history cs b c some first met.number met.kept left.own;
+      };
+      full = met.full y ∙ (named d y met.place).room;
+    }
+
+-- ---- the end
+
+-- no book in particular
+nobody : SessionId → BookView
+nobody id = record {
+  gate = id.gate;
+  domain = 0;
+  cpus = 0;
+  limit = 0;
+  clients = 0;
+  spine = id.gate.table;
+  room = 0;
+  history = [];
+  tickets = [];
+  blanks = [];
+  workers = 0;
+  left = None;
+}
+
+without_named : (id : SessionId) (d : ℕ) (b : BookView) → IsSessionBook id d (without_pieces b) → IsSessionBook id d b
+without_named id d b is = record { gate = is.gate; domain = is.domain; spine = is.spine; cpus = is.cpus; limit = is.limit; clients = is.clients; room = is.room; workers = is.workers; place = is.place }
+
+with_named : (id : SessionId) (d : ℕ) (b : BookView) → IsSessionBook id d b → IsSessionBook id d (without_pieces b)
+with_named id d b is = record { gate = is.gate; domain = is.domain; spine = is.spine; cpus = is.cpus; limit = is.limit; clients = is.clients; room = is.room; workers = is.workers; place = is.place }
+
+pub length_pieces : (xs ys : List BookView) → map without_pieces xs ≡ map without_pieces ys → length xs ≡ length ys
+length_pieces xs ys alike = sym (length-map xs without_pieces) ∙ ap (λ (zs : List BookView). length zs) alike ∙ length-map ys without_pieces
+
+-- the books of two lists at a place, apart from their pieces
+alike_at : (xs ys : List BookView) (d : ℕ) (x y : BookView) → map without_pieces xs ≡ map without_pieces ys → d < length ys → without_pieces (get_or xs d x) ≡ without_pieces (get_or ys d y)
+alike_at xs ys d x y alike inside =
+    let there : d < length xs = omega (arith, inside, length_pieces xs ys alike) in
+    sym (get_or-map without_pieces xs d x x there) ∙ ap (λ (zs : List BookView). get_or zs d x) alike ∙ get_or-map without_pieces ys d y x inside
+
+pub named_alike : (id : SessionId) (xs ys : List BookView) → map without_pieces xs ≡ map without_pieces ys → AreSessionBooks id ys → AreSessionBooks id xs
+named_alike id xs ys alike named d x inside =
+    let there : d < length ys = omega (arith, inside, length_pieces xs ys alike) in
+    without_named id d (get_or xs d x) (subst (IsSessionBook id d) (sym (alike_at xs ys d x x alike there)) (with_named id d (get_or ys d x) (named d x there)))
+
+-- one book more is finished
+push_first : (ending : List EndingView) (e : EndingView) (rest : List BookView) → map without_pieces (books_of (ending ++ e ∷ [])) ++ rest ≡ map without_pieces (books_of ending) ++ without_pieces e.book ∷ rest
+push_first [] e rest = refl
+push_first (x ∷ ending) e rest = ap (λ (bs : List BookView). without_pieces x.book ∷ bs) (push_first ending e rest)
+
+pub finished_more : (ending after : List EndingView) (rest left : List PlayingView) (p : PlayingView) (e : EndingView) (total : List BookView) → after ≡ ending ++ e ∷ [] → rest ≡ p ∷ left → IsSweptBook p.book e.book
+    → map without_pieces (books_of ending) ++ map without_pieces (played_books rest) ≡ total → map without_pieces (books_of after) ++ map without_pieces (played_books left) ≡ total
+finished_more ending after rest left p e total after_is rest_is swept sum =
+    let rests = map without_pieces (played_books left) in
+    ap (λ (es : List EndingView). map without_pieces (books_of es) ++ rests) after_is ∙ push_first ending e rests
+    ∙ ap (λ (b : BookView). map without_pieces (books_of ending) ++ without_pieces b ∷ rests) swept.book
+    ∙ ap (λ (ps : List PlayingView). map without_pieces (books_of ending) ++ map without_pieces (played_books ps)) (sym rest_is) ∙ sum
+
+-- the histories that are left are those that were begun
+pub histories_left : (id : SessionId) (clients : List ClientView) (ending : List EndingView) (books : List BookView) (r : Report) (states : List Domain)
+    → map without_pieces (books_of ending) ≡ map without_pieces books → length books ≡ length id.cpu_sets → AreSessionBooks id books
+    → IsSessionReport id clients r → HaveEnded ending r.histories.items states → r.histories.items ≡ map section_of books
+histories_left id clients ending books r states alike count named report ended =
+    same_lists r.histories.items (map section_of books) (many ∙ sym (length-map books section_of)) each
+  where
+    many : length r.histories.items ≡ length books
+    many = report.left.count ∙ sym count
+
+    each : (d : ℕ) (x : SectionView) → d < length r.histories.items → get_or r.histories.items d x ≡ get_or (map section_of books) d x
+    each d x inside =
+        let h = get_or r.histories.items d x in
+        let y = nobody id in
+        let e = unheard_ending y in
+        let f : EndingView → BookView = λ v. v.book in
+        let there : d < length books = omega (arith, inside, many) in
+        let ends : d < length ending = omega (arith, there, length_pieces (books_of ending) books alike, length-map ending f) in
+        let left = report.left.histories d x (omega (arith, there, count)) in
+        let book = get_or books d y in
+        let is = named d y there in
+        let last : (get_or ending d e).book.history ≡ book.history =
+        ap (λ (b : BookView). b.history) (sym (get_or-map f ending d e y ends)) ∙ ap (λ (b : BookView). b.history) (alike_at (books_of ending) books d y y alike there) in
+        let cpus : h.cpus ≡ book.cpus = left.cpus ∙ sym is.cpus in
+        let limit : h.limit ≡ book.limit = left.limit ∙ sym is.limit in
+        let entries : h.entries ≡ book.history = (ended.each d e x (empty_domain 0 0) inside).entries ∙ last in
+        let same : h ≡ section_of book = λ i. record { cpus = cpus i; limit = limit i; entries = entries i } in
+        same ∙ sym (get_or-map section_of books d y x there)

@@ -1,0 +1,14 @@
+-- The books of a session while their ticks are made.
+use Rattle.std.specs.Prelude.{◌≡◌, ℕ, ◌<◌, List, [], map}
+use Rattle.bw_gate.specs.Pieces.{GateId}
+use Rattle.call_book.specs.Book.{BookView}
+use Rattle.call_book.specs.Playing.{PlayingView, played_from}
+use Rattle.session.specs.private.Ending.{unheard_ending}
+
+-- a book with a buffer, in which nothing more is entered yet
+abbrev pub unplayed : BookView → PlayingView
+unplayed b = played_from (unheard_ending b)
+
+-- a book apart from its pieces
+abbrev pub without_pieces : BookView → BookView
+without_pieces b = record b { tickets = []; blanks = [] }
