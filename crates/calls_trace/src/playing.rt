@@ -220,9 +220,7 @@ impl NamedDomain {
 }
 
 impl Playing {
-    ghost use Rattle.std.specs.Prelude.{◌<◌, ◌++◌, ℕ, [], true, false, IfOk, IfNone, IfSome};
-    ghost use Rattle.domain_run.specs.Passing.{without_switches};
-    ghost use Rattle.domain_run.specs.Run.{after_calls};
+    ghost use Rattle.std.specs.Prelude.{◌<◌, [], true, false, IfOk, IfNone, IfSome};
     ghost use Rattle.calls_text.specs.SectionView.{SectionView};
     ghost use Rattle.calls_text.specs.Limits.{IsSection};
     ghost use Rattle.switch_text.specs.Names.{name_of_task};
@@ -231,7 +229,7 @@ impl Playing {
     ghost use Rattle.switch_text.specs.SlicedTrace.{whole_of, without_first};
     ghost use Rattle.calls_trace.specs.Replay.{run_view};
     ghost use Rattle.calls_trace.specs.private.Kept.{IsKeptSection, KeepsSection};
-    ghost use Rattle.calls_trace.specs.private.Playing.{played_domain, all_names, sliced_of};
+    ghost use Rattle.calls_trace.specs.private.Playing.{all_names, sliced_of};
 
     /// A section whose calls are made up to its first advance, on the CPUs of the machine from
     /// `base` on.

@@ -22,7 +22,7 @@ pub(crate) struct PlayingSoFar {
 }
 
 impl PlayingSoFar {
-    ghost use Rattle.std.specs.Prelude.{◌≡◌, ◌<◌, ◌+◌, ℕ, [], ◌∷◌, ◌++◌, List, length, IfOk, IfErr, OnOk};
+    ghost use Rattle.std.specs.Prelude.{◌<◌, ◌+◌, ℕ, [], ◌∷◌, ◌++◌, List, length, IfOk, IfErr, OnOk};
     ghost use Rattle.calls_text.specs.SectionView.{SectionView};
     ghost use Rattle.calls_text.specs.Limits.{IsSection};
     ghost use Rattle.calls_text.specs.BadLine.{IsReadFault};

@@ -1,6 +1,6 @@
 //! A log of what happens to the tasks of a domain.
 
-ghost use Rattle.std.specs.Prelude.{◌≡◌, ◌<◌, ◌≤◌, ◌+◌, [], true, false, IsTrue, length, AllPairs, OnOk};
+ghost use Rattle.std.specs.Prelude.{◌≡◌, ◌≤◌, ◌+◌, [], true, false, IsTrue, length, AllPairs, OnOk};
 ghost use Rattle.std.specs.Ordering.{is_lt};
 ghost use Rattle.domain_run.specs.Happened as happened_spec;
 ghost use Rattle.domain_run.specs.Log.{Tells, LogHasRoom};

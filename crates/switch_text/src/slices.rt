@@ -197,7 +197,7 @@ fn send_fronts<S: Slices, W: Write>(
 }
 
 /// Forgets the switches at hand that are before the cut.
-fn forget<S: Slices>(slices: &mut S, cut: Option<u64>)
+fn forget_before<S: Slices>(slices: &mut S, cut: Option<u64>)
     ensures left { S.sliced slices.new ≡ run_from_cut cut (S.sliced slices.old) }
     ensures split { IsSplit cut (S.sliced slices.old) }
 {
@@ -214,7 +214,7 @@ fn forget_all<S: Slices>(slices: &mut [S], cut: Option<u64>)
     ensures split { AllByRecursion (IsSplit cut) (map S.sliced slices.old) }
 {
     'runs: for slice in slices.iter_mut() {
-        forget(slice, cut);
+        forget_before(slice, cut);
     }
 }
 

@@ -12,5 +12,3 @@ mod of_json;
 mod of_reports;
 #[cfg(test)]
 mod of_scenario;
-#[cfg(test)]
-mod of_slices;

@@ -54,6 +54,6 @@ fn history_of_one_entry(rt: HostRuntime) -> Result<(), Fail> {
     let (used, written) = run_in_one_entry(&rt, rt.alloc(), moment, Print::Trace)?;
     assert!(rt; used == Some(524288) && written.as_slice() == b"# tracer: nop\n".as_slice());
     let (used, written) = run_in_one_entry(&rt, rt.alloc(), second, Print::Promises)?;
-    assert!(rt; used == Some(524288) && written.as_slice() == PROMISES.as_slice());
+    assert!(rt; used == Some(524288) && written.as_slice() == PROMISES);
     Ok(())
 }

@@ -11,11 +11,11 @@ runs-preserved g c =
     let f = g.S.Slices.sliced in
     let i = c.runs.slice-index in
     let xs = c.runs.slices in
-    let y = c.forget.new.slices in
+    let y = c.forget_before.new.slices in
     let olds = c.args.slices.now in
     let inside : i < length xs = omega (arith, c.runs-test.true, c.runs.auto.slices) in
     let next : suc i ≡ i + 1 = omega arith in
-    subst (λ (k : ℕ). HaveForgotten c.args.cut k (map f olds) (map f (set xs i y))) next (forgotten_more f c.args.cut i olds xs y _ c.runs.invariant inside c.forget.ensures.left c.forget.ensures.split)
+    subst (λ (k : ℕ). HaveForgotten c.args.cut k (map f olds) (map f (set xs i y))) next (forgotten_more f c.args.cut i olds xs y _ c.runs.invariant inside c.forget_before.ensures.left c.forget_before.ensures.split)
 
 pub returns-clause-left : goal.returns-clause-left
 returns-clause-left g c =

@@ -186,7 +186,7 @@ impl PlayingBook {
 
     /// Forgets the first `count` of the switches that wait, or all if they are fewer. Takes no
     /// memory.
-    pub fn forget(&mut self, count: usize)
+    pub fn forget_front(&mut self, count: usize)
         ensures { self.new ≡ record self.old { at = without_front count self.old.at } }
     {
         self.domain.forget_front(count);

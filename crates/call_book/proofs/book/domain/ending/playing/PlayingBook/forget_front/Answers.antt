@@ -2,7 +2,7 @@ use Rattle.std.proofs.Common.{ap}
 use Rattle.domain_run.specs.Passing.{without_switches}
 use Rattle.call_book.specs.private.Kept.{book_of}
 use Rattle.call_book.proofs.Played.{playing_after}
-use Rattle.call_book.proofs.book.domain.ending.playing.PlayingBook.forget.Goals as goal
+use Rattle.call_book.proofs.book.domain.ending.playing.PlayingBook.forget_front.Goals as goal
 
 pub invariant_of-self : goal.invariant_of-self
 invariant_of-self c =
