@@ -16,5 +16,8 @@ pub mod Views
 pub mod Bounds
 pub mod Sound
 pub mod Jump
+pub mod Later
+pub mod Shift
+pub mod Marks
 pub mod examples
 pub mod private

@@ -20,6 +20,7 @@ ghost use Rattle.domain_run.specs.private.Index.{IsListedAt, IsUnlisted};
 ghost use Rattle.domain_run.specs.Views.{view_of};
 ghost use Rattle.domain_run.specs.private.Roster.{task_after, put_aside, MayMake, Fits, HasLeft, IsSeenAs, runner_in};
 ghost use Rattle.domain_run.specs.Log.{LogHasRoom, Tells};
+ghost use Rattle.domain_run.specs.Marks.{IsTaskSeen};
 ghost use Rattle.domain_run.specs.private.RunQueue.{AreHomed};
 ghost use Rattle.domain_run.specs.private.Telling.{told_by_change};
 ghost use Rattle.domain_run.specs.private.Waiting.{seat_of_task, MaySitIfReady};
@@ -43,6 +44,7 @@ mod turning;
 use crate::change::{self, Change};
 use crate::index::Index;
 use crate::log::Log;
+use crate::mark::TaskSeen;
 use crate::run_queue::RunQueue;
 use crate::running::Running;
 use crate::switch::{PrevState, Switch};
@@ -257,6 +259,14 @@ impl Roster {
             None => None,
             Some(place) => Some(lending::view_at(self.tasks.at(place), &self.seats)),
         }
+    }
+
+    /// What a caller may see of the task at a place, to compare it at another time.
+    pub(crate) fn task_seen(&self, place: usize) -> TaskSeen
+        requires { place < length self.now.tasks }
+        ensures { (d : Task) → IsTaskSeen result (slice_index_or self.now.tasks place d) }
+    {
+        lending::task_seen_at(self.tasks.at(place), &self.seats)
     }
 
     /// The task of a number as a jump sees it, where it is listed.

@@ -18,6 +18,7 @@ mod jumps;
 mod leaping;
 mod lending;
 mod machine;
+mod marks;
 mod passing;
 mod ticking;
 

@@ -10,8 +10,7 @@ use Rattle.task_script.specs.declared.script.Segment.TheVariants.{Run as RunFor,
 use Rattle.task_script.specs.script.ScriptView.{PhaseView, ScriptView, CursorView, round_len}
 use Rattle.task_script.specs.script.Unrolled.{round_of, rounds_for, event_at}
 use Rattle.task_script.specs.script.Segments.{SegmentAndCursor, at_next_event, given_by, given_at, is_timer_over, passes_late_timer, segment_at, first_place, kept_cursor, next_segment}
-use Rattle.repeat_law.specs.Later.{reads_reference, has_timer, later_reference, place_on, later_cursor}
-use Rattle.repeat_law.specs.Shift.{HasRounds}
+use Rattle.task_script.specs.script.Later.{reads_reference, has_timer, later_reference, place_on, later_cursor, HasRounds}
 use Rattle.repeat_law.proofs.Lists.{le_later}
 use Rattle.repeat_law.proofs.Serving.{swap_add}
 use Rattle.repeat_law.proofs.Rounds.{event_on, next_on}

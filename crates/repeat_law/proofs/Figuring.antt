@@ -5,7 +5,7 @@ use Rattle.std.proofs.Math.Nat.{suc-mul}
 use Rattle.std.proofs.lemmas.List.Sums.{sum_by-append}
 use Rattle.domain_run.specs.declared.happened.Happened.{Happened}
 use Rattle.domain_run.specs.Switch.{Switch}
-use Rattle.repeat_law.specs.Later.{later_switch, later_happened}
+use Rattle.domain_run.specs.Later.{later_switch, later_happened}
 use Rattle.repeat_law.specs.Repeats.{switches_again, happened_again}
 use Rattle.repeat_law.proofs.Lists.{count_over}
 

@@ -15,10 +15,11 @@ use Rattle.domain_run.specs.Parts.{replenish_due, settled, enqueued, started, st
 use Rattle.domain_run.specs.Domain.{Domain}
 use Rattle.domain_run.specs.Tick.{with_tick_begun, rate_of, ran_if, ticked, ticks}
 use Rattle.domain_run.proofs.CallerLemmas.{ticks_time, ticks_cpus, ticks_limit}
-use Rattle.repeat_law.specs.declared.mark.TaskMark.{TaskMark}
-use Rattle.repeat_law.specs.Shift.{Shift, shifted_task}
+use Rattle.domain_run.specs.declared.mark.TaskMark.{TaskMark}
+use Rattle.domain_run.specs.Shift.{Shift, shifted_task}
 use Rattle.repeat_law.specs.Repeats.{Repeats}
-use Rattle.repeat_law.specs.Marks.{marked, all_marked, shifted_marks, IsSeenAgain}
+use Rattle.domain_run.specs.Marks.{marked, all_marked}
+use Rattle.repeat_law.specs.Marks.{shifted_marks, IsSeenAgain}
 use Rattle.repeat_law.proofs.Asking.{segment_script}
 use Rattle.repeat_law.proofs.Paces.{charged_task}
 use Rattle.repeat_law.proofs.Ticking.{left}

@@ -14,10 +14,11 @@ use Rattle.domain_run.specs.Switches.{is_switch_before}
 use Rattle.domain_run.specs.Domain.{Domain}
 use Rattle.domain_run.specs.Sound.{IsTimed, IsSound, IsSwitch, IsDomain, IsAdmitted}
 use Rattle.domain_run.proofs.CallerLemmas.{AllPairs-map}
-use Rattle.repeat_law.specs.Later.{has_timer, later_reference, later, later_condition, later_task, later_switch}
-use Rattle.repeat_law.specs.declared.pace.Pace.{Pace}
-use Rattle.repeat_law.specs.declared.pace.Pace.TheVariants.{Rests, Plays, Works}
-use Rattle.repeat_law.specs.Shift.{Shift, paced_task, shifted_task, shifted, IsResting, MayGo, MayShift, IsSoonAfter}
+use Rattle.task_script.specs.script.Later.{has_timer, later_reference}
+use Rattle.domain_run.specs.Later.{later, later_condition, later_task, later_switch}
+use Rattle.domain_run.specs.declared.pace.Pace.{Pace}
+use Rattle.domain_run.specs.declared.pace.Pace.TheVariants.{Rests, Plays, Works}
+use Rattle.domain_run.specs.Shift.{Shift, paced_task, shifted_task, shifted, IsResting, MayGo, MayShift, IsSoonAfter}
 use Rattle.repeat_law.proofs.Lists.{lt_later, eq_later}
 use Rattle.repeat_law.proofs.Parts.{ready_later, throttled_later, contending_later, some_later}
 use Rattle.repeat_law.proofs.Paces.{by_pace, number_paced}

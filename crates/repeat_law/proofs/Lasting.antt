@@ -15,10 +15,11 @@ use Rattle.domain_run.specs.Parts.{replenish_due, settled, is_listed, unblocked,
 use Rattle.domain_run.specs.Domain.{Domain}
 use Rattle.domain_run.specs.Tick.{prepared, with_tick_begun, rate_of, ran_if, ticked, ticks}
 use Rattle.domain_run.proofs.CallerLemmas.{same_replenished, same_settled, same_unblocked, length-filter_least}
-use Rattle.repeat_law.specs.Later.{place_on}
-use Rattle.repeat_law.specs.declared.pace.Pace.{Pace}
-use Rattle.repeat_law.specs.declared.pace.Pace.TheVariants.{Rests, Plays, Works}
-use Rattle.repeat_law.specs.Shift.{Shift, paced_task, shifted_task, IsResting, MayGo, MayShift, MayShiftFor, NeedsNothing}
+use Rattle.task_script.specs.script.Later.{place_on}
+use Rattle.domain_run.specs.declared.pace.Pace.{Pace}
+use Rattle.domain_run.specs.declared.pace.Pace.TheVariants.{Rests, Plays, Works}
+use Rattle.domain_run.specs.Shift.{Shift, paced_task, shifted_task, IsResting, MayGo, MayShift}
+use Rattle.repeat_law.specs.Shift.{MayShiftFor, NeedsNothing}
 use Rattle.repeat_law.specs.Repeats.{Outlasts, Repeats, many_paces, many, LastsFor}
 use Rattle.repeat_law.proofs.Lists.{All-unmap, filter_all}
 use Rattle.repeat_law.proofs.Parts.{contending_later, unblocked_contending, some_work}

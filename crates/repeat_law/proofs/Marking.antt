@@ -5,13 +5,15 @@ use Rattle.std.proofs.Math.Nat.{add-mul, suc-mul}
 use Rattle.std.proofs.lemmas.Nat.{mul-le}
 use Rattle.task_script.specs.script.ScriptView.{round_len}
 use Rattle.domain_run.specs.declared.task.Task.{Task}
-use Rattle.repeat_law.specs.declared.mark.TaskMark.{TaskMark}
-use Rattle.repeat_law.specs.declared.pace.Pace.{Pace}
-use Rattle.repeat_law.specs.declared.pace.Pace.TheVariants.{Rests, Plays, Works}
-use Rattle.repeat_law.specs.Later.{later_condition, later, later_server, later_reference, has_timer, place_on, later_task}
-use Rattle.repeat_law.specs.Shift.{paced_task, MayGo}
+use Rattle.domain_run.specs.declared.mark.TaskMark.{TaskMark}
+use Rattle.domain_run.specs.declared.pace.Pace.{Pace}
+use Rattle.domain_run.specs.declared.pace.Pace.TheVariants.{Rests, Plays, Works}
+use Rattle.task_script.specs.script.Later.{later_reference, has_timer, place_on}
+use Rattle.domain_run.specs.Later.{later_condition, later, later_server, later_task}
+use Rattle.domain_run.specs.Shift.{paced_task, MayGo}
 use Rattle.repeat_law.specs.Repeats.{many_paces}
-use Rattle.repeat_law.specs.Marks.{marked, round_on, later_mark, paced_mark, MayBegin, begun_round, HasPeriods}
+use Rattle.domain_run.specs.Marks.{marked, round_on, later_mark, paced_mark}
+use Rattle.repeat_law.specs.Marks.{MayBegin, begun_round, HasPeriods}
 
 place_paced : (rounds : Option ℕ) (r round at step : ℕ) → round_on (is_some rounds) r at * round + step ≡ place_on rounds (r * round) (at * round + step)
 place_paced None r round at step = refl

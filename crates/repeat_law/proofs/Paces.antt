@@ -13,10 +13,11 @@ use Rattle.domain_run.specs.declared.task.Task.{Task}
 use Rattle.domain_run.specs.declared.task.Condition.TheVariants.{Ready, Throttled}
 use Rattle.domain_run.specs.Conditions.{is_ready, is_throttled, is_over, has_come}
 use Rattle.domain_run.specs.Parts.{replenish_due, settled, is_listed, enqueued, started, starts, unblocked, with_cpu, with_last_cpu, running_on, went_on, goes_on, after_charge, ran}
-use Rattle.repeat_law.specs.Later.{later_task}
-use Rattle.repeat_law.specs.declared.pace.Pace.{Pace}
-use Rattle.repeat_law.specs.declared.pace.Pace.TheVariants.{Rests, Plays, Works}
-use Rattle.repeat_law.specs.Shift.{paced_task, IsResting, HasRounds, MayGo}
+use Rattle.domain_run.specs.Later.{later_task}
+use Rattle.domain_run.specs.declared.pace.Pace.{Pace}
+use Rattle.domain_run.specs.declared.pace.Pace.TheVariants.{Rests, Plays, Works}
+use Rattle.task_script.specs.script.Later.{HasRounds}
+use Rattle.domain_run.specs.Shift.{paced_task, IsResting, MayGo}
 use Rattle.repeat_law.proofs.Asking.{IsOn, next_is_on, rounds_left}
 use Rattle.repeat_law.proofs.Parts.{replenish_due_later, settled_later, listed_later, unblocked_plays, ran_plays, unblocked_contending, unblocked_works, ran_works, some_work}
 

@@ -14,8 +14,8 @@ use Rattle.domain_run.specs.declared.task.Condition.TheVariants.{Ready, Throttle
 use Rattle.domain_run.specs.Conditions.{is_ready, is_throttled, is_contending, is_leaving, is_over, has_come}
 use Rattle.domain_run.specs.Parts.{replenish_due, settled, is_listed, enqueued, woken_task, started, starts, unblocked, with_cpu, with_last_cpu, running_on, stopped, went_on, goes_on, after_charge, ran}
 use Rattle.domain_run.specs.Switches.{left_in}
-use Rattle.repeat_law.specs.Later.{later, later_server, later_condition, later_cursor, later_task}
-use Rattle.repeat_law.specs.Shift.{HasRounds}
+use Rattle.task_script.specs.script.Later.{later_cursor, HasRounds}
+use Rattle.domain_run.specs.Later.{later, later_server, later_condition, later_task}
 use Rattle.repeat_law.proofs.Lists.{choice_over, choice_over2, le_later}
 use Rattle.repeat_law.proofs.Serving.{swap_add, woken_later, replenished_later, zero_lag_later}
 use Rattle.repeat_law.proofs.Asking.{later_segment, later_ask, next_later}

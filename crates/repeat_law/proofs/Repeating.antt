@@ -12,10 +12,12 @@ use Rattle.domain_run.specs.Passing.{without_switches, with_past}
 use Rattle.domain_run.specs.Tick.{ticked, ticks}
 use Rattle.domain_run.specs.Happened.{told_by_tick, told_by_ticks}
 use Rattle.domain_run.proofs.CallerLemmas.{ticks_behind, told_by_ticks_behind}
-use Rattle.repeat_law.specs.Later.{later, has_timer, place_on, later_reference, later_condition, later_task, later_switch, later_happened}
-use Rattle.repeat_law.specs.declared.pace.Pace.{Pace}
-use Rattle.repeat_law.specs.declared.pace.Pace.TheVariants.{Rests, Plays, Works}
-use Rattle.repeat_law.specs.Shift.{Shift, paced_task, shifted_task, shifted, MayShift, MayShiftFor}
+use Rattle.task_script.specs.script.Later.{has_timer, place_on, later_reference}
+use Rattle.domain_run.specs.Later.{later, later_condition, later_task, later_switch, later_happened}
+use Rattle.domain_run.specs.declared.pace.Pace.{Pace}
+use Rattle.domain_run.specs.declared.pace.Pace.TheVariants.{Rests, Plays, Works}
+use Rattle.domain_run.specs.Shift.{Shift, paced_task, shifted_task, shifted, MayShift}
+use Rattle.repeat_law.specs.Shift.{MayShiftFor}
 use Rattle.repeat_law.specs.Repeats.{Repeats, many_paces, many, LastsFor, switches_of, switches_again, happened_again}
 use Rattle.repeat_law.proofs.Paces.{number_paced}
 use Rattle.repeat_law.proofs.Dating.{IsShiftable}

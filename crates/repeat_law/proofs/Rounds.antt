@@ -9,7 +9,7 @@ use Rattle.std.proofs.lemmas.List.Sums.{sum_by-cons}
 use Rattle.task_script.specs.declared.phase.Event.{Event}
 use Rattle.task_script.specs.script.ScriptView.{PhaseView, ScriptView, script_of, phase_len, round_len}
 use Rattle.task_script.specs.script.Unrolled.{round_of, event_at}
-use Rattle.repeat_law.specs.Later.{place_on}
+use Rattle.task_script.specs.script.Later.{place_on}
 
 -- ---- a list that is repeated
 

@@ -7,7 +7,7 @@ use Rattle.cbs_rules.specs.declared.server.Server.{Server}
 use Rattle.cbs_rules.specs.Budget.{budget, above_zero, below_zero}
 use Rattle.cbs_rules.specs.Serving.{renewed, overflows, woken_at, woken, is_spent, postponed, replenished_while, replenished}
 use Rattle.grub_rules.specs.Lag.{lag_at, zero_lag}
-use Rattle.repeat_law.specs.Later.{later, later_server}
+use Rattle.domain_run.specs.Later.{later, later_server}
 use Rattle.repeat_law.proofs.Lists.{choice_over, le_later, lt_later}
 
 pub swap_add : (a b k : ℕ) → a + k + b ≡ a + b + k

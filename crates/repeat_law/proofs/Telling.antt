@@ -20,10 +20,12 @@ use Rattle.domain_run.specs.Parts.{replenish_due, unblocked, ran}
 use Rattle.domain_run.specs.Domain.{Domain}
 use Rattle.domain_run.specs.Tick.{with_tick_begun, rate_of, ticked, ticks}
 use Rattle.domain_run.specs.Happened.{happened_to, due, told_by_segment, told_by_work, told_by_budget, told_by_run, told_if_ran, told_by_replenishment, told_by_wake, told_by_unblocking, kind_rank, is_first, with_happened, in_order, with_its_cpu, told_to_begin, told_by_beginning, told_by_end, told_by_tick, told_by_ticks}
-use Rattle.repeat_law.specs.Later.{later_cursor, later_task, later_what, later_happened}
-use Rattle.repeat_law.specs.declared.pace.Pace.{Pace}
-use Rattle.repeat_law.specs.declared.pace.Pace.TheVariants.{Rests, Plays, Works}
-use Rattle.repeat_law.specs.Shift.{Shift, paced_task, shifted_task, shifted, IsResting, HasRounds, MayGo, MayShift, MayShiftFor}
+use Rattle.task_script.specs.script.Later.{later_cursor, HasRounds}
+use Rattle.domain_run.specs.Later.{later_task, later_what, later_happened}
+use Rattle.domain_run.specs.declared.pace.Pace.{Pace}
+use Rattle.domain_run.specs.declared.pace.Pace.TheVariants.{Rests, Plays, Works}
+use Rattle.domain_run.specs.Shift.{Shift, paced_task, shifted_task, shifted, IsResting, MayGo, MayShift}
+use Rattle.repeat_law.specs.Shift.{MayShiftFor}
 use Rattle.repeat_law.proofs.Lists.{choice_over, map_over, flat_over}
 use Rattle.repeat_law.proofs.Serving.{swap_add}
 use Rattle.repeat_law.proofs.Asking.{later_segment, next_later, late_later}

@@ -17,10 +17,11 @@ use Rattle.domain_run.specs.Switches.{left_in, left_by, prev_state_of, switches_
 use Rattle.domain_run.specs.Domain.{Domain}
 use Rattle.domain_run.specs.Tick.{share_of, shares, candidate_of, candidates, prepared, with_places, with_prepared, with_tick_begun, rate_of, ran_if, finished, ticked, ticks}
 use Rattle.domain_run.proofs.CallerLemmas.{same_replenished, same_settled, same_unblocked, same_ran}
-use Rattle.repeat_law.specs.Later.{later, later_task, later_switch}
-use Rattle.repeat_law.specs.declared.pace.Pace.{Pace}
-use Rattle.repeat_law.specs.declared.pace.Pace.TheVariants.{Rests, Plays, Works}
-use Rattle.repeat_law.specs.Shift.{Shift, paced_task, shifted_task, shifted, MayGo, MayShift, MayShiftFor}
+use Rattle.domain_run.specs.Later.{later, later_task, later_switch}
+use Rattle.domain_run.specs.declared.pace.Pace.{Pace}
+use Rattle.domain_run.specs.declared.pace.Pace.TheVariants.{Rests, Plays, Works}
+use Rattle.domain_run.specs.Shift.{Shift, paced_task, shifted_task, shifted, MayGo, MayShift}
+use Rattle.repeat_law.specs.Shift.{MayShiftFor}
 use Rattle.repeat_law.proofs.Lists.{choice_over, map_over, filter_over, find_over, All-unmap}
 use Rattle.repeat_law.proofs.Serving.{swap_add}
 use Rattle.repeat_law.proofs.Asking.{IsOn}

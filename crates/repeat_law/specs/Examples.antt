@@ -16,11 +16,11 @@ use Rattle.domain_run.specs.Run.{run_of}
 use Rattle.domain_run.specs.Happened.{told_by_ticks}
 use Rattle.domain_run.specs.examples.Calling.{plain, reclaiming, admit, switch}
 use Rattle.task_script.specs.Examples.{rounds, once, forever}
-use Rattle.repeat_law.specs.declared.pace.Pace.TheVariants.{Rests, Plays, Works}
-use Rattle.repeat_law.specs.declared.mark.TaskMark.{TaskMark}
-use Rattle.repeat_law.specs.Shift.{Shift, paced_task, shifted, just_later}
+use Rattle.domain_run.specs.declared.pace.Pace.TheVariants.{Rests, Plays, Works}
+use Rattle.domain_run.specs.declared.mark.TaskMark.{TaskMark}
+use Rattle.domain_run.specs.Shift.{Shift, paced_task, shifted, just_later}
 use Rattle.repeat_law.specs.Repeats.{switches_of, switches_again, happened_again}
-use Rattle.repeat_law.specs.Marks.{marked, paced_mark}
+use Rattle.domain_run.specs.Marks.{marked, paced_mark}
 
 -- LATER: two tasks that reclaim, from 2 and from 0
 abbrev reclaimed : ℕ → Domain

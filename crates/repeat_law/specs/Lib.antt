@@ -1,4 +1,3 @@
-pub mod Later
 pub mod Shift
 pub mod Repeats
 pub mod Marks

@@ -1,52 +1,19 @@
--- A MARK: what ticks change of a task, as a program keeps and compares it (own).
-use Rattle.std.specs.Prelude.{ℕ, zero, suc, Bool, true, false, ◌≡◌, ◌+◌, ◌-◌, ◌*◌, ◌<◌, ◌≤◌, List, [], ◌∷◌, length, All, Option, Some, None, IfSome, IsTrue, is_some}
+-- MARKS COMPARED: what holds of the tasks of which they were taken (own).
+use Rattle.std.specs.Prelude.{ℕ, zero, suc, Bool, ◌≡◌, ◌+◌, ◌-◌, ◌*◌, ◌<◌, ◌≤◌, List, [], ◌∷◌, length, All, Option, Some, None, IfSome, IsTrue, is_some}
 use Rattle.task_script.specs.script.ScriptView.{round_len}
+use Rattle.domain_run.specs.declared.mark.TaskMark.{TaskMark}
+use Rattle.domain_run.specs.declared.pace.Pace.{Pace}
+use Rattle.domain_run.specs.declared.pace.Pace.TheVariants.{Rests, Plays, Works}
 use Rattle.domain_run.specs.declared.task.Task.{Task}
 use Rattle.domain_run.specs.declared.task.Condition.TheVariants.{Waiting}
 use Rattle.domain_run.specs.Conditions.{is_contending}
-use Rattle.repeat_law.specs.declared.mark.TaskMark.{TaskMark}
-use Rattle.repeat_law.specs.declared.pace.Pace.{Pace}
-use Rattle.repeat_law.specs.declared.pace.Pace.TheVariants.{Rests, Plays, Works}
-use Rattle.repeat_law.specs.Later.{later, later_server, later_condition, later_reference, has_timer}
 use Rattle.domain_run.specs.Domain.{Domain}
+use Rattle.task_script.specs.script.Later.{later_reference, has_timer}
+use Rattle.domain_run.specs.Later.{later, later_server, later_condition}
+use Rattle.domain_run.specs.Marks.{marked, paced_mark, HaveMarks}
+use Rattle.domain_run.specs.Shift.{Shift, paced_task, MayGo}
 use Rattle.domain_run.specs.Tick.{ticks}
-use Rattle.repeat_law.specs.Shift.{Shift, paced_task, MayGo}
 use Rattle.repeat_law.specs.Repeats.{Outlasts, Repeats, many_paces}
-
--- the task that a mark was taken of
-abbrev pub marked : TaskMark → Task → Task
-marked m t = record t {
-  cpu = m.cpu;
-  condition = m.condition;
-  work = m.work;
-  zero_lag = m.zero_lag;
-  server = m.server;
-  cursor = record t.cursor {
-    place = m.round * round_len t.cursor.script + m.step;
-    reference = m.reference;
-  };
-}
-
--- a number of rounds further on, if the script is finite
-abbrev pub round_on : Bool → ℕ → ℕ → ℕ
-round_on true rounds round = round + rounds
-round_on false rounds round = round
-
-abbrev pub later_mark : Bool → Bool → ℕ → ℕ → ℕ → TaskMark → TaskMark
-later_mark finite timed k rounds worked m = record m {
-  condition = later_condition k m.condition;
-  work = m.work - worked;
-  zero_lag = later k m.zero_lag;
-  server = later_server k m.server;
-  round = round_on finite rounds m.round;
-  reference = later_reference timed k m.reference;
-}
-
--- a mark after k microseconds at a pace
-abbrev pub paced_mark : Bool → Bool → ℕ → Pace → TaskMark → TaskMark
-paced_mark finite timed k Rests m = m
-paced_mark finite timed k (Plays rounds) m = later_mark finite timed k rounds 0 m
-paced_mark finite timed k (Works micros) m = later_mark finite timed k 0 micros m
 
 -- the marks of a task go at its pace
 abbrev pub MarkLaw : Type 0
@@ -100,16 +67,7 @@ HasPeriodsLaw = (k m : ℕ) (p : Pace) (mark : TaskMark) (t : Task) → MayBegin
     → mark.step < round_len t.cursor.script → HasPeriods t.cursor.script.rounds m p mark
     → MayGo (many_paces m p) (marked mark t)
 
--- TWO STATES COMPARED. The tasks of which a list of marks was taken
-abbrev pub all_marked : List TaskMark → List Task → List Task
-all_marked [] tasks = []
-all_marked (m ∷ ms) [] = []
-all_marked (m ∷ ms) (t ∷ tasks) = marked m t ∷ all_marked ms tasks
-
-abbrev pub HaveMarks : List TaskMark → List Task → Type 0
-HaveMarks ms tasks = all_marked ms tasks ≡ tasks
-
--- the marks of these tasks after a shift
+-- TWO STATES COMPARED. The marks of these tasks after a shift
 abbrev pub shifted_marks : Shift → List TaskMark → List Task → List TaskMark
 shifted_marks s [] tasks = []
 shifted_marks s (m ∷ ms) [] = []

@@ -9,10 +9,11 @@ use Rattle.domain_run.specs.Passing.{without_switches, with_past}
 use Rattle.domain_run.specs.Sound.{IsDomain}
 use Rattle.domain_run.specs.Happened.{told_by_ticks}
 use Rattle.domain_run.specs.Tick.{ticks}
-use Rattle.repeat_law.specs.Later.{later_switch, later_happened}
-use Rattle.repeat_law.specs.declared.pace.Pace.{Pace}
-use Rattle.repeat_law.specs.declared.pace.Pace.TheVariants.{Rests, Plays, Works}
-use Rattle.repeat_law.specs.Shift.{Shift, shifted, MayShift, MayShiftFor, NeedsNothing}
+use Rattle.domain_run.specs.Later.{later_switch, later_happened}
+use Rattle.domain_run.specs.declared.pace.Pace.{Pace}
+use Rattle.domain_run.specs.declared.pace.Pace.TheVariants.{Rests, Plays, Works}
+use Rattle.domain_run.specs.Shift.{Shift, shifted, MayShift}
+use Rattle.repeat_law.specs.Shift.{MayShiftFor, NeedsNothing}
 
 -- work that is to last through a period is longer than the period, so it does not end in it
 abbrev pub Outlasts : ℕ → Pace → Task → Type 0

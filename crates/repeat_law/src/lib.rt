@@ -1,8 +1,9 @@
 //! A run that repeats: after a period a domain is what it was, shifted, and then one period gives
 //! all later ones.
 //!
-//! A shift moves a domain by some microseconds (`specs/Later.antt`, `specs/Shift.antt`). Its
-//! deadlines, zero-lag times, timers and clock are later. Each task has a [`Pace`]:
+//! A shift moves a domain by some microseconds (`specs/Later.antt` and `specs/Shift.antt` of
+//! `domain_run`). Its deadlines, zero-lag times, timers and clock are later. Each task has a
+//! [`Pace`]:
 //!
 //! - [`Pace::Plays`]: it asks its script. In a finite script it is some whole rounds further on.
 //! - [`Pace::Works`]: its work is longer than the period. Some of it is done.
@@ -24,10 +25,9 @@
 
 mod law;
 mod mark;
-mod pace;
 mod periods;
 
+pub use domain_run::{Pace, TaskMark};
 pub use law::repeats_go_on;
-pub use mark::{TaskMark, pace_between};
-pub use pace::Pace;
+pub use mark::pace_between;
 pub use periods::periods_left;

@@ -1,35 +1,16 @@
-//! What ticks change of a task, and how it is compared a period later.
+//! How the mark of a task is compared a period later.
 
 ghost use Rattle.std.specs.Prelude.{ℕ, ◌≡◌, ◌+◌, ◌↔◌, None, IfSome, IsSome, IsTrue};
 ghost use Rattle.domain_run.specs.declared.task.Condition.TheVariants as condition;
 ghost use Rattle.domain_run.specs.Conditions.{is_contending};
-ghost use Rattle.repeat_law.specs.declared.pace.Pace.{Pace};
-ghost use Rattle.repeat_law.specs.Later.{later, later_condition, later_reference, later_server};
-ghost use Rattle.repeat_law.specs.Marks.{IsLaterMark, IsWorkingOn, MayBegin, paced_mark, round_on};
+ghost use Rattle.domain_run.specs.declared.pace.Pace.{Pace};
+ghost use Rattle.task_script.specs.script.Later.{later_reference};
+ghost use Rattle.domain_run.specs.Later.{later, later_condition, later_server};
+ghost use Rattle.domain_run.specs.Marks.{paced_mark, round_on};
+ghost use Rattle.repeat_law.specs.Marks.{IsLaterMark, IsWorkingOn, MayBegin};
 
-use crate::pace::Pace;
 use cbs_rules::Server;
-use domain_run::Condition;
-
-/// What ticks change of a task. Its number, parameters, name and script stay the same. Times are in
-/// microseconds from the beginning of the domain.
-#[derive(Clone, Copy, PartialEq, Eq)]
-pub struct TaskMark {
-    /// The CPU of the domain to which it belongs, from 0.
-    pub cpu: usize,
-    pub condition: Condition,
-    /// Work left in its segment, in microseconds.
-    pub work: u64,
-    /// Until when its bandwidth stays active though it does not contend.
-    pub zero_lag: Option<u64>,
-    pub server: Server,
-    /// The round of its script, from 0. In a script without end it is always 0.
-    pub round: u64,
-    /// The place of its next event in the round, from 0.
-    pub step: u64,
-    /// From when its timers count.
-    pub reference: u64,
-}
+use domain_run::{Condition, Pace, TaskMark};
 
 fn is_later(before: u64, after: u64, micros: u64) -> bool
     ensures { IsTrue result ↔ (after ≡ before + micros) }

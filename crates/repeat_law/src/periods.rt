@@ -3,8 +3,7 @@
 ghost use Rattle.std.specs.Prelude.{ℕ, ◌≡◌, ◌*◌, ◌-◌, ◌≤◌, ◌↔◌};
 ghost use Rattle.repeat_law.specs.Marks.{HasPeriods, IsAtMost, begun_round};
 
-use crate::mark::TaskMark;
-use crate::pace::Pace;
+use domain_run::{Pace, TaskMark};
 
 // How often a part fits into a total; none if any number of them does.
 fn times_within(total: u64, part: u64) -> Option<u64>

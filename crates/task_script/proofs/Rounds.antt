@@ -1,9 +1,9 @@
 -- Counters of rounds, phases, laps and events, and the place to which they come.
 use Rattle.std.proofs.Common.{Fits, w32, slice_index_or, get_or, ◌≡◌, ℕ, zero, suc, ◌+◌, ◌-◌, ◌*◌, ◌%◌, ◌^◌, ◌<◌, ◌≤◌, true, false, List, [], ◌∷◌, length, Option, Some, None, refl, sym, ap, subst, ◌∙◌, arith, inl, inr, sum_by}
 use Rattle.std.specs.Prelude.{slice_get, IsSome, IfSome, MatchOption}
-use Rattle.std.proofs.Math.Nat.{mod-eq_of_lt, mod_self, mul-add-mod_self_right, mod-lt, suc-mul}
+use Rattle.std.proofs.Math.Nat.{mod-eq_of_lt, mod_self, mul-add-mod_self_right, mod-lt, suc-mul, add-mul}
 use Rattle.std.proofs.lemmas.Nat.{mul-le}
-use Rattle.std.proofs.lemmas.Bool.{cases_lt, lt-ltb, le-ltb, le-leb, leb-true, leb-false}
+use Rattle.std.proofs.lemmas.Bool.{false≢true, cases_lt, lt-ltb, le-ltb, le-leb, leb-true, leb-false}
 use Rattle.std.proofs.lemmas.Option.{slice_get_read, slice_get_within, slice_get-get_or, get_or_from_slice_get, same_Some}
 use Rattle.std.proofs.lemmas.List.Sums.{sum_by-cons, sum_by-le}
 use Rattle.task_script.specs.declared.progress.Progress.{Progress}
@@ -12,7 +12,7 @@ use Rattle.task_script.specs.script.Unrolled.{round_of, event_at}
 use Rattle.task_script.specs.script.Segments.{first_place, kept_cursor}
 use Rattle.task_script.specs.private.Steps.{first_step_of}
 use Rattle.task_script.proofs.StepPlaces.{next_first}
-use Rattle.task_script.specs.private.Progress.{events_behind, progress_place, is_last_round, next_round, IsInPhase, IsProgress, IsLastOfLap, IsNextProgress}
+use Rattle.task_script.specs.private.Progress.{events_behind, progress_place, is_last_round, next_round, IsInPhase, IsProgress, IsLastOfLap, IsNextProgress, HasRoundsLeft}
 use Rattle.task_script.proofs.Unrolling.{event_in, event_in_is, event_ends, event_by, event_by_is, some_round, place_at_first, behind_within, kept_itself}
 
 -- IN A ROUND
@@ -330,3 +330,98 @@ round_behind s p laps h stands more last done end =
     let q = here s p stands in
     let all : q.phase.count ≡ laps = last.count q.phase q.at in
     behind_round s p q.phase h stands more q.at (last.last q.phase q.at) (omega (arith, done, all)) end
+
+-- COUNTED, AND ROUNDS FURTHER ON
+
+-- what is behind in a phase comes after the phases before it
+behind_in : (phases : List PhaseView) (i lap event : ℕ) (q : PhaseView) → slice_get phases i ≡ Some q → events_behind phases i lap event ≡ events_behind phases i 0 0 + (lap * length q.events + event)
+behind_in [] i lap event q at = absurd cc
+behind_in (p ∷ ps) zero lap event q at =
+    let same : p ≡ q = cc in
+    let long = ap (λ (r : PhaseView). lap * length r.events) same in
+    omega (arith, long)
+behind_in (p ∷ ps) (suc i) lap event q at =
+    let rest = behind_in ps i lap event q at in
+    omega (arith, rest)
+
+phase_behind_it : (phases : List PhaseView) (i : ℕ) (q : PhaseView) → slice_get phases i ≡ Some q → events_behind phases (suc i) 0 0 ≡ events_behind phases i 0 0 + phase_len q
+phase_behind_it [] i q at = absurd cc
+phase_behind_it (p ∷ ps) zero q at =
+    let same : p ≡ q = cc in
+    let long = ap phase_len same in
+    let none = first_event ps in
+    omega (arith, long, none)
+phase_behind_it (p ∷ ps) (suc i) q at =
+    let rest = phase_behind_it ps i q at in
+    omega (arith, rest)
+
+-- as a walk over the phases reads them
+pub none_behind : (phases : List PhaseView) → 0 ≡ events_behind phases 0 0 0
+none_behind phases = sym (first_event phases)
+
+pub one_behind : (phases : List PhaseView) (i places one : ℕ) (q : PhaseView) → i < length phases → one ≡ phase_len (slice_index_or phases i q) → places ≡ events_behind phases i 0 0 → places + one ≡ events_behind phases (i + 1) 0 0
+one_behind phases i places one q within is all =
+    let next = phase_behind_it phases i (slice_index_or phases i q) (slice_get-get_or phases i q within) in
+    let up : i + 1 ≡ suc i = omega arith in
+    let there = ap (λ k. events_behind phases k 0 0) up in
+    omega (arith, next, there, is, all)
+
+pub step_is : (s : ScriptView) (p : Progress) (q : PhaseView) → slice_get s.phases p.phase ≡ Some q → (before within : ℕ) → before ≡ events_behind s.phases p.phase 0 0 → within ≡ p.lap * length q.events + p.event → progress_place s p ≡ p.round * round_len s + (before + within)
+step_is s p q at before within b w =
+    let both = behind_in s.phases p.phase p.lap p.event q at in
+    omega (arith, both, b, w)
+
+pub step_within : (s : ScriptView) (p : Progress) (q : PhaseView) → IsProgress s p → slice_get s.phases p.phase ≡ Some q → (before within : ℕ) → before ≡ events_behind s.phases p.phase 0 0 → within ≡ p.lap * length q.events + p.event → before + within < round_len s
+step_within s p q stands at before within b w =
+    let both = behind_in s.phases p.phase p.lap p.event q at in
+    let in_q = stands.there q at in
+    let less = in_round s.phases p.phase p.lap p.event q at in_q.lap in_q.event in
+    omega (arith, both, less, b, w)
+
+-- so many rounds further on, the last is not passed
+rounds_on : (n R round x rounds : ℕ) → 0 < R → round * R + x ≤ n * R → (0 < rounds → round * R + x + rounds * R ≤ n * R) → round + rounds ≤ n
+rounds_on n R round x rounds some within left = elim (cases_lt n (round + rounds)) [
+  | inl past ↦
+      let more = mul-le (suc n) R (round + rounds) R (omega (arith, past)) (omega arith) in
+      let up = suc-mul n R in
+      let both = add-mul round rounds R in
+      elim (cases_lt 0 rounds) [
+        | inl any ↦ let room = left any in absurd (omega (arith, some, more, up, both, room))
+        | inr none ↦
+            let same : rounds * R ≡ 0 * R = ap (λ k. k * R) (omega (arith, none)) in
+            absurd (omega (arith, some, more, up, both, same, within))
+      ]
+  | inr most ↦ omega (arith, most)
+]
+
+pub rounds_fit : (s : ScriptView) (p : Progress) (rounds : ℕ) → IsScript s → IsProgress s p → (0 < rounds → HasRoundsLeft rounds s p) → IsSome s.rounds → p.round + rounds ≤ 1000000000
+rounds_fit s p rounds h stands left = go s.rounds h.rounds (stands.kept 0).within left where
+  go : (o : Option ℕ) → IfSome o (λ n. (0 < n) × (n ≤ 1000000000)) → MatchOption o (progress_place s p < round_len s) (λ n. progress_place s p ≤ n * round_len s) → (0 < rounds → IfSome o (λ n. progress_place s p + rounds * round_len s ≤ n * round_len s)) → IsSome o → p.round + rounds ≤ 1000000000
+  go None few within left is = absurd (false≢true is)
+  go (Some n) few within left is =
+      let most = rounds_on n (round_len s) p.round (events_behind s.phases p.phase p.lap p.event) rounds (some_round s h) within left in
+      omega (arith, most, few.1)
+
+pub place_further : (s : ScriptView) (p : Progress) (rounds : ℕ) → progress_place s (record p { round = p.round + rounds }) ≡ progress_place s p + rounds * round_len s
+place_further s p rounds =
+    let both = add-mul p.round rounds (round_len s) in
+    omega (arith, both)
+
+pub stands_further : (s : ScriptView) (p : Progress) (rounds : ℕ) → IsScript s → IsProgress s p → (0 < rounds → HasRoundsLeft rounds s p) → IsSome s.rounds → IsProgress s (record p { round = p.round + rounds })
+stands_further s p rounds h stands left some =
+    let place = place_further s p rounds in
+    record {
+      phase = stands.phase;
+      first = stands.first;
+      there = λ q at. let in_q = stands.there q at in record { lap = in_q.lap; event = in_q.event };
+      kept = keeps s (record p { round = p.round + rounds }) h (subst (IsPlace s) (sym place) (go s.rounds (stands.kept 0).within left some));
+    }
+  where
+    go : (o : Option ℕ) → MatchOption o (progress_place s p < round_len s) (λ n. progress_place s p ≤ n * round_len s) → (0 < rounds → IfSome o (λ n. progress_place s p + rounds * round_len s ≤ n * round_len s)) → IsSome o → MatchOption o (progress_place s p + rounds * round_len s < round_len s) (λ n. progress_place s p + rounds * round_len s ≤ n * round_len s)
+    go None within left some = absurd (false≢true some)
+    go (Some n) within left some = elim (cases_lt 0 rounds) [
+      | inl any ↦ left any
+      | inr none ↦
+          let same : rounds * round_len s ≡ 0 * round_len s = ap (λ k. k * round_len s) (omega (arith, none)) in
+          omega (arith, same, within)
+    ]

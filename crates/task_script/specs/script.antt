@@ -1,3 +1,4 @@
 pub mod ScriptView
 pub mod Unrolled
 pub mod Segments
+pub mod Later

@@ -6,10 +6,13 @@ ghost use Rattle.task_script.specs.script.Unrolled.{event_at};
 ghost use Rattle.task_script.specs.script.Segments.{begun_at, at_next_event, kept_cursor, given_by, given_at, is_timer_over, passes_late_timer, next_segment, work_in, GivesAsWritten, IsSegment, next_ask};
 ghost use Rattle.task_script.specs.private.Progress.{timer_passed, at_reference, work_at};
 
+mod moving;
+
 use crate::phase::Event;
 use crate::progress;
 use crate::progress::Progress;
 use crate::script::{Script, Segment};
+pub use moving::Place;
 use std::marker::Model;
 
 /// A script, how far it has come in it, and its timer reference. In a script without end it stays

@@ -16,7 +16,7 @@ mod progress;
 mod script;
 mod steps;
 
-pub use cursor::Cursor;
+pub use cursor::{Cursor, Place};
 pub use name::Name;
 pub use phase::{Event, Phase};
 pub use script::{Script, Segment};

@@ -2,8 +2,9 @@
 //! division and no walk over the phases. Both read the steps of the script, or where there are none
 //! the script itself.
 
-ghost use Rattle.std.specs.Prelude.{◌≡◌, ◌<◌, IsSome, IfSome, length, slice_get, Some};
-ghost use Rattle.task_script.specs.script.ScriptView.{IsEvent, IsPhase, IsScript};
+ghost use Rattle.std.specs.Prelude.{◌≡◌, ◌+◌, ◌*◌, ◌<◌, ◌≤◌, ◌^◌, All, IsSome, IfSome, length, slice_get, Some};
+ghost use Rattle.task_script.specs.script.Later.{place_on};
+ghost use Rattle.task_script.specs.script.ScriptView.{IsEvent, IsPhase, IsScript, phase_len, round_len};
 ghost use Rattle.task_script.specs.script.Unrolled.{event_at};
 ghost use Rattle.task_script.specs.private.Progress as spec;
 
@@ -159,4 +160,75 @@ pub(crate) fn advance(script: &Script, progress: &mut Progress)
         return;
     }
     next_lap(script, progress, laps);
+}
+
+impl Progress {
+    /// How many rounds are behind.
+    pub(crate) fn round(self) -> u64
+        ensures { result ≡ self.round }
+    {
+        self.round as u64
+    }
+}
+
+// How many places a phase takes.
+fn places_of(phase: &Phase) -> u64
+    requires { IsPhase phase.now }
+    ensures places { result ≡ phase_len phase.now }
+    ensures few { result ≤ 2 ^ 40 }
+{
+    phase.count * phase.events.len() as u64
+}
+
+// How many places of a round the first so many phases take.
+fn places_before(phases: &[Phase], end: usize) -> u64
+    requires phases { All IsPhase phases.now }
+    requires within { end ≤ length phases.now }
+    requires few { length phases.now ≤ 64 }
+    ensures places { result ≡ spec.events_behind phases.now end 0 0 }
+    ensures few { result ≤ 2 ^ 46 }
+{
+    let mut places = 0;
+    for index in 0..end {
+        places += places_of(&phases[index]);
+    }
+    places
+}
+
+// How many events of its phase are behind a cursor.
+fn step_in(phase: &Phase, progress: Progress) -> u64
+    requires phase { IsPhase phase.now }
+    requires there { spec.IsInPhase phase.now progress }
+    ensures step { result ≡ progress.lap * length phase.now.events + progress.event }
+    ensures few { result ≤ 2 ^ 46 }
+{
+    progress.lap as u64 * phase.events.len() as u64 + progress.event as u64
+}
+
+/// How many events of its round are behind a cursor.
+pub(crate) fn step_of(script: &Script, progress: Progress) -> u64
+    requires stands { spec.IsProgress script.now progress }
+    ensures step { spec.progress_place script.now progress
+        ≡ progress.round * round_len script.now + result }
+    ensures within { result < round_len script.now }
+{
+    let phases = script.phases();
+    let at = progress.phase as usize;
+    places_before(phases, at) + step_in(&phases[at], progress)
+}
+
+/// Goes so many rounds further on, if the script is finite.
+pub(crate) fn go_on(script: &Script, progress: &mut Progress, rounds: u64)
+    requires stands { spec.IsProgress script.now progress.old }
+    requires rounds { 0 < rounds → spec.HasRoundsLeft rounds script.now progress.old }
+    ensures stands { spec.IsProgress script.now progress.new }
+    ensures place { spec.progress_place script.now progress.new
+        ≡ place_on script.now.rounds (rounds * round_len script.now)
+        (spec.progress_place script.now progress.old) }
+{
+    // For the prover alone: a look into it brings what its type keeps.
+    let _ = script.phases();
+    if script.rounds().is_some() {
+        progress.round += rounds as u32;
+    }
 }

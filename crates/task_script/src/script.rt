@@ -169,7 +169,7 @@ impl Script {
     }
 
     /// The number of rounds; none for no end.
-    pub(crate) fn rounds(&self) -> Option<u32>
+    pub fn rounds(&self) -> Option<u32>
         ensures { result ≡ self.now.rounds }
     {
         self.rounds

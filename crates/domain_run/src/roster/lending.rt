@@ -1,14 +1,18 @@
 //! A listed task as it is charged up to now.
 
-ghost use Rattle.std.specs.Prelude.{◌≡◌};
+ghost use Rattle.std.specs.Prelude.{◌≡◌, ◌<◌};
+ghost use Rattle.task_script.specs.script.ScriptView.{round_len};
+ghost use Rattle.domain_run.specs.Marks.{marked, IsTaskSeen};
 ghost use Rattle.domain_run.specs.Views.{view_of};
 ghost use Rattle.domain_run.specs.private.Waiting as spec;
 
 use super::turning::left_after_run;
+use crate::mark::{TaskMark, TaskSeen};
 use crate::running::Running;
 use crate::task::{Task, TaskView};
 use cbs_rules::Server;
 use due_times::Seats;
+use task_script::Script;
 
 /// What is left of a task's budget, in 1/2^20 us, and of its work, in microseconds.
 #[derive(Clone, Copy)]
@@ -68,5 +72,53 @@ pub(super) fn runner_at(task: &Task, seats: &Seats, uinact: u64) -> Running
         uinact,
         left: balance.left,
         work: balance.work,
+    }
+}
+
+// The number of rounds of a script; none if it has no end.
+fn rounds_of(script: &Script) -> Option<u64>
+    ensures { result ≡ script.now.rounds }
+{
+    match script.rounds() {
+        None => None,
+        Some(rounds) => Some(u64::from(rounds)),
+    }
+}
+
+// A task's mark, with this balance.
+fn mark_of(task: &Task, balance: Balance) -> TaskMark
+    ensures mark { marked result task.now ≡ record task.now {
+      server = record task.now.server { left = balance.left };
+      work = balance.work;
+    } }
+    ensures step { result.step < round_len task.now.cursor.script }
+{
+    let place = task.cursor.place();
+    TaskMark {
+        cpu: task.cpu,
+        condition: task.condition,
+        work: balance.work,
+        zero_lag: task.zero_lag,
+        server: Server {
+            deadline: task.server.deadline,
+            left: balance.left,
+        },
+        round: place.round,
+        step: place.step,
+        reference: task.cursor.reference(),
+    }
+}
+
+/// What a caller may see of a task, to compare it at another time.
+pub(super) fn task_seen_at(task: &Task, seats: &Seats) -> TaskSeen
+    requires { spec.WaitsIf seats.now.seats task.now }
+    ensures { IsTaskSeen result (spec.owed seats.now.upto seats.now.seats task.now) }
+{
+    let script = task.cursor.script();
+    TaskSeen {
+        number: task.number,
+        mark: mark_of(task, balance_of(task, seats)),
+        rounds: rounds_of(script),
+        is_timed: script.has_timer(),
     }
 }

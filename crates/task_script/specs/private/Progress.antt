@@ -86,3 +86,8 @@ work_at (Some (Sleep n)) = None
 work_at (Some (Timer n)) = None
 work_at (Some Wait) = None
 work_at None = None
+
+-- so many rounds are left, behind the one where the counters stand
+abbrev pub HasRoundsLeft : ℕ → ScriptView → Progress → Type 0
+HasRoundsLeft rounds s p =
+    IfSome s.rounds (λ n. progress_place s p + rounds * round_len s ≤ n * round_len s)

@@ -1,6 +1,7 @@
 use Rattle.std.proofs.Common.{ℕ, arith}
 use Rattle.domain_run.specs.Domain.{Domain}
-use Rattle.repeat_law.specs.Shift.{just_later, MayShiftFor}
+use Rattle.domain_run.specs.Shift.{just_later}
+use Rattle.repeat_law.specs.Shift.{MayShiftFor}
 use Rattle.repeat_law.proofs.Dating.{shiftable_of}
 use Rattle.repeat_law.proofs.Ticking.{ticks_over}
 use Rattle.repeat_law.proofs.Telling.{ticks_tell}
