@@ -58,3 +58,5 @@ pub mod Extending
 pub mod ToldLags
 pub mod ToldPassing
 pub mod ToldWoken
+pub mod GoingOn
+pub mod Repeating

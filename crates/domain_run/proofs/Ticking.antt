@@ -43,7 +43,7 @@ listed_by d f tasks number params homes is =
           (All-weaker (λ t. IsTrue (list_any (λ n. eqb n t.number) d.used)) (λ t. IsTrue (list_any (λ n. eqb n (f t).number) d.used)) (λ t h. ap (λ m. list_any (λ n. eqb n m) d.used) (number t) ∙ h) tasks is.known);
     }
 
-listed_map : (d : Domain) (f : Task → Task) (tasks : List Task) → ((t : Task) → Same t (f t)) → AreListed d tasks → AreListed d (map f tasks)
+pub listed_map : (d : Domain) (f : Task → Task) (tasks : List Task) → ((t : Task) → Same t (f t)) → AreListed d tasks → AreListed d (map f tasks)
 listed_map d f tasks same is = listed_by d f tasks (λ t. (same t).number) (λ t. (same t).params) (All-weaker (λ t. t.cpu < d.cpus) (λ t. (f t).cpu < d.cpus) (λ t h. subst (λ c. c < d.cpus) (sym (same t).cpu) h) tasks is.homes) is
 
 listed_filter : (d : Domain) (p : Task → Bool) (tasks : List Task) → AreListed d tasks → AreListed d (filter p tasks)
@@ -55,7 +55,7 @@ listed_filter d p tasks is = record {
   known = All-filter p (λ t. IsTrue (list_any (λ n. eqb n t.number) d.used)) tasks is.known;
 }
 
-listed_homed : (d : Domain) (places : Places) (tasks : List Task) → length places ≡ d.cpus → AreListed d tasks → AreListed d (map (with_last_cpu places) tasks)
+pub listed_homed : (d : Domain) (places : Places) (tasks : List Task) → length places ≡ d.cpus → AreListed d tasks → AreListed d (map (with_last_cpu places) tasks)
 listed_homed d places tasks wide is =
     listed_by d (with_last_cpu places) tasks (λ t. homed_number (position (is_task t.number) places) t) (λ t. homed_params (position (is_task t.number) places) t)
     (All-weaker (λ t. t.cpu < d.cpus) (λ t. (with_last_cpu places t).cpu < d.cpus) (λ t h. homed_cpu d.cpus (position (is_task t.number) places) t (λ cpu e. subst (λ n. cpu < n) wide (position_within t.number places cpu e)) h) tasks is.homes)
@@ -64,12 +64,15 @@ listed_homed d places tasks wide is =
 pub listed_of : (d : Domain) → IsSteady d → AreListed d d.tasks
 listed_of d is = record { within = is.within; listed = is.listed; homes = is.homes; numbered = is.numbered; known = is.known }
 
-pub listed_prepared : (d : Domain) → IsSteady d → AreListed d (prepared d.time d.tasks)
-listed_prepared d is =
-    let a = listed_map d (replenish_due d.time) d.tasks (same_replenished d.time) (listed_of d is) in
+pub list_prepared : (d : Domain) → AreListed d d.tasks → AreListed d (prepared d.time d.tasks)
+list_prepared d is =
+    let a = listed_map d (replenish_due d.time) d.tasks (same_replenished d.time) is in
     let b = listed_map d (settled d.time) (map (replenish_due d.time) d.tasks) (same_settled d.time) a in
     let c = listed_filter d is_listed (map (settled d.time) (map (replenish_due d.time) d.tasks)) b in
     listed_map d (unblocked d.time) (filter is_listed (map (settled d.time) (map (replenish_due d.time) d.tasks))) (same_unblocked d.time) c
+
+pub listed_prepared : (d : Domain) → IsSteady d → AreListed d (prepared d.time d.tasks)
+listed_prepared d is = list_prepared d (listed_of d is)
 
 pub homed_sound : (time : ℕ) (o : Option ℕ) (t : Task) → IsSound time t → IsSound time (with_cpu o t)
 homed_sound time None t h = h

@@ -1,5 +1,5 @@
 -- A SHIFT: how a domain differs from the same domain some time earlier, if a run repeats (own).
-use Rattle.std.specs.Prelude.{ℕ, ◌≡◌, ◌+◌, ◌<◌, List, [], ◌∷◌, map, All, None, IsTrue}
+use Rattle.std.specs.Prelude.{ℕ, ◌≡◌, ◌+◌, ◌<◌, List, [], ◌∷◌, ◌++◌, map, All, None, IsTrue}
 use Rattle.task_script.specs.script.Later.{HasRounds}
 use Rattle.domain_run.specs.declared.pace.Pace.{Pace}
 use Rattle.domain_run.specs.declared.pace.Pace.TheVariants.{Rests, Plays, Works}
@@ -10,6 +10,7 @@ use Rattle.domain_run.specs.Bounds.{IsSoon}
 use Rattle.domain_run.specs.Conditions.{is_contending}
 use Rattle.domain_run.specs.Domain.{Domain}
 use Rattle.domain_run.specs.Later.{later_task, later_switch}
+use Rattle.domain_run.specs.Switch.{Switch}
 
 -- THE SHIFT: how much later, and the pace of each task
 pub record Shift : Type 0 where
@@ -40,6 +41,15 @@ shifted s d = record d {
   time = d.time + s.micros;
   tasks = map (shifted_task s) d.tasks;
   switches = map (later_switch s.micros) d.switches;
+}
+
+-- a domain to which a period is given again: each task goes on at the pace at its place, and the
+-- switches of the period come once more, later
+abbrev pub given_again : ℕ → List Pace → ℕ → List Switch → Domain → Domain
+given_again k paces later_by period d = record d {
+  time = d.time + k;
+  tasks = paced_all k paces d.tasks;
+  switches = d.switches ++ map (later_switch later_by) period;
 }
 
 -- later, and nothing else

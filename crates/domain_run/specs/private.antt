@@ -12,3 +12,4 @@ pub mod Dozing
 pub mod Choosing
 pub mod Extending
 pub mod Expiring
+pub mod Repeating

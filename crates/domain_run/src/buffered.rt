@@ -1,6 +1,6 @@
 //! A domain that goes on without memory: its switches wait in a buffer until they are taken.
 
-ghost use Rattle.std.specs.Prelude.{◌≡◌, [], ◌<◌, ◌≤◌, ◌^◌, ◌+◌, ◌-◌, ◌++◌, All, length, IfOk, IfErr, IfNone, OnOk, IsTrue};
+ghost use Rattle.std.specs.Prelude.{◌≡◌, [], ◌<◌, ◌≤◌, ◌^◌, ◌+◌, ◌-◌, ◌++◌, All, length, false, IfOk, IfErr, IfNone, OnOk, IsTrue};
 ghost use Rattle.domain_run.specs.declared.call.Call.TheVariants as Call;
 ghost use Rattle.domain_run.specs.declared.call.Reply.TheVariants as Reply;
 ghost use Rattle.domain_run.specs.Calls as calls;
@@ -9,10 +9,12 @@ ghost use Rattle.domain_run.specs.Busy.{IfBusy, LacksRoomFor, LacksRoomToChange,
 ghost use Rattle.domain_run.specs.Domain.{IsLimit};
 ghost use Rattle.domain_run.specs.Keys.{AreKept};
 ghost use Rattle.domain_run.specs.Passing.{without_front, without_switches};
+ghost use Rattle.domain_run.specs.Shift.{given_again, AllMayGo};
 ghost use Rattle.domain_run.specs.Sound.{IsDomain};
 ghost use Rattle.domain_run.specs.Tick as tick;
 
 use crate::call::{Refused, Reply};
+use crate::pace::Pace;
 use crate::state::State;
 use crate::switch::Switch;
 use attr_check::Params;
@@ -135,6 +137,23 @@ impl Buffered {
             left -= made;
         }
         0
+    }
+
+    /// Makes `micros` ticks at once, if a period of the run is known that gives them: `paces` says
+    /// how each listed task goes on, in the order of the list, and `period` which switches come,
+    /// `later_by` microseconds earlier than they do now. Answers whether it made them: it makes
+    /// none, and nothing changes, if the room for the switches was refused, or if a time of a task
+    /// is 2^48 us or more. Time stays within 2^42 us.
+    pub fn repeat(&mut self, micros: u64, paces: &[Pace], later_by: u64, period: &[Switch]) -> bool
+        requires many { length paces.now ≡ length self.old.tasks }
+        requires early { self.old.time + micros ≤ 2 ^ 42 }
+        requires may { AllMayGo paces.now self.old.tasks }
+        requires again { tick.ticks micros self.old
+            ≡ given_again micros paces.now later_by period.now self.old }
+        ensures made { IsTrue result → self.new ≡ tick.ticks micros self.old }
+        ensures not { result ≡ false → self.new ≡ self.old }
+    {
+        self.state.repeat(micros, paces, later_by, period)
     }
 
     /// Goes on from event to event, by at most so many ticks, and answers how many they were: the

@@ -37,6 +37,7 @@ mod lending;
 mod listing;
 mod passing;
 mod rating;
+mod repeating;
 mod seating;
 mod starting;
 mod turning;

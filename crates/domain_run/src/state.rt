@@ -20,6 +20,7 @@ mod lending;
 mod machine;
 mod marks;
 mod passing;
+mod repeating;
 mod ticking;
 
 use crate::call::{Refused, Reply};

@@ -1,6 +1,7 @@
 //! The switches of a domain: which CPU goes from whom to whom.
 
-ghost use Rattle.std.specs.Prelude.{◌≡◌, ◌<◌, ◌^◌};
+ghost use Rattle.std.specs.Prelude.{◌≡◌, ◌+◌, ◌<◌, ◌^◌};
+ghost use Rattle.domain_run.specs.Later.{later_switch};
 ghost use Rattle.domain_run.specs.Switch.{IsLeftIn};
 ghost use Rattle.domain_run.specs.private.Packed as packed;
 
@@ -142,6 +143,25 @@ impl Switch {
         ensures { result ≡ self.now.time }
     {
         u64::from(self.high) * HIGHER + u64::from(self.low)
+    }
+
+    /// The same switch so many microseconds later, below 2^48.
+    #[inline(always)]
+    pub fn later(&self, micros: u64) -> Switch
+        requires { self.now.time + micros < 2 ^ 48 }
+        ensures { result ≡ later_switch micros self.now }
+    {
+        let time = self.time() + micros;
+        let low = (time % HIGHER) as u32;
+        let high = (time / HIGHER) as u16;
+        Switch {
+            low,
+            leaves: self.leaves,
+            comes: self.comes,
+            high,
+            on: self.on,
+            handover: self.handover,
+        }
     }
 
     /// The number of the task that leaves, none for idle.

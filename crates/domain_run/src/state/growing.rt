@@ -66,7 +66,7 @@ impl State {
     /// was refused; nothing has changed, either way.
     #[inline(always)]
     pub(crate) fn make_room(&mut self, more: usize) -> Result<(), NoMemory>
-        requires { more ≤ 65536 }
+        requires { more ≤ 2 ^ 32 }
         ensures same { self.new ≡ self.old }
         ensures domain { IsDomain self.old }
     {
