@@ -21,7 +21,7 @@ use Rattle.domain_run.specs.Shift.{paced_task, paced_all, given_again, IsResting
 use Rattle.domain_run.specs.Sound.{IsTimed, IsSound, IsDomain, IsAdmitted, HasNoTaskTwice, IsTraced}
 use Rattle.domain_run.specs.Switch.{Switch}
 use Rattle.domain_run.specs.Tick.{candidates, prepared, ran_if, with_tick_begun, ticked, ticks}
-use Rattle.domain_run.specs.private.Repeating.{IsShort, HasTime}
+use Rattle.domain_run.specs.private.Repeating.{IsLowTime, HasTime}
 use Rattle.domain_run.proofs.Placing.{ready_in}
 use Rattle.domain_run.proofs.Seating.{IsSeating, placed_is}
 use Rattle.domain_run.proofs.Ticking.{AreListed, listed_of, listed_map, listed_homed, list_prepared, same_ran_if}
@@ -105,7 +105,7 @@ sound_paced k time Rests t h may soon = sound_still k time t h may
 sound_paced k time (Plays r) t h may soon = sound_later k r 0 time t h soon (λ e. let some = h.busy e in omega (arith, some))
 sound_paced k time (Works w) t h may soon = sound_later k 0 w time t h soon (λ e. let more = may.1 in omega (arith, more))
 
-soon_after : (k : ℕ) (c : Condition) → k ≤ 2 ^ 42 → IfSome (asks_at c) IsShort → IsSoonAfter k c
+soon_after : (k : ℕ) (c : Condition) → k ≤ 2 ^ 42 → IfSome (asks_at c) IsLowTime → IsSoonAfter k c
 soon_after k Ready most h = tt
 soon_after k Throttled most h = tt
 soon_after k (Blocked u) most h = omega (arith, most, h)

@@ -11,7 +11,7 @@ use Rattle.task_script.specs.script.Segments.{SegmentAndCursor, next_segment}
 use Rattle.domain_run.specs.declared.task.Task.{Task}
 use Rattle.domain_run.specs.declared.task.Condition.{Condition}
 use Rattle.domain_run.specs.declared.task.Condition.TheVariants.{Ready, Throttled, Blocked, Waiting, Leaving}
-use Rattle.domain_run.specs.Conditions.{is_ready, is_throttled, is_contending, is_leaving, is_over, has_come}
+use Rattle.domain_run.specs.Conditions.{is_throttled, is_contending, is_leaving, is_over, has_come}
 use Rattle.domain_run.specs.Parts.{replenish_due, settled, is_listed, enqueued, woken_task, started, starts, unblocked, with_cpu, with_last_cpu, running_on, stopped, went_on, goes_on, after_charge, ran}
 use Rattle.domain_run.specs.Switches.{left_in}
 use Rattle.task_script.specs.script.Later.{later_cursor, HasRounds}
@@ -19,29 +19,10 @@ use Rattle.domain_run.specs.Later.{later, later_server, later_condition, later_t
 use Rattle.repeat_law.proofs.Lists.{choice_over, choice_over2, le_later}
 use Rattle.repeat_law.proofs.Serving.{swap_add, woken_later, replenished_later, zero_lag_later}
 use Rattle.repeat_law.proofs.Asking.{later_segment, later_ask, next_later}
+-- passed on to the files above
+pub use Rattle.domain_run.proofs.CallerLemmas.{ready_later, throttled_later, contending_later}
 
 -- ---- conditions
-
-pub ready_later : (k : ℕ) (c : Condition) → is_ready (later_condition k c) ≡ is_ready c
-ready_later k Ready = refl
-ready_later k Throttled = refl
-ready_later k (Blocked u) = refl
-ready_later k Waiting = refl
-ready_later k Leaving = refl
-
-pub throttled_later : (k : ℕ) (c : Condition) → is_throttled (later_condition k c) ≡ is_throttled c
-throttled_later k Ready = refl
-throttled_later k Throttled = refl
-throttled_later k (Blocked u) = refl
-throttled_later k Waiting = refl
-throttled_later k Leaving = refl
-
-pub contending_later : (k : ℕ) (c : Condition) → is_contending (later_condition k c) ≡ is_contending c
-contending_later k Ready = refl
-contending_later k Throttled = refl
-contending_later k (Blocked u) = refl
-contending_later k Waiting = refl
-contending_later k Leaving = refl
 
 leaving_later : (k : ℕ) (c : Condition) → is_leaving (later_condition k c) ≡ is_leaving c
 leaving_later k Ready = refl

@@ -1,13 +1,13 @@
-//! The listed tasks go on in time, each at its pace, without being asked: a period of a run is given
-//! again.
+//! The listed tasks go on in time, each at its pace, without being asked: a period of a run is
+//! given again.
 
-ghost use Rattle.std.specs.Prelude.{◌≡◌, ◌+◌, ◌≤◌, ◌<◌, ◌^◌, All, IfSome, IsTrue, is_some, length, slice_index_or};
+ghost use Rattle.std.specs.Prelude.{◌≡◌, ◌≤◌, ◌<◌, ◌^◌, All, IfSome, IsTrue, is_some, length, slice_index_or};
 ghost use Rattle.task_script.specs.script.Later.{HasRounds};
 ghost use Rattle.domain_run.specs.declared.task.Task.{Task};
 ghost use Rattle.domain_run.specs.Jump.{asks_at};
 ghost use Rattle.domain_run.specs.Later as later_spec;
 ghost use Rattle.domain_run.specs.Shift.{paced_task, paced_all, MayGo, AllMayGo};
-ghost use Rattle.domain_run.specs.private.Repeating.{IsShort, HasTime};
+ghost use Rattle.domain_run.specs.private.Repeating.{IsLowTime, HasTime};
 ghost use Rattle.domain_run.specs.private.RunQueue as spec;
 ghost use Rattle.domain_run.specs.private.Waiting as waiting;
 ghost use Rattle.domain_run.specs.private.Timers.{IsTimerStep};
@@ -23,44 +23,44 @@ use due_times::Seats;
 use slot_list::SlotList;
 
 /// Times below this may go on by any number of microseconds of a domain.
-const SHORT_TIME: u64 = 1 << 48;
+const LOW_TIME: u64 = 1 << 48;
 
-fn is_short(time: u64) -> bool
-    ensures { IsTrue result → IsShort time }
+fn is_low(time: u64) -> bool
+    ensures { IsTrue result → IsLowTime time }
 {
-    time < SHORT_TIME
+    time < LOW_TIME
 }
 
-fn is_short_if_any(time: Option<u64>) -> bool
-    ensures { IsTrue result → IfSome time IsShort }
+fn is_low_if_any(time: Option<u64>) -> bool
+    ensures { IsTrue result → IfSome time IsLowTime }
 {
     match time {
         None => true,
-        Some(time) => is_short(time),
+        Some(time) => is_low(time),
     }
 }
 
 fn asks_in_time(condition: Condition) -> bool
-    ensures { IsTrue result → IfSome (asks_at condition) IsShort }
+    ensures { IsTrue result → IfSome (asks_at condition) IsLowTime }
 {
     match condition {
-        Condition::Blocked(until) => is_short(until),
+        Condition::Blocked(until) => is_low(until),
         _ => true,
     }
 }
 
-/// Whether all times of a task are short.
+/// Whether all times of a task are low.
 fn has_time(task: &Task) -> bool
     ensures { IsTrue result → HasTime task.now }
 {
-    is_short_if_any(task.server.deadline)
+    is_low_if_any(task.server.deadline)
         && asks_in_time(task.condition)
-        && is_short_if_any(task.zero_lag)
-        && is_short(task.cursor.reference())
+        && is_low_if_any(task.zero_lag)
+        && is_low(task.cursor.reference())
 }
 
 fn later(time: Option<u64>, micros: u64) -> Option<u64>
-    requires time { IfSome time IsShort }
+    requires time { IfSome time IsLowTime }
     requires micros { micros ≤ 2 ^ 42 }
     ensures { result ≡ later_spec.later micros time }
 {
@@ -71,7 +71,7 @@ fn later(time: Option<u64>, micros: u64) -> Option<u64>
 }
 
 fn later_condition(condition: Condition, micros: u64) -> Condition
-    requires asks { IfSome (asks_at condition) IsShort }
+    requires asks { IfSome (asks_at condition) IsLowTime }
     requires micros { micros ≤ 2 ^ 42 }
     ensures { result ≡ later_spec.later_condition micros condition }
 {

@@ -1,6 +1,5 @@
-use Rattle.std.proofs.Common.{◌≡◌, ◌<◌, ◌∙◌, length, get_or, take, ap, arith}
+use Rattle.std.proofs.Common.{◌<◌, ◌∙◌, length, get_or, take, ap, arith}
 use Rattle.std.proofs.lemmas.List.{get_or_default}
-use Rattle.domain_run.specs.declared.pace.Pace.{Pace}
 use Rattle.domain_run.specs.declared.pace.Pace.TheVariants.{Rests}
 use Rattle.domain_run.proofs.GoingOn.{length_paced, paced_step, may_go_at, time_go_at}
 use Rattle.domain_run.proofs.roster.Roster.repeat.Goals as goal
