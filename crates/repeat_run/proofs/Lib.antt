@@ -1,0 +1,7 @@
+mod Swapping
+mod Going
+mod Giving
+mod Comparing
+mod Recording
+mod Handing
+mod Noting
