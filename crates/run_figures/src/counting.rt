@@ -1,6 +1,6 @@
 //! The jobs of a task, counted one by one.
 
-ghost use Rattle.std.specs.Prelude.{◌≡◌, ◌-◌, ◌≤◌, ◌^◌, Some, IfSome};
+ghost use Rattle.std.specs.Prelude.{◌≡◌, ◌-◌, ◌≤◌, ◌^◌, IfSome};
 ghost use Rattle.run_figures.specs.Figures as figures;
 ghost use Rattle.run_figures.specs.private.Telling as telling;
 
@@ -28,26 +28,28 @@ pub(crate) struct Counts {
 }
 
 /// One more that ended.
-fn with_outcome(ended: Option<Ended>, response: u64, slack: i128) -> Ended
-    requires room { IfSome ended (telling.IsWithinEnded (2 ^ 64 - 2)) }
-    ensures { Some result
-        ≡ telling.with_outcome ended (record { response = response; slack = slack }) }
+fn add_outcome(ended: &mut Option<Ended>, response: u64, slack: i128)
+    requires room { IfSome ended.old (telling.IsWithinEnded (2 ^ 64 - 2)) }
+    ensures { ended.new
+        ≡ telling.with_outcome ended.old (record { response = response; slack = slack }) }
 {
     match ended {
-        None => Ended {
-            count: 1,
-            total: u128::from(response),
-            least: response,
-            most: response,
-            slack,
-        },
-        Some(ended) => Ended {
-            count: ended.count + 1,
-            total: ended.total + u128::from(response),
-            least: ended.least.min(response),
-            most: ended.most.max(response),
-            slack: ended.slack.min(slack),
-        },
+        None => {
+            *ended = Some(Ended {
+                count: 1,
+                total: u128::from(response),
+                least: response,
+                most: response,
+                slack,
+            });
+        }
+        Some(ended) => {
+            ended.count += 1;
+            ended.total += u128::from(response);
+            ended.least = ended.least.min(response);
+            ended.most = ended.most.max(response);
+            ended.slack = ended.slack.min(slack);
+        }
     }
 }
 
@@ -61,32 +63,28 @@ fn is_late(job: &Job, time: u64) -> bool
     }
 }
 
-fn with_end(ended: Option<Ended>, job: &Job) -> Option<Ended>
-    requires room { IfSome ended (telling.IsWithinEnded (2 ^ 64 - 2)) }
-    ensures { result ≡ telling.with_end ended job.now }
+/// The end of a job, where it ended.
+fn add_end(ended: &mut Option<Ended>, job: &Job)
+    requires room { IfSome ended.old (telling.IsWithinEnded (2 ^ 64 - 2)) }
+    ensures { ended.new ≡ telling.with_end ended.old job.now }
 {
-    match job.ended {
-        None => ended,
-        Some(end) => Some(with_outcome(
+    if let Some(end) = job.ended {
+        add_outcome(
             ended,
             end.saturating_sub(job.release),
             i128::from(job.deadline) - i128::from(end),
-        )),
+        );
     }
 }
 
 /// One more job, where the run ends at this time.
-pub(crate) fn with_job(counts: Counts, job: &Job, time: u64) -> Counts
-    requires room { IfSome counts.ended (telling.IsWithinEnded (2 ^ 64 - 2)) }
-    requires late { counts.late ≤ 2 ^ 64 - 2 }
-    ensures { result ≡ telling.with_job time counts job.now }
+pub(crate) fn add_job(counts: &mut Counts, job: &Job, time: u64)
+    requires room { IfSome counts.old.ended (telling.IsWithinEnded (2 ^ 64 - 2)) }
+    requires late { counts.old.late ≤ 2 ^ 64 - 2 }
+    ensures { counts.new ≡ telling.with_job time counts.old job.now }
 {
-    Counts {
-        ended: with_end(counts.ended, job),
-        late: if is_late(job, time) {
-            counts.late + 1
-        } else {
-            counts.late
-        },
+    add_end(&mut counts.ended, job);
+    if is_late(job, time) {
+        counts.late += 1;
     }
 }

@@ -21,7 +21,7 @@ pub struct Job {
     pub cut: bool,
 }
 
-fn new_job(release: u64, deadline: u64) -> Job
+pub(crate) fn new_job(release: u64, deadline: u64) -> Job
     ensures { result ≡ jobs.new_job release deadline }
 {
     Job {
@@ -69,6 +69,16 @@ fn once_more(job: Option<Job>) -> Option<Job>
             throttled: job.throttled + 1,
             ..job
         }),
+    }
+}
+
+/// The job that is under way is throttled once more.
+pub(crate) fn add_throttle(job: &mut Option<Job>)
+    requires room { IfSome job.old (λ j. j.throttled ≤ 2 ^ 64 - 2) }
+    ensures { job.new ≡ option_map jobs.once_more job.old }
+{
+    if let Some(job) = job {
+        job.throttled += 1;
     }
 }
 

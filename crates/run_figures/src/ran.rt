@@ -33,32 +33,33 @@ pub(crate) struct Cpu {
     pub(crate) task: Option<u32>,
 }
 
-/// With a stay on a CPU behind.
-fn with_stay(ran: &Ran, cpu: u16, us: u64) -> Ran
-    requires time { ran.now.cpu_us ≤ (2 ^ 64 - 2) * 2 ^ 64 }
-    requires moves { ran.now.migrated ≤ 2 ^ 64 - 2 }
-    ensures { result ≡ running.with_stay cpu us ran.now }
+/// How often it migrates by a placement.
+fn moves_to(last: Option<u16>, cpu: u16) -> u64
+    ensures moves { result ≡ running.moves_to cpu last }
+    ensures few { result ≤ 1 }
 {
-    let moves = match ran.last {
+    match last {
         Some(last) if cpu != last => 1,
         _ => 0,
-    };
-    Ran {
-        number: ran.number,
-        cpu_us: ran.cpu_us + u128::from(us),
-        migrated: ran.migrated + moves,
-        last: Some(cpu),
     }
 }
 
-/// Without the rest of its last stay.
-fn without_rest(ran: &Ran, us: u64) -> Ran
-    ensures { result ≡ running.without_rest us ran.now }
+/// One more stay on a CPU.
+fn add_stay(ran: &mut Ran, cpu: u16, us: u64)
+    requires time { ran.old.cpu_us ≤ (2 ^ 64 - 2) * 2 ^ 64 }
+    requires moves { ran.old.migrated ≤ 2 ^ 64 - 2 }
+    ensures { ran.new ≡ running.with_stay cpu us ran.old }
 {
-    Ran {
-        cpu_us: ran.cpu_us.saturating_sub(u128::from(us)),
-        ..*ran
-    }
+    ran.cpu_us += u128::from(us);
+    ran.migrated += moves_to(ran.last, cpu);
+    ran.last = Some(cpu);
+}
+
+/// Without the rest of its last stay.
+fn drop_rest(ran: &mut Ran, us: u64)
+    ensures { ran.new ≡ running.without_rest us ran.old }
+{
+    ran.cpu_us = ran.cpu_us.saturating_sub(u128::from(us));
 }
 
 /// How long a CPU is busy with a task, or with none.
@@ -71,19 +72,16 @@ fn busy_with(task: Option<u32>, us: u64) -> u64
     }
 }
 
-/// With a switch behind, so many microseconds before the end.
-fn with_switch(cpu: &Cpu, switch: &Switch, us: u64) -> Cpu
-    requires time { cpu.now.busy_us ≤ (2 ^ 64 - 2) * 2 ^ 64 }
-    requires count { cpu.now.switches ≤ 2 ^ 64 - 2 }
-    ensures { result ≡ running.with_switch switch.now us cpu.now }
+/// One more switch, so many microseconds before the end.
+fn add_switch(cpu: &mut Cpu, switch: &Switch, us: u64)
+    requires time { cpu.old.busy_us ≤ (2 ^ 64 - 2) * 2 ^ 64 }
+    requires count { cpu.old.switches ≤ 2 ^ 64 - 2 }
+    ensures { cpu.new ≡ running.with_switch switch.now us cpu.old }
 {
     let busy_us = cpu.busy_us + u128::from(busy_with(switch.next(), us));
-    Cpu {
-        cpu: cpu.cpu,
-        busy_us: busy_us.saturating_sub(u128::from(busy_with(cpu.task, us))),
-        switches: cpu.switches + 1,
-        task: switch.next(),
-    }
+    cpu.busy_us = busy_us.saturating_sub(u128::from(busy_with(cpu.task, us)));
+    cpu.switches += 1;
+    cpu.task = switch.next();
 }
 
 /// With a stay of the task that comes by a switch behind.
@@ -99,8 +97,7 @@ fn put_stay(table: &mut Vec<Ran>, places: &Places, switch: &Switch, us: u64)
         return;
     };
     if let Some(place) = places.find(number) {
-        let after = with_stay(&table[place], switch.cpu(), us);
-        table[place] = after;
+        add_stay(&mut table[place], switch.cpu(), us);
     }
 }
 
@@ -114,8 +111,7 @@ fn take_rest(table: &mut Vec<Ran>, places: &Places, task: Option<u32>, us: u64)
         return;
     };
     if let Some(place) = places.find(number) {
-        let after = without_rest(&table[place], us);
-        table[place] = after;
+        drop_rest(&mut table[place], us);
     }
 }
 
@@ -198,9 +194,9 @@ pub(crate) fn put_switch(tables: &mut Tables, places: &Places, switch: &Switch, 
     ensures same_cpus_room { vec_capacity tables.new.cpus ≡ vec_capacity tables.old.cpus }
 {
     let cpu = switch.cpu() as usize;
-    let before = tables.cpus[cpu];
+    let task = tables.cpus[cpu].task;
     let rest = end.saturating_sub(switch.time());
     put_stay(&mut tables.tasks, places, switch, rest);
-    take_rest(&mut tables.tasks, places, before.task, rest);
-    tables.cpus[cpu] = with_switch(&before, switch, rest);
+    take_rest(&mut tables.tasks, places, task, rest);
+    add_switch(&mut tables.cpus[cpu], switch, rest);
 }

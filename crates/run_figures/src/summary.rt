@@ -4,12 +4,12 @@ ghost use Rattle.std.specs.Prelude.{◌≡◌, ◌<◌, ◌-◌, ◌^◌, IfOk, 
 ghost use Rattle.run_figures.specs.private.Telling as telling;
 ghost use Rattle.run_figures.specs.private.Putting as putting;
 
-use crate::counting::{Counts, Ended};
+use crate::counting::{Counts, Ended, add_job};
 use crate::figures::{CpuFigures, Responses, TaskFigures};
 use crate::ran::{Cpu, Ran};
 use crate::run::Admitted;
 use crate::throttle::us_up_to;
-use crate::told::{Told, with_over};
+use crate::told::Told;
 use domain_run::NoMemory;
 use std::alloc::Global;
 
@@ -25,12 +25,24 @@ fn responses_of(ended: &Ended) -> Responses
     }
 }
 
+/// The jobs that are over, and the one under way, where the run ends at this time.
+fn all_counts(told: &Told, end: u64) -> Counts
+    requires room { telling.IsToldWithin (2 ^ 64 - 2) told.now }
+    ensures { result ≡ telling.with_over end told.now.counts told.now.job }
+{
+    let mut counts = told.counts;
+    if let Some(job) = &told.job {
+        add_job(&mut counts, job, end);
+    }
+    counts
+}
+
 /// The figures of a task, where the run ends at this time.
 fn figures_of(task: &Admitted, told: &Told, ran: &Ran, end: u64) -> TaskFigures
     requires room { telling.IsToldWithin (2 ^ 64 - 2) told.now }
     ensures { result ≡ putting.put_task end task.now told.now ran.now }
 {
-    let counts = with_over(told.counts, told.job, end);
+    let counts = all_counts(told, end);
     let (jobs, responses) = match counts.ended {
         None => (0, None),
         Some(ended) => (ended.count, Some(responses_of(&ended))),

@@ -6,7 +6,7 @@ ghost use Rattle.run_figures.specs.private.Telling as telling;
 
 use crate::places::Places;
 use crate::run::Admitted;
-use crate::told::{Told, preempted_by, told_after, untold};
+use crate::told::{Told, preempted_by, tell_entry, untold};
 use domain_run::{Happened, NoMemory, Switch};
 use std::alloc::Global;
 
@@ -21,8 +21,7 @@ fn tell(told: &mut Vec<Told>, places: &Places, happened: &Happened, time: u64)
     ensures same_room { vec_capacity told.new ≡ vec_capacity told.old }
 {
     if let Some(place) = places.find(happened.number) {
-        let after = told_after(&told[place], happened, time);
-        told[place] = after;
+        tell_entry(&mut told[place], happened, time);
     }
 }
 

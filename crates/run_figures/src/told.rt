@@ -1,12 +1,12 @@
 //! What is told of a task while its entries go by.
 
-ghost use Rattle.std.specs.Prelude.{ℕ, ◌≡◌, ◌+◌, ◌-◌, ◌≤◌, ◌^◌, IfSome};
+ghost use Rattle.std.specs.Prelude.{ℕ, ◌≡◌, ◌+◌, ◌-◌, ◌^◌};
 ghost use Rattle.run_figures.specs.private.Telling as telling;
 
-use crate::counting::{Counts, with_job};
-use crate::job::{Job, over_by, under_way};
-use crate::throttle::{Throttle, throttle_after};
-use domain_run::{Happened, PrevState, Switch};
+use crate::counting::{Counts, add_job};
+use crate::job::{Job, add_throttle, new_job, over_by};
+use crate::throttle::{Throttle, begin_throttle, end_throttle};
+use domain_run::{Happened, PrevState, Switch, What};
 
 /// What is told of a task so far.
 #[derive(Clone, Copy)]
@@ -41,34 +41,53 @@ pub(crate) fn untold(number: u32) -> Told
     }
 }
 
-/// The jobs that are over, with this one.
-pub(crate) fn with_over(counts: Counts, over: Option<Job>, time: u64) -> Counts
-    requires room { IfSome counts.ended (telling.IsWithinEnded (2 ^ 64 - 2)) }
-    requires late { counts.late ≤ 2 ^ 64 - 2 }
-    ensures { result ≡ telling.with_over time counts over }
+/// Its job, where it is over by this.
+fn tell_over(told: &mut Told, happened: &Happened, time: u64)
+    requires room { telling.IsToldWithin (2 ^ 64 - 2) told.old }
+    ensures { told.new ≡ telling.with_over_by time happened.now told.old }
 {
-    match over {
-        None => counts,
-        Some(job) => with_job(counts, &job, time),
+    if let Some(job) = over_by(happened, told.job) {
+        add_job(&mut told.counts, &job, time);
     }
 }
 
-/// What an entry of the task makes of it, where the run ends at this time.
-pub(crate) fn told_after(told: &Told, happened: &Happened, time: u64) -> Told
-    requires room { telling.IsToldWithin (2 ^ 64 - 2) told.now }
-    ensures told { result ≡ telling.told_after time happened.now told.now }
-    ensures within { (n : ℕ) → telling.IsToldWithin n told.now
-        → telling.IsToldWithin (n + 1) result }
+/// An entry of the task, where the run ends at this time.
+fn tell_what(told: &mut Told, happened: &Happened, time: u64)
+    requires room { telling.IsToldWithin (2 ^ 64 - 2) told.old }
+    ensures { told.new ≡ telling.told_after time happened.now told.old }
+{
+    match happened.what {
+        What::JobEnds => {
+            tell_over(told, happened, time);
+            told.job = None;
+        }
+        What::Cut => {
+            tell_over(told, happened, time);
+            told.job = None;
+            end_throttle(&mut told.throttle, happened.time);
+        }
+        What::NextReleased { deadline } | What::Released { deadline } => {
+            tell_over(told, happened, time);
+            told.job = Some(new_job(happened.time, deadline));
+        }
+        What::Spent { .. } | What::WokenSpent { .. } => {
+            add_throttle(&mut told.job);
+            begin_throttle(&mut told.throttle, happened.time);
+        }
+        What::Replenished { .. } => end_throttle(&mut told.throttle, happened.time),
+    }
+}
+
+/// An entry of the task, where the run ends at this time.
+pub(crate) fn tell_entry(told: &mut Told, happened: &Happened, time: u64)
+    requires room { telling.IsToldWithin (2 ^ 64 - 2) told.old }
+    ensures told { told.new ≡ telling.told_after time happened.now told.old }
+    ensures within { (n : ℕ) → telling.IsToldWithin n told.old
+        → telling.IsToldWithin (n + 1) told.new }
 {
     // Read, so that its range is known.
     let _time = happened.time;
-    Told {
-        number: told.number,
-        job: under_way(happened, told.job),
-        counts: with_over(told.counts, over_by(happened, told.job), time),
-        throttle: throttle_after(&told.throttle, happened),
-        preempted: told.preempted,
-    }
+    tell_what(told, happened, time);
 }
 
 /// Whom a switch takes a CPU from that it still wants: a task that is ready, or throttled.

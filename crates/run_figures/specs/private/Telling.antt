@@ -56,14 +56,27 @@ abbrev pub gap : Option ℕ → ℕ → ℕ
 gap None time = 0
 gap (Some since) time = time - since
 
+abbrev pub throttled_from : ℕ → Throttle → Throttle
+throttled_from time t =
+    record { times = t.times + 1; us = t.us + gap t.since time; since = Some time }
+
+abbrev pub freed_from : ℕ → Throttle → Throttle
+freed_from time t = record { times = t.times; us = t.us + gap t.since time; since = None }
+
 abbrev pub throttle_by : ℕ → What → Throttle → Throttle
 throttle_by time what t =
-    if throttles what
-    then record { times = t.times + 1; us = t.us + gap t.since time; since = Some time }
-    else (if frees what
-    then record { times = t.times; us = t.us + gap t.since time; since = None } else t)
+    if throttles what then throttled_from time t
+    else (if frees what then freed_from time t else t)
 
 -- A TASK, where the run ends at this time
+abbrev pub with_counts : Counts → Told → Told
+with_counts counts t = record t { counts = counts }
+
+-- with its job, where it is over by this
+abbrev pub with_over_by : ℕ → Happened → Told → Told
+with_over_by time h t = with_counts (with_over time t.counts (over_by h.time h.what t.job)) t
+
+-- with an entry of its own
 abbrev pub told_after : ℕ → Happened → Told → Told
 told_after time h t = record t {
   job = job_after h.time h.what t.job;

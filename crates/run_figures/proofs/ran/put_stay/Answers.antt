@@ -14,8 +14,8 @@ returns-in_default-clause-stay c =
 pub returns-in-Some-find-clause-stay : goal.returns-in-Some-find-clause-stay
 returns-in-Some-find-clause-stay c =
     let items = c.args.table.now.items in
-    ap (λ (x : Ran). set items c.in-Some-find.place x) c.with_stay-after.ensures
-    ∙ turned_place (λ (r : Ran). r.number) c.in-Some.number (with_stay c.cpu.result c.args.us) items c.args.places.now c.in-Some-find.place c.index.result.now c.requires.keyed c.find.ensures.apart c.in-Some-find.ensures.found c.index.ensures
+    ap (λ (x : Ran). set items c.in-Some-find.place x) c.add_stay.ensures
+    ∙ turned_place (λ (r : Ran). r.number) c.in-Some.number (with_stay c.cpu.result c.args.us) items c.args.places.now c.in-Some-find.place c.index_mut.result.now c.requires.keyed c.find.ensures.apart c.in-Some-find.ensures.found c.index_mut.ensures.value
     ∙ ap (λ (o : Option ℕ). map (with_stay_of o c.cpu.result c.args.us) items) (sym c.in-Some.is)
     ∙ (λ i. map (with_stay_of (c.next.ensures i) (c.cpu.ensures i) c.args.us) items)
 

@@ -18,7 +18,7 @@ pub returns-clause-cpus : goal.returns-clause-cpus
 returns-clause-cpus c =
     let items = c.args.tables.now.cpus.items in
     let s = c.args.switch.now in
-    ap (λ n. set items n c.with_switch.result) c.cpu-cpu.ensures
-    ∙ ap (λ (x : Cpu). set items s.cpu x) c.with_switch.ensures
-    ∙ turned_place (λ (x : Cpu). x.cpu) s.cpu (with_switch s c.saturating_sub-rest.result) items (range_with_len 0 (length items)) s.cpu c.index.result.now c.requires.cpu (cpus_apart (length items)) (cpu_at (length items) s.cpu c.requires.inside) (c.index.ensures ∙ ap (λ n. get_or items n c.index.result.now) c.cpu-cpu.ensures)
+    ap (λ n. set items n c.add_switch.new.cpu) c.cpu-cpu.ensures
+    ∙ ap (λ (x : Cpu). set items s.cpu x) c.add_switch.ensures
+    ∙ turned_place (λ (x : Cpu). x.cpu) s.cpu (with_switch s c.saturating_sub-rest.result) items (range_with_len 0 (length items)) s.cpu c.index_mut.result.now c.requires.cpu (cpus_apart (length items)) (cpu_at (length items) s.cpu c.requires.inside) (c.index_mut.ensures.value ∙ ap (λ n. get_or items n c.index_mut.result.now) c.cpu-cpu.ensures)
     ∙ ap (λ u. map (with_switch_on s u) items) (c.saturating_sub-rest.ensures ∙ ap (λ t. c.args.end - t) c.time.ensures)

@@ -14,8 +14,8 @@ returns-in_default-clause-rest c =
 pub returns-in-Some-find-clause-rest : goal.returns-in-Some-find-clause-rest
 returns-in-Some-find-clause-rest c =
     let items = c.args.table.now.items in
-    ap (λ (x : Ran). set items c.in-Some-find.place x) c.without_rest-after.ensures
-    ∙ turned_place (λ (r : Ran). r.number) c.in-Some.number (without_rest c.args.us) items c.args.places.now c.in-Some-find.place c.index.result.now c.requires.keyed c.find.ensures.apart c.in-Some-find.ensures.found c.index.ensures
+    ap (λ (x : Ran). set items c.in-Some-find.place x) c.drop_rest.ensures
+    ∙ turned_place (λ (r : Ran). r.number) c.in-Some.number (without_rest c.args.us) items c.args.places.now c.in-Some-find.place c.index_mut.result.now c.requires.keyed c.find.ensures.apart c.in-Some-find.ensures.found c.index_mut.ensures.value
     ∙ ap (λ (o : Option ℕ). map (without_rest_of o c.args.us) items) (sym c.in-Some.is)
 
 pub returns-in_default-find-clause-rest : goal.returns-in_default-find-clause-rest
