@@ -1,7 +1,7 @@
 -- The pieces of an advance, one after the other.
 use Rattle.std.proofs.Common.{◌≡◌, ◌≢◌, ℕ, zero, suc, ◌+◌, ◌*◌, ◌^◌, ◌<◌, ◌≤◌, List, [], ◌++◌, length, map, get_or, refl, sym, ap, subst, ◌∙◌, arith}
 use Rattle.std.specs.Prelude.{All, AllPairs, IsTrue, Bool, true, if◌then◌else◌}
-use Rattle.std.proofs.lemmas.List.{append-nil, length-map, get_or-map}
+use Rattle.std.proofs.lemmas.List.{append-nil, append_assoc, length-append, length-map, get_or-map}
 use Rattle.std.proofs.lemmas.List.Elements.{All-nil, All-append, All-weaker}
 use Rattle.domain_run.specs.declared.happened.Happened.{Happened}
 use Rattle.domain_run.specs.Switch.{Switch}
@@ -17,7 +17,7 @@ use Rattle.jump_run.proofs.CallerLemmas.{ticks_more, told_more}
 use Rattle.run_figures.specs.Accounting.{AccountingView, IsNextPiece, with_piece}
 use Rattle.run_figures.specs.Runs.{AreTasks}
 use Rattle.run_figures.specs.declared.run.Admitted.{Admitted}
-use Rattle.heard_run.specs.Heard.{nothing_heard, heard_after, heard_of}
+use Rattle.heard_run.specs.Heard.{nothing_heard, heard_after, heard_of, IsHeardUpTo}
 use Rattle.heard_run.proofs.Bounded.{few_switches}
 use Rattle.heard_run.proofs.Span.{IsWithin, told_within, made_later}
 
@@ -75,7 +75,7 @@ seen_few d is cpus = few_switches d.time d.switches (All-weaker (λ (s : Switch)
 
 -- ---- THE FIRST PIECE: the switches so far
 
-pub first_piece : (n : ℕ) (d : Domain) → IsDomain d → d.time + n ≤ 2 ^ 42 → IsNextPiece (nothing_heard n d) [] d.switches
+first_piece : (n : ℕ) (d : Domain) → IsDomain d → d.time + n ≤ 2 ^ 42 → IsNextPiece (nothing_heard n d) [] d.switches
 first_piece n d is early =
     let s = seen d is in
     record {
@@ -88,12 +88,33 @@ first_piece n d is early =
       few_switches = omega (arith, seen_few d s is.steady.cpus.1, early);
     }
 
+pub nothing_up_to : (n : ℕ) (d : Domain) (a : AccountingView) (since : List Happened) → IsDomain d → d.time + n ≤ 2 ^ 42 → a ≡ nothing_heard n d → since ≡ [] → IsHeardUpTo d since a
+nothing_up_to n d a since is early new none =
+    let nothing : IsHeardUpTo d [] (nothing_heard n d) = record {
+      same_cpus = refl;
+      next = first_piece n d is early;
+      past = All-nil _;
+      inside = All-nil _;
+      told = All-nil _;
+      told_since = All-nil _;
+      few = omega arith;
+    } in
+    subst (λ (x : AccountingView). IsHeardUpTo d since x) (sym new) (subst (λ (hs : List Happened). IsHeardUpTo d hs (nothing_heard n d)) (sym none) nothing)
+
 -- ---- what the advance keeps, once so many ticks are heard
 
-pub record IsHeard (n k : ℕ) (d e : Domain) (a : AccountingView) (log : LogView) : Type 0 where
+-- the domain with all switches of the run
+abbrev pub whole_of : AccountingView → ℕ → Domain → Domain
+whole_of was k d = with_past was.switches (ticks k d)
+
+-- so many ticks of a domain are heard, behind what the accounting heard before
+abbrev pub heard_so_far : AccountingView → List Happened → ℕ → Domain → AccountingView
+heard_so_far was since k d = with_piece was (since ++ told_by_ticks k d) (ticks k d).switches
+
+pub record IsHeard (was : AccountingView) (since : List Happened) (k : ℕ) (d e : Domain) (a : AccountingView) (log : LogView) : Type 0 where
   pub state : e ≡ without_switches (ticks k d)
-  pub heard : a ≡ heard_after n k d
-  pub switches : IsSeen (ticks k d)
+  pub heard : a ≡ heard_so_far was since k d
+  pub switches : IsSeen (whole_of was k d)
   pub wanted : log.wanted ≡ true
   pub empty : log.happened ≡ []
 
@@ -123,10 +144,25 @@ from_beginning k m d e f is made =
 cpus_behind : (k m : ℕ) (d e f : Domain) → e ≡ without_switches (ticks k d) → f ≡ ticks m e → f.cpus ≡ d.cpus
 cpus_behind k m d e f is made = ap (λ (x : Domain). x.cpus) made ∙ ticks_cpus m e ∙ ap (λ (x : Domain). x.cpus) is ∙ ticks_cpus k d
 
-pub next_piece : (n k m : ℕ) (d e f : Domain) → IsDomain d → IsDomain f → d.time + n ≤ 2 ^ 42 → k + m ≤ n → IsSeen (ticks k d) → e ≡ without_switches (ticks k d) → f ≡ ticks m e
-    → IsNextPiece (heard_after n k d) (told_by_ticks m e) f.switches
-next_piece n k m d e f first last early most switches is made =
-    let b = ticks k d in
+-- of what was heard nothing is later than this
+told_past : (was : AccountingView) (since : List Happened) (k : ℕ) (d : Domain) → IsHeardUpTo d since was → All (λ h. h.time ≤ d.time + k) (was.happened ++ (since ++ told_by_ticks k d))
+told_past was since k d up_to =
+    let P : Happened → Type 0 = λ h. h.time ≤ d.time + k in
+    let early : Happened → Type 0 = λ h. h.time ≤ d.time in
+    All-append P was.happened (since ++ told_by_ticks k d)
+    (All-weaker early P (λ h l. omega (arith, l)) was.happened up_to.told)
+    (All-append P since (told_by_ticks k d)
+    (All-weaker early P (λ h l. omega (arith, l)) since up_to.told_since)
+    (All-weaker (IsWithin d.time (d.time + k)) P (λ h w. w.1) (told_by_ticks k d) (told_within k d)))
+
+-- and it is this much at most
+told_length : (was : AccountingView) (since : List Happened) (k : ℕ) (d : Domain) → length d.tasks ≤ 256 → length (was.happened ++ (since ++ told_by_ticks k d)) ≤ length was.happened + length since + 2304 * k
+told_length was since k d few = omega (arith, told_few k d few, length-append was.happened (since ++ told_by_ticks k d), length-append since (told_by_ticks k d))
+
+next_of : (was : AccountingView) (since : List Happened) (k m : ℕ) (d e f : Domain) → IsDomain d → IsDomain f → IsHeardUpTo d since was → d.time + (k + m) ≤ was.time → was.time ≤ 2 ^ 42 → IsSeen (whole_of was k d) → e ≡ without_switches (ticks k d) → f ≡ ticks m e
+    → IsNextPiece (heard_so_far was since k d) (told_by_ticks m e) f.switches
+next_of was since k m d e f first last up_to most early switches is made =
+    let b = whole_of was k d in
     let more = seen f last in
     let now : b.time ≡ d.time + k = ticks_time k d in
     let at : e.time ≡ d.time + k = ap (λ (x : Domain). x.time) is ∙ now in
@@ -136,56 +172,79 @@ next_piece n k m d e f first last early most switches is made =
     let tasks : length e.tasks ≤ 256 = omega (arith, ap (λ (x : Domain). length x.tasks) is, ticks_few k d, first.steady.listed) in
     let limit = first.steady.cpus.1 in
     let whole = seen_behind b f switches more (omega (arith, now, end)) (ticks_cpus k d ∙ sym cpus) (All-weaker (λ (s : Switch). d.time + k ≤ s.time) (λ (s : Switch). b.time ≤ s.time) (λ s h. omega (arith, h, now)) f.switches from) in
+    let heard = was.happened ++ (since ++ told_by_ticks k d) in
     record {
-      told = All-weaker (λ (s : Switch). d.time + k ≤ s.time) (λ (s : Switch). All (λ (h : Happened). h.time ≤ s.time) (told_by_ticks k d))
-          (λ s later. All-weaker (IsWithin d.time (d.time + k)) (λ (h : Happened). h.time ≤ s.time) (λ h w. omega (arith, w.1, later)) (told_by_ticks k d) (told_within k d)) f.switches from;
+      told = All-weaker (λ (s : Switch). d.time + k ≤ s.time) (λ (s : Switch). All (λ (h : Happened). h.time ≤ s.time) heard)
+          (λ s later. All-weaker (λ (h : Happened). h.time ≤ d.time + k) (λ (h : Happened). h.time ≤ s.time) (λ h l. omega (arith, l, later)) heard (told_past was since k d up_to)) f.switches from;
       later = All-weaker (IsWithin e.time (e.time + m)) (λ (h : Happened). All (λ (s : Switch). s.time < h.time) b.switches)
           (λ h w. All-weaker (λ (s : Switch). s.time < b.time) (λ (s : Switch). s.time < h.time) (λ s past. omega (arith, past, w.0, at, now)) b.switches switches.past) (told_by_ticks m e) (told_within m e);
       rising = whole.rising;
-      past = All-weaker (λ (s : Switch). s.time < f.time) (λ (s : Switch). s.time ≤ d.time + n) (λ s h. omega (arith, h, end, most)) f.switches more.past;
-      inside = All-weaker (λ (s : Switch). s.cpu < f.cpus) (λ (s : Switch). s.cpu < d.cpus) (λ s h. omega (arith, h, cpus)) f.switches more.inside;
-      few_happened = omega (arith, told_few k d first.steady.listed, told_few m e tasks, most, early);
+      past = All-weaker (λ (s : Switch). s.time < f.time) (λ (s : Switch). s.time ≤ was.time) (λ s h. omega (arith, h, end, most)) f.switches more.past;
+      inside = All-weaker (λ (s : Switch). s.cpu < f.cpus) (λ (s : Switch). s.cpu < was.cpus) (λ s h. omega (arith, h, cpus, up_to.same_cpus)) f.switches more.inside;
+      few_happened = omega (arith, told_length was since k d first.steady.listed, told_few m e tasks, up_to.few, most, early);
       few_switches = omega (arith, seen_few b switches (omega (arith, ticks_cpus k d, limit)), seen_few f more (omega (arith, cpus, limit)), now, end, most, early);
     }
 
+pub next_piece : (was : AccountingView) (since : List Happened) (k m : ℕ) (d e f : Domain) (a : AccountingView) (log : LogView) → IsDomain d → IsDomain f → IsHeardUpTo d since was → d.time + (k + m) ≤ was.time → was.time ≤ 2 ^ 42 → IsHeard was since k d e a log → f ≡ ticks m e
+    → IsNextPiece a (told_by_ticks m e) f.switches
+next_piece was since k m d e f a log first last up_to most early heard made =
+    subst (λ (x : AccountingView). IsNextPiece x (told_by_ticks m e) f.switches) (sym heard.heard) (next_of was since k m d e f first last up_to most early heard.switches heard.state made)
+
 -- which is heard, and forgotten
-pub heard_more : (n k m : ℕ) (d e f : Domain) (a : AccountingView) (log now : LogView) → IsDomain f → IsHeard n k d e a log → f ≡ ticks m e → now.wanted ≡ true → now.happened ≡ []
-    → IsHeard n (k + m) d (without_switches f) (with_piece a (told_by_ticks m e) f.switches) now
-heard_more n k m d e f a log now last is made wanted empty =
+heard_more : (was : AccountingView) (since : List Happened) (k m : ℕ) (d e f : Domain) (a : AccountingView) (log now : LogView) → IsDomain f → IsHeard was since k d e a log → f ≡ ticks m e → now.wanted ≡ true → now.happened ≡ []
+    → IsHeard was since (k + m) d (without_switches f) (with_piece a (told_by_ticks m e) f.switches) now
+heard_more was since k m d e f a log now last is made wanted empty =
     let b = ticks k d in
+    let w = whole_of was k d in
     let more = seen f last in
     let all = joined k m d e f is.state made in
     let time : b.time ≡ d.time + k = ticks_time k d in
     let end = time_behind k m d e f is.state made in
     let cpus = cpus_behind k m d e f is.state made in
     let from = from_beginning k m d e f is.state made in
-    let whole = seen_behind b f is.switches more (omega (arith, time, end)) (ticks_cpus k d ∙ sym cpus) (All-weaker (λ (s : Switch). d.time + k ≤ s.time) (λ (s : Switch). b.time ≤ s.time) (λ s h. omega (arith, h, time)) f.switches from) in
-    let told = told_joined k m d e is.state in
-    let switches : b.switches ++ f.switches ≡ (ticks (k + m) d).switches = sym (ap (λ (x : Domain). x.switches) all) in
+    let whole = seen_behind w f is.switches more (omega (arith, time, end)) (ticks_cpus k d ∙ sym cpus) (All-weaker (λ (s : Switch). d.time + k ≤ s.time) (λ (s : Switch). b.time ≤ s.time) (λ s h. omega (arith, h, time)) f.switches from) in
+    let told : (was.happened ++ (since ++ told_by_ticks k d)) ++ told_by_ticks m e ≡ was.happened ++ (since ++ told_by_ticks (k + m) d) =
+    append_assoc was.happened (since ++ told_by_ticks k d) (told_by_ticks m e)
+    ∙ ap (λ (hs : List Happened). was.happened ++ hs) (append_assoc since (told_by_ticks k d) (told_by_ticks m e) ∙ ap (λ (hs : List Happened). since ++ hs) (told_joined k m d e is.state)) in
+    let made_all : b.switches ++ f.switches ≡ (ticks (k + m) d).switches = sym (ap (λ (x : Domain). x.switches) all) in
+    let switches : (was.switches ++ b.switches) ++ f.switches ≡ was.switches ++ (ticks (k + m) d).switches =
+    append_assoc was.switches b.switches f.switches ∙ ap (λ (ss : List Switch). was.switches ++ ss) made_all in
+    let same : with_past w.switches f ≡ whole_of was (k + m) d =
+    ap (λ (ss : List Switch). record f { switches = ss }) (append_assoc was.switches b.switches f.switches) ∙ ap (with_past was.switches) (sym all) in
     record {
       state = sym (ap without_switches all);
       heard = ap (λ (x : AccountingView). with_piece x (told_by_ticks m e) f.switches) is.heard
-          ∙ (λ i. record { cpus = d.cpus; time = d.time + n; tasks = d.used; happened = told i; switches = switches i });
-      switches = subst IsSeen (sym all) whole;
+          ∙ (λ i. record was { happened = told i; switches = switches i });
+      switches = subst IsSeen same whole;
       wanted = wanted;
       empty = empty;
     }
 
+-- what an accounting that heard the run up to here has to do with it
+seen_up_to : (was : AccountingView) (since : List Happened) (d : Domain) → IsDomain d → IsHeardUpTo d since was → IsSeen (whole_of was 0 d)
+seen_up_to was since d is up_to =
+    let own = seen d is in
+    record {
+      past = All-append (λ (s : Switch). s.time < d.time) was.switches d.switches up_to.past own.past;
+      inside = All-append (λ (s : Switch). s.cpu < d.cpus) was.switches d.switches up_to.inside own.inside;
+      rising = up_to.next.rising;
+    }
+
 -- as the code has it
-pub first_heard : (n : ℕ) (d e : Domain) (was a : AccountingView) (hs : List Happened) (log : LogView) → IsDomain d → was ≡ nothing_heard n d → hs ≡ [] → a ≡ with_piece was hs d.switches → e ≡ without_switches d
-    → log.wanted ≡ true → log.happened ≡ [] → IsHeard n 0 d e a log
-first_heard n d e was a hs log is new none heard left wanted empty = record {
+pub first_heard : (d e : Domain) (was a : AccountingView) (since : List Happened) (log : LogView) → IsDomain d → IsHeardUpTo d since was → a ≡ with_piece was since d.switches → e ≡ without_switches d
+    → log.wanted ≡ true → log.happened ≡ [] → IsHeard was since 0 d e a log
+first_heard d e was a since log is up_to heard left wanted empty = record {
   state = left;
-  heard = heard ∙ ap (λ (x : AccountingView). with_piece x hs d.switches) new ∙ ap (λ (gs : List Happened). with_piece (nothing_heard n d) gs d.switches) none;
-  switches = seen d is;
+  heard = heard ∙ ap (λ (hs : List Happened). with_piece was hs d.switches) (sym (append-nil since));
+  switches = seen_up_to was since d is up_to;
   wanted = wanted;
   empty = empty;
 }
 
-pub next_heard : (n k m : ℕ) (d e f g : Domain) (a b : AccountingView) (hs : List Happened) (log now : LogView) → IsDomain f → IsHeard n k d e a log → f ≡ ticks m e → hs ≡ told_by_ticks m e → b ≡ with_piece a hs f.switches → g ≡ without_switches f
-    → now.wanted ≡ true → now.happened ≡ [] → IsHeard n (k + m) d g b now
-next_heard n k m d e f g a b hs log now last is made told heard left wanted empty =
-    let whole = heard_more n k m d e f a log now last is made wanted empty in
+pub next_heard : (was : AccountingView) (since : List Happened) (k m : ℕ) (d e f g : Domain) (a b : AccountingView) (hs : List Happened) (log now : LogView) → IsDomain f → IsHeard was since k d e a log → f ≡ ticks m e → hs ≡ told_by_ticks m e → b ≡ with_piece a hs f.switches → g ≡ without_switches f
+    → now.wanted ≡ true → now.happened ≡ [] → IsHeard was since (k + m) d g b now
+next_heard was since k m d e f g a b hs log now last is made told heard left wanted empty =
+    let whole = heard_more was since k m d e f a log now last is made wanted empty in
     record {
       state = left ∙ whole.state;
       heard = heard ∙ ap (λ (gs : List Happened). with_piece a gs f.switches) told ∙ whole.heard;
@@ -193,6 +252,43 @@ next_heard n k m d e f g a b hs log now last is made told heard left wanted empt
       wanted = wanted;
       empty = empty;
     }
+
+-- ---- at the end it is heard up to there
+
+up_to_there : (was : AccountingView) (since : List Happened) (k : ℕ) (d : Domain) → IsDomain d → IsHeardUpTo d since was → d.time + k ≤ was.time → was.time ≤ 2 ^ 42 → IsSeen (whole_of was k d) → IsHeardUpTo (without_switches (ticks k d)) [] (heard_so_far was since k d)
+up_to_there was since k d is up_to most early switches =
+    let b = whole_of was k d in
+    let now : b.time ≡ d.time + k = ticks_time k d in
+    let cpus : b.cpus ≡ d.cpus = ticks_cpus k d in
+    let long = told_length was since k d is.steady.listed in
+    let heard = was.happened ++ (since ++ told_by_ticks k d) in
+    record {
+      same_cpus = up_to.same_cpus ∙ sym cpus;
+      next = record {
+        told = All-nil _;
+        later = All-nil _;
+        rising = rw (append-nil b.switches) switches.rising;
+        past = All-nil _;
+        inside = All-nil _;
+        few_happened = omega (arith, long, up_to.few, most, early);
+        few_switches = omega (arith, seen_few b switches (omega (arith, cpus, is.steady.cpus.1)), now, most, early);
+      };
+      past = switches.past;
+      inside = switches.inside;
+      told = All-weaker (λ (h : Happened). h.time ≤ d.time + k) (λ (h : Happened). h.time ≤ b.time) (λ h l. omega (arith, l, now)) heard (told_past was since k d up_to);
+      told_since = All-nil _;
+      few = omega (arith, long, up_to.few, now, most, early);
+    }
+
+pub heard_up_to : (was : AccountingView) (since : List Happened) (k : ℕ) (d e : Domain) (a : AccountingView) (log : LogView) → IsDomain d → IsHeardUpTo d since was → d.time + k ≤ was.time → was.time ≤ 2 ^ 42 → IsHeard was since k d e a log → IsHeardUpTo e log.happened a
+heard_up_to was since k d e a log is up_to most early heard =
+    let there = up_to_there was since k d is up_to most early heard.switches in
+    let here : IsHeardUpTo e [] a = subst (λ (x : AccountingView). IsHeardUpTo e [] x) (sym heard.heard) (subst (λ (x : Domain). IsHeardUpTo x [] (heard_so_far was since k d)) (sym heard.state) there) in
+    subst (λ (hs : List Happened). IsHeardUpTo e hs a) (sym heard.empty) here
+
+-- said of an equal domain, and of an equal list
+pub still_up_to : (d e : Domain) (hs gs : List Happened) (a : AccountingView) → e ≡ d → gs ≡ hs → IsHeardUpTo d hs a → IsHeardUpTo e gs a
+still_up_to d e hs gs a same alike is = subst (λ (x : Domain). IsHeardUpTo x gs a) (sym same) (subst (λ (xs : List Happened). IsHeardUpTo d xs a) (sym alike) is)
 
 -- ---- the tasks, by their numbers
 

@@ -1,10 +1,10 @@
 -- An advance that is heard: what an accounting has of the run of a domain that goes on (own).
-use Rattle.std.specs.Prelude.{ℕ, ◌+◌, List, []}
+use Rattle.std.specs.Prelude.{ℕ, ◌≡◌, ◌+◌, ◌-◌, ◌*◌, ◌<◌, ◌≤◌, ◌^◌, List, [], length, All}
 use Rattle.domain_run.specs.declared.happened.Happened.{Happened}
 use Rattle.domain_run.specs.Domain.{Domain}
 use Rattle.domain_run.specs.Tick.{ticks}
 use Rattle.domain_run.specs.Happened.{told_by_ticks}
-use Rattle.run_figures.specs.Accounting.{AccountingView}
+use Rattle.run_figures.specs.Accounting.{AccountingView, IsNextPiece}
 
 -- a domain whose run is to end after so many ticks more, of which nothing was heard yet: its tasks
 -- are those that were ever admitted
@@ -40,3 +40,15 @@ heard_of d told = record {
 -- THE PIECES in which it is heard: so many switches, or so much that happened, end one
 abbrev pub piece_end : ℕ
 piece_end = 4096
+
+-- HEARD UP TO HERE: what an accounting heard is an earlier part of the run of a domain. What the
+-- domain has at hand, its switches and what happened since, is the next piece of it
+pub record IsHeardUpTo (d : Domain) (since : List Happened) (a : AccountingView) : Type 0 where
+  pub same_cpus : a.cpus ≡ d.cpus
+  pub next : IsNextPiece a since d.switches
+  pub past : All (λ s. s.time < d.time) a.switches
+  pub inside : All (λ s. s.cpu < d.cpus) a.switches
+  pub told : All (λ h. h.time ≤ d.time) a.happened
+  pub told_since : All (λ h. h.time ≤ d.time) since
+  -- it can hear all that may still happen up to 2^42 us: 2304 entries in a tick
+  pub few : length a.happened + length since + 2304 * (2 ^ 42 - d.time) ≤ 2 ^ 63

@@ -1,6 +1,6 @@
 //! An advance, heard piece by piece.
 
-ghost use Rattle.std.specs.Prelude.{◌≡◌, ◌<◌, ◌≤◌, ◌+◌, ◌^◌, [], map, IfOk, OnOk, OnErr};
+ghost use Rattle.std.specs.Prelude.{◌≡◌, ◌<◌, ◌≤◌, ◌+◌, ◌++◌, ◌^◌, true, [], map, IfOk, OnOk, OnErr};
 ghost use Rattle.domain_run.specs.Tick.{ticks as ticks_of};
 ghost use Rattle.domain_run.specs.Happened.{told_by_ticks};
 ghost use Rattle.domain_run.specs.Keys.{AreKept};
@@ -8,7 +8,7 @@ ghost use Rattle.domain_run.specs.Log.{Tells};
 ghost use Rattle.domain_run.specs.Passing.{without_switches};
 ghost use Rattle.run_figures.specs.Accounting.{IsNextPiece, with_piece};
 ghost use Rattle.run_figures.specs.Runs.{AreTasks};
-ghost use Rattle.heard_run.specs.Heard.{nothing_heard, heard_after, piece_end};
+ghost use Rattle.heard_run.specs.Heard.{nothing_heard, heard_after, IsHeardUpTo, piece_end};
 ghost use Rattle.jump_run.specs.Pieces.{IsBounded};
 
 use domain_run::{Log, NoMemory, State};
@@ -81,6 +81,7 @@ fn next_piece(state: &mut State, n: u64, log: &mut Log) -> Result<u64, NoMemory>
     ensures most { IfOk result (λ made. made ≤ n) }
     ensures ok { IfOk result (λ made. state.new ≡ ticks_of made state.old) }
     ensures err { OnErr result (state.new ≡ state.old) }
+    ensures untold { OnErr result (Tells log.old [] log.new) }
     ensures keys { AreKept state.old.tasks state.new.tasks }
     ensures told { IfOk result (λ made. Tells log.old (told_by_ticks made state.old) log.new) }
     ensures bounded { OnOk result (IsBounded piece_end state.new log.new) }
@@ -92,14 +93,52 @@ fn next_piece(state: &mut State, n: u64, log: &mut Log) -> Result<u64, NoMemory>
     Ok(piece.ticks)
 }
 
-/// Goes on by so many ticks, as [`advance_told`](jump_run::advance_told) does with a log of its
-/// own, while the accounting hears the run: first the switches so far, and then, piece by piece,
-/// what happens in these ticks and the switches that they make. State and log forget what was
-/// heard, so they hold a bounded number of both, however much happens. At the end the state is that
-/// of so many ticks, without its switches. Room for an event is made before it; where it is
-/// refused, the ticks made so far stand and are heard, and only then are they fewer than asked.
-/// Time stays within 2^42 us. Tasks that have left may go off the list; nobody comes, and the
+/// Goes on by so many ticks, as [`advance_told`](jump_run::advance_told) does, while an accounting
+/// that has heard this run up to here goes on to hear it: first what the log and the state have at
+/// hand, and then, piece by piece, what happens in these ticks and the switches that they make.
+/// State and log forget what was heard, so they hold a bounded number of both, however much
+/// happens. At the end the state is that of so many ticks, without its switches, and the accounting
+/// has heard the run up to there. Room for an event is made before it; where it is refused, the
+/// ticks made so far stand and are heard, and only then are they fewer than asked. Time stays
+/// within the end of the run. Tasks that have left may go off the list; nobody comes, and the
 /// others keep number, bandwidth and order.
+pub fn advance_heard_on(
+    state: &mut State,
+    n: u64,
+    log: &mut Log,
+    accounting: &mut Accounting,
+) -> Done
+    requires early { state.old.time + n ≤ accounting.old.time }
+    requires end { accounting.old.time ≤ 2 ^ 42 }
+    requires wanted { log.old.wanted ≡ true }
+    requires up_to { IsHeardUpTo state.old log.old.happened accounting.old }
+    ensures state { state.new ≡ without_switches (ticks_of result.ticks state.old) }
+    ensures most { result.ticks ≤ n }
+    ensures keys { AreKept state.old.tasks state.new.tasks }
+    ensures heard { accounting.new ≡ with_piece accounting.old
+        (log.old.happened ++ told_by_ticks result.ticks state.old)
+        (ticks_of result.ticks state.old).switches }
+    ensures wanted { log.new.wanted ≡ true }
+    ensures empty { log.new.happened ≡ [] }
+    ensures up_to { IsHeardUpTo state.new log.new.happened accounting.new }
+{
+    // For the prover alone, here and below: a look at a state brings what every domain keeps.
+    let _ = state.now();
+    hear(state, log, accounting);
+    let mut ticks = 0;
+    'pieces: while ticks < n {
+        let Ok(made) = next_piece(state, n - ticks, log) else {
+            break;
+        };
+        let _ = state.now();
+        hear(state, log, accounting);
+        ticks += made;
+    }
+    Done { ticks }
+}
+
+/// As [`advance_heard_on`], of a run of which nothing was heard yet, with a log of its own: the
+/// accounting hears the switches so far, and then what happens in these ticks.
 pub fn advance_heard(alloc: Global, state: &mut State, n: u64, accounting: &mut Accounting) -> Done
     requires early { state.old.time + n ≤ 2 ^ 42 }
     requires new { accounting.old ≡ nothing_heard n state.old }
@@ -109,17 +148,7 @@ pub fn advance_heard(alloc: Global, state: &mut State, n: u64, accounting: &mut 
     ensures heard { accounting.new ≡ heard_after n result.ticks state.old }
 {
     let mut log = Log::open(alloc);
-    // For the prover alone, here and below: a look at a state brings what every domain keeps.
+    // For the prover alone: a look at a state brings what every domain keeps.
     let _ = state.now();
-    hear(state, &mut log, accounting);
-    let mut ticks = 0;
-    'pieces: while ticks < n {
-        let Ok(made) = next_piece(state, n - ticks, &mut log) else {
-            break;
-        };
-        let _ = state.now();
-        hear(state, &mut log, accounting);
-        ticks += made;
-    }
-    Done { ticks }
+    advance_heard_on(state, n, &mut log, accounting)
 }

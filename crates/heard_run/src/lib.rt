@@ -3,7 +3,8 @@
 //! An advance leaves the switches in the state and what happens in a log, until somebody asks for
 //! them. Where only the figures of a run are wanted, [`advance_heard`] goes on piece by piece: an
 //! [`Accounting`] hears each piece, and state and log forget it. So it needs as much memory for a
-//! long run as for a short one. Meets the definition "An advance that is heard"
+//! long run as for a short one. [`advance_heard_on`] goes on with a run that was heard up to here,
+//! so calls may come between the advances. Meets the definition "An advance that is heard"
 //! (`specs/Heard.antt`). To the crates above it promises that the accounting heard exactly what the
 //! whole run has, and that the state is that of the run, but for its switches.
 #![tactic(auto)]
@@ -11,6 +12,6 @@
 mod hearing;
 
 pub use domain_run::NoMemory;
-pub use hearing::{advance_heard, open_heard};
+pub use hearing::{advance_heard, advance_heard_on, open_heard};
 pub use jump_run::Done;
 pub use run_figures::Accounting;

@@ -1,11 +1,11 @@
 use Rattle.std.proofs.Common.{◌≤◌, ◌-◌}
 use Rattle.domain_run.specs.Keys.{AreKept}
 use Rattle.heard_run.proofs.Pieces.{IsHeard}
-use Rattle.heard_run.proofs.hearing.advance_heard.Given as goal
+use Rattle.heard_run.proofs.hearing.advance_heard_on.Given as goal
 
 abbrev pub invariant-pieces : goal.invariant-pieces
 invariant-pieces l = record {
-  heard : IsHeard l.n l.ticks l.fn.state l.state l.accounting l.log;
+  heard : IsHeard l.fn.accounting l.fn.log.happened l.ticks l.fn.state l.state l.accounting l.log;
   most : l.ticks ≤ l.n;
   keys : AreKept l.fn.state.tasks l.state.tasks;
 }
