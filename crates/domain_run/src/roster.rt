@@ -597,17 +597,6 @@ impl Roster {
         listing::push_task(&mut self.tasks, &mut self.queue, task);
     }
 
-    /// Tasks that have left go off the list.
-    pub(crate) fn drop_left(&mut self)
-        ensures cpus { self.new.cpus ≡ self.old.cpus }
-        ensures places { self.new.places ≡ self.old.places }
-        ensures tasks { self.new.tasks ≡ filter is_listed self.old.tasks }
-    {
-        if listing::drop_left(&mut self.tasks, &mut self.queue, &mut self.index) {
-            self.doubts.mark_rated();
-        }
-    }
-
     /// The task of a number goes off the list at once.
     pub(crate) fn take_off(&mut self, number: u32, time: u64)
         requires sound { All (IsSound time) self.old.tasks }

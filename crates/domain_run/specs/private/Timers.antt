@@ -24,13 +24,3 @@ abbrev pub AreNotDue : List Task → ℕ → ℕ → ℕ → Type 0
 AreNotDue tasks time from end =
     (place : ℕ) (d : Task) → from ≤ place → place < end → place < length tasks
     → time < due_of (slice_index_or tasks place d)
-
--- the task at a place has gone if it had left, and no other; the place to go on from
-pub record HasParted (place : ℕ) (old new : List Task) (next : ℕ) : Type 0 where
-  pub listed : filter is_listed new ≡ filter is_listed old
-  pub few : length new ≤ length old
-  pub front : (k : ℕ) → k < place → (d : Task) → slice_index_or new k d ≡ slice_index_or old k d
-  pub done : (k : ℕ) → place ≤ k → k < next → (d : Task) → is_listed (slice_index_or new k d) ≡ true
-  pub rest : length new + (place + 1) ≡ next + length old
-  pub most : next ≤ place + 1
-  pub least : place ≤ next

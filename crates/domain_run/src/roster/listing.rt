@@ -8,7 +8,6 @@ ghost use Rattle.domain_run.specs.Calls.{is_other};
 ghost use Rattle.domain_run.specs.declared.task.Task.{Task};
 ghost use Rattle.domain_run.specs.private.Index.{IsListedAt, IsUnlisted};
 ghost use Rattle.domain_run.specs.private.RunQueue.{IsCounted};
-ghost use Rattle.domain_run.specs.private.Timers.{HasParted};
 
 use crate::index::Index;
 use crate::parts;
@@ -56,64 +55,6 @@ fn drop_at(
     tasks.remove(place);
     queue.timers.remove(place);
     index.unlist(number, place);
-}
-
-// Takes the task at a place off the list if it has left. Returns the place to go on from.
-#[inline(always)]
-fn part_at(
-    tasks: &mut SlotList<Task>,
-    queue: &mut RunQueue,
-    index: &mut Index,
-    place: usize,
-) -> usize
-    requires there { place < length tasks.old }
-    requires counted { IsCounted (length queue.old.accounts.all) queue.old tasks.old }
-    ensures tasks { HasParted place tasks.old tasks.new result }
-    ensures counted { IsCounted (length queue.old.accounts.all) queue.new tasks.new }
-    ensures schedule { queue.new.schedule ≡ queue.old.schedule }
-    ensures wide { length queue.new.accounts.all ≡ length queue.old.accounts.all }
-{
-    let task = tasks.at(place);
-    if parts::is_listed(task) {
-        return place + 1;
-    }
-    let number = task.number;
-    drop_at(tasks, queue, index, number, place);
-    place
-}
-
-/// Takes all tasks that have left off the list, and returns whether one may have gone. They are due
-/// at once, so if none is due, it only reads the first due time.
-#[inline(always)]
-pub(super) fn drop_left(tasks: &mut SlotList<Task>, queue: &mut RunQueue, index: &mut Index) -> bool
-    requires { IsCounted (length queue.old.accounts.all) queue.old tasks.old }
-    ensures tasks { tasks.new ≡ filter parts_spec.is_listed tasks.old }
-    ensures counted { IsCounted (length queue.old.accounts.all) queue.new tasks.new }
-    ensures none { result ≡ false → tasks.new ≡ tasks.old }
-    ensures schedule { queue.new.schedule ≡ queue.old.schedule }
-    ensures few { length tasks.new ≤ length tasks.old }
-{
-    if !queue.timers.may_be_due(0) {
-        return false;
-    }
-    drop_due(tasks, queue, index);
-    true
-}
-
-// The same, task by task. It skips the tasks that are not due at once.
-#[inline(never)]
-fn drop_due(tasks: &mut SlotList<Task>, queue: &mut RunQueue, index: &mut Index)
-    requires { IsCounted (length queue.old.accounts.all) queue.old tasks.old }
-    ensures tasks { tasks.new ≡ filter parts_spec.is_listed tasks.old }
-    ensures counted { IsCounted (length queue.old.accounts.all) queue.new tasks.new }
-    ensures schedule { queue.new.schedule ≡ queue.old.schedule }
-    ensures few { length tasks.new ≤ length tasks.old }
-{
-    let mut place = queue.timers.next_due(0, 0);
-    while place < tasks.len() {
-        let next = part_at(tasks, queue, index, place);
-        place = queue.timers.next_due(next, 0);
-    }
 }
 
 /// Takes the task of a number, which is not ready, off the list.
