@@ -141,3 +141,14 @@ forgotten_split cut i [] (n ∷ news) h all = absurd all
 forgotten_split cut i (o ∷ olds) [] h all = absurd all
 forgotten_split cut zero (o ∷ olds) (n ∷ news) h all = absurd (omega (arith, h))
 forgotten_split cut (suc i) (o ∷ olds) (n ∷ news) h all = (all.0.1, forgotten_split cut i olds news (omega (arith, h)) all.1)
+
+-- runs that are the same one by one, whatever of them is at hand
+pub wholes_each : {X : Type 0} (f : X → SlicedView) (xs ys : List X) → length ys ≡ length xs
+    → ((i : ℕ) (d : X) → i < length xs → whole_of (f (get_or ys i d)) ≡ whole_of (f (get_or xs i d))) → wholes (map f ys) ≡ wholes (map f xs)
+wholes_each f [] [] long same = refl
+wholes_each f [] (y ∷ ys) long same = absurd (omega (arith, long))
+wholes_each f (x ∷ xs) [] long same = absurd (omega (arith, long))
+wholes_each f (x ∷ xs) (y ∷ ys) long same =
+    let head : whole_of (f y) ≡ whole_of (f x) = same 0 x (omega arith) in
+    let tail = wholes_each f xs ys (omega (arith, long)) (λ i d h. same (suc i) d (omega (arith, h))) in
+    ap (λ (v : SwitchesView). v ∷ wholes (map f ys)) head ∙ ap (λ (vs : List SwitchesView). whole_of (f x) ∷ vs) tail

@@ -43,7 +43,7 @@ pub use fault::WriteFault;
 pub use lines::line;
 pub use ready::TraceRoom;
 pub use run::Run;
-pub use slices::{Slices, write_slices};
+pub use slices::{Slices, write_slices, write_slices_apart};
 pub use told::Told;
 pub use told_lines::told_line;
 pub use writing::{write_text, write_trace, write_trace_in};

@@ -2,6 +2,8 @@
 
 ghost use Rattle.std.specs.Prelude.{ℕ, ◌≡◌, ◌+◌, ◌*◌, ◌<◌, ◌≤◌, ◌^◌, ◌++◌, [], List, length, map, take, drop, is_ok, slice_index_or, All, AllPairs, IsTrue, IfErr, IfNone, IfOk, IfSome, OnOk};
 ghost use Rattle.std.specs.List.{AllByRecursion};
+ghost use denote.Ref.{MutBor};
+ghost use Rattle.std.specs.Thread.{IsSend, IsSync};
 ghost use Rattle.std.specs.Io.KnownBytes.{Appends};
 ghost use Rattle.domain_run.specs.Switches.{is_switch_before};
 ghost use Rattle.counted_io.specs.Sides.{inner_of, faults_of};
@@ -22,6 +24,7 @@ use crate::writing::{header_text, send_runs, stopped_after};
 use counted_io::Counted;
 use domain_run::Switch;
 use std::io::Write;
+use std::thread::{self, Threads};
 
 /// The run of one domain, whose switches come slice by slice while it is made: some are at hand,
 /// the others are to come.
@@ -78,6 +81,37 @@ fn fill_all<S: Slices>(slices: &mut [S]) -> Option<u64>
         cut = earlier(cut, slice.fill());
     }
     cut
+}
+
+/// All runs make more switches, first by a call of `ahead` and then in turns. The cut is that of
+/// [`fill_all`].
+fn fill_round<S: Slices, F: Fn(&mut [S])>(slices: &mut [S], ahead: &F) -> Option<u64>
+    requires able { F.IsAlwaysCallable ahead.now }
+    requires keeps { (argument after : MutBor (List S)) → F.post ahead.now argument tt after
+        → wholes (map S.sliced after.now) ≡ wholes (map S.sliced argument.now) }
+    ensures whole { wholes (map S.sliced slices.new) ≡ wholes (map S.sliced slices.old) }
+    ensures cut { AreCutAt result (map S.sliced slices.new) }
+{
+    ahead(slices);
+    fill_all(slices)
+}
+
+/// The runs make more switches, up to `workers` of them side by side, each in a thread if one can be
+/// made.
+fn fill_apart<S: Slices + Send, R: Threads + Sync>(rt: &R, workers: usize, slices: &mut [S])
+    requires { 0 < workers }
+    ensures { wholes (map S.sliced slices.new) ≡ wholes (map S.sliced slices.old) }
+{
+    thread::for_each_mut(
+        rt,
+        slices,
+        workers,
+        &|_, slice: &mut S|
+            ensures { whole_of (S.sliced slice.exit.now) ≡ whole_of (S.sliced slice.entry.now) }
+        {
+            let _ = slice.fill();
+        },
+    );
 }
 
 /// Whether a switch is before the cut, if there is one.
@@ -218,6 +252,53 @@ fn forget_all<S: Slices>(slices: &mut [S], cut: Option<u64>)
     }
 }
 
+/// As [`write_slices`], where the runs may make switches ahead by a call of `ahead` in each round.
+fn write_rounds<S: Slices, W: Write, F: Fn(&mut [S])>(
+    slices: &mut [S],
+    room: TraceRoom,
+    writer: &mut Counted<W>,
+    ahead: &F,
+) -> Result<(), WriteFault>
+    requires few { length slices.old ≤ 8 }
+    requires countable { length (all_entries (wholes (map S.sliced slices.old))) ≤ 2 ^ 54 }
+    requires faults { faults_of writer.old < 2 ^ 63 }
+    requires able { F.IsAlwaysCallable ahead.now }
+    requires keeps { (argument after : MutBor (List S)) → F.post ahead.now argument tt after
+        → wholes (map S.sliced after.now) ≡ wholes (map S.sliced argument.now) }
+    ensures ok { OnOk result (Appends
+        (W.contents (inner_of writer.old)) (W.contents (inner_of writer.new))
+        (trace_of (wholes (map S.sliced slices.old)))) }
+    ensures err { IfErr result (λ f. TakesFront
+        (W.contents (inner_of writer.old)) (W.contents (inner_of writer.new))
+        (trace_of (wholes (map S.sliced slices.old))) f.written) }
+    ensures made { OnOk result (all_entries (wholes (map S.sliced slices.new)) ≡ []) }
+    ensures stopped { IfErr result (λ f. IsStopped
+        (wholes (map S.sliced slices.old)) (wholes (map S.sliced slices.new)) f.written) }
+    ensures left { AreEndsOf (wholes (map S.sliced slices.old)) (wholes (map S.sliced slices.new)) }
+    ensures faults { faults_of writer.new ≡ one_more_unless (is_ok result) (faults_of writer.old) }
+{
+    let mut room = widened(slices, room);
+    let slots = room.slots.as_mut_slice();
+    let mut batch = Batch::new();
+    batch.append(header_text());
+    let mut texts = no_texts();
+    let mut written = 0;
+    let mut has_more = true;
+    'rounds: while has_more {
+        let cut = fill_round(slices, ahead);
+        match send_fronts(slices, cut, slots, &mut texts, &mut batch, writer) {
+            Ok(n) => written += n,
+            Err(n) => return Err(stopped_after(written, n)),
+        }
+        forget_all(slices, cut);
+        has_more = cut.is_some();
+    }
+    match batch.flush(writer) {
+        Ok(_) => Ok(()),
+        Err(n) => Err(stopped_after(written, n)),
+    }
+}
+
 /// Writes the trace text of the runs of at most 8 domains while they are made: the header
 /// `# tracer: nop`, and then the line of each switch, those at hand among them, ordered by time and
 /// CPU of the machine; of switches of one time and CPU, that of the earlier run first. Takes no
@@ -253,24 +334,45 @@ pub fn write_slices<S: Slices, W: Write>(
     ensures left { AreEndsOf (wholes (map S.sliced slices.old)) (wholes (map S.sliced slices.new)) }
     ensures faults { faults_of writer.new ≡ one_more_unless (is_ok result) (faults_of writer.old) }
 {
-    let mut room = widened(slices, room);
-    let slots = room.slots.as_mut_slice();
-    let mut batch = Batch::new();
-    batch.append(header_text());
-    let mut texts = no_texts();
-    let mut written = 0;
-    let mut has_more = true;
-    'rounds: while has_more {
-        let cut = fill_all(slices);
-        match send_fronts(slices, cut, slots, &mut texts, &mut batch, writer) {
-            Ok(n) => written += n,
-            Err(n) => return Err(stopped_after(written, n)),
-        }
-        forget_all(slices, cut);
-        has_more = cut.is_some();
-    }
-    match batch.flush(writer) {
-        Ok(_) => Ok(()),
-        Err(n) => Err(stopped_after(written, n)),
-    }
+    write_rounds(slices, room, writer, &|_| {})
+}
+
+/// As [`write_slices`], but in each round up to `workers` of the runs, at least 1, make their
+/// switches side by side. Each does so in a thread of its own, if one can be made; if not, the
+/// caller makes them. The text is the same.
+///
+/// # Errors
+/// Those of [`write_slices`].
+pub fn write_slices_apart<S: Slices + Send, W: Write, R: Threads + Sync>(
+    rt: &R,
+    workers: usize,
+    slices: &mut [S],
+    room: TraceRoom,
+    writer: &mut Counted<W>,
+) -> Result<(), WriteFault>
+    requires workers { 0 < workers }
+    requires few { length slices.old ≤ 8 }
+    requires countable { length (all_entries (wholes (map S.sliced slices.old))) ≤ 2 ^ 54 }
+    requires faults { faults_of writer.old < 2 ^ 63 }
+    ensures ok { OnOk result (Appends
+        (W.contents (inner_of writer.old)) (W.contents (inner_of writer.new))
+        (trace_of (wholes (map S.sliced slices.old)))) }
+    ensures err { IfErr result (λ f. TakesFront
+        (W.contents (inner_of writer.old)) (W.contents (inner_of writer.new))
+        (trace_of (wholes (map S.sliced slices.old))) f.written) }
+    ensures made { OnOk result (all_entries (wholes (map S.sliced slices.new)) ≡ []) }
+    ensures stopped { IfErr result (λ f. IsStopped
+        (wholes (map S.sliced slices.old)) (wholes (map S.sliced slices.new)) f.written) }
+    ensures left { AreEndsOf (wholes (map S.sliced slices.old)) (wholes (map S.sliced slices.new)) }
+    ensures faults { faults_of writer.new ≡ one_more_unless (is_ok result) (faults_of writer.old) }
+{
+    write_rounds(
+        slices,
+        room,
+        writer,
+        &|runs: &mut [S]|
+            requires { IsSync R.row × IsSend S.row × (0 < workers) }
+            ensures { wholes (map S.sliced runs.exit.now) ≡ wholes (map S.sliced runs.entry.now) }
+        { fill_apart(rt, workers, runs) },
+    )
 }

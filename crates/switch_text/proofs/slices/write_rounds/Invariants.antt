@@ -3,7 +3,7 @@ use Rattle.counted_io.specs.Sides.{inner_of}
 use Rattle.switch_text.specs.SlicedTrace.{wholes, all_entries, AreEndsOf}
 use Rattle.switch_text.specs.private.Ready.{AreEnough, IsSlot, IsTexts}
 use Rattle.switch_text.specs.private.Sliced.{IsSlicing, names_by}
-use Rattle.switch_text.proofs.slices.write_slices.Given as goal
+use Rattle.switch_text.proofs.slices.write_rounds.Given as goal
 
 abbrev pub invariant-rounds : goal.invariant-rounds
 invariant-rounds g l = record {

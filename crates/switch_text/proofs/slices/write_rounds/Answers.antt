@@ -9,7 +9,7 @@ use Rattle.switch_text.proofs.Kept.{nobody_is_slot}
 use Rattle.switch_text.proofs.UnderWay.{length-header}
 use Rattle.switch_text.proofs.Sliced.{ends_all, stops_all}
 use Rattle.switch_text.proofs.Slicing.{IsSlicing-start, IsSlicing-next, IsSlicing-stops, IsSlicing-ends, slicing_fits, IsStopped-here, AreEndsOf-all, AreEndsOf-next, names_cut, round_smaller, round_last}
-use Rattle.switch_text.proofs.slices.write_slices.Goals as goal
+use Rattle.switch_text.proofs.slices.write_rounds.Goals as goal
 
 pub rounds-init : goal.rounds-init
 rounds-init g c =
@@ -32,19 +32,19 @@ overflow_add-written g c =
     let f = g.S.Slices.sliced in
     let all = wholes (map f c.args.slices.now) in
     let l = c.rounds in
-    let full = map f c.fill_all-cut.new.slices in
-    let slicing = subst (λ (rs : List SwitchesView). IsSlicing (g.W.Write.contents (inner_of c.args.writer.now)) (g.W.Write.contents (inner_of l.writer)) all rs l.written l.batch) (sym c.fill_all-cut.ensures.whole) l.invariant.slicing in
+    let full = map f c.fill_round-cut.new.slices in
+    let slicing = subst (λ (rs : List SwitchesView). IsSlicing (g.W.Write.contents (inner_of c.args.writer.now)) (g.W.Write.contents (inner_of l.writer)) all rs l.written l.batch) (sym c.fill_round-cut.ensures.whole) l.invariant.slicing in
     let bound = c.in-Ok.ensures.bound in
-    omega (arith, slicing_fits _ _ all c.fill_all-cut.result full l.written c.in-Ok.n l.batch slicing c.fill_all-cut.ensures.cut.final c.requires.countable (omega (arith, bound)))
+    omega (arith, slicing_fits _ _ all c.fill_round-cut.result full l.written c.in-Ok.n l.batch slicing c.fill_round-cut.ensures.cut.final c.requires.countable (omega (arith, bound)))
 
 pub stopped_after-requires : goal.stopped_after-requires
 stopped_after-requires g c =
     let f = g.S.Slices.sliced in
     let all = wholes (map f c.args.slices.now) in
     let l = c.rounds in
-    let full = map f c.fill_all-cut.new.slices in
-    let slicing = subst (λ (rs : List SwitchesView). IsSlicing (g.W.Write.contents (inner_of c.args.writer.now)) (g.W.Write.contents (inner_of l.writer)) all rs l.written l.batch) (sym c.fill_all-cut.ensures.whole) l.invariant.slicing in
-    omega (arith, slicing_fits _ _ all c.fill_all-cut.result full l.written c.in-Err.n l.batch slicing c.fill_all-cut.ensures.cut.final c.requires.countable c.in-Err.ensures.stopped)
+    let full = map f c.fill_round-cut.new.slices in
+    let slicing = subst (λ (rs : List SwitchesView). IsSlicing (g.W.Write.contents (inner_of c.args.writer.now)) (g.W.Write.contents (inner_of l.writer)) all rs l.written l.batch) (sym c.fill_round-cut.ensures.whole) l.invariant.slicing in
+    omega (arith, slicing_fits _ _ all c.fill_round-cut.result full l.written c.in-Err.n l.batch slicing c.fill_round-cut.ensures.cut.final c.requires.countable c.in-Err.ensures.stopped)
 
 pub returns-in-Err-clause-err : goal.returns-in-Err-clause-err
 returns-in-Err-clause-err g c =
@@ -53,9 +53,9 @@ returns-in-Err-clause-err g c =
     let l = c.rounds in
     let before = g.W.Write.contents (inner_of c.args.writer.now) in
     let mid = g.W.Write.contents (inner_of l.writer) in
-    let full = map f c.fill_all-cut.new.slices in
-    let slicing = subst (λ (rs : List SwitchesView). IsSlicing before mid all rs l.written l.batch) (sym c.fill_all-cut.ensures.whole) l.invariant.slicing in
-    let stops = IsSlicing-stops before mid (g.W.Write.contents (inner_of c.send_fronts.new.writer)) all c.fill_all-cut.result full l.written c.in-Err.n l.batch slicing c.fill_all-cut.ensures.cut.final c.in-Err.ensures.err in
+    let full = map f c.fill_round-cut.new.slices in
+    let slicing = subst (λ (rs : List SwitchesView). IsSlicing before mid all rs l.written l.batch) (sym c.fill_round-cut.ensures.whole) l.invariant.slicing in
+    let stops = IsSlicing-stops before mid (g.W.Write.contents (inner_of c.send_fronts.new.writer)) all c.fill_round-cut.result full l.written c.in-Err.n l.batch slicing c.fill_round-cut.ensures.cut.final c.in-Err.ensures.err in
     rw c.stopped_after.ensures stops
 
 pub returns-in-Err-clause-stopped : goal.returns-in-Err-clause-stopped
@@ -63,8 +63,8 @@ returns-in-Err-clause-stopped g c =
     let f = g.S.Slices.sliced in
     let all = wholes (map f c.args.slices.now) in
     let l = c.rounds in
-    let full = wholes (map f c.fill_all-cut.new.slices) in
-    let same = sym c.fill_all-cut.ensures.whole in
+    let full = wholes (map f c.fill_round-cut.new.slices) in
+    let same = sym c.fill_round-cut.ensures.whole in
     let slicing = subst (λ (rs : List SwitchesView). IsSlicing (g.W.Write.contents (inner_of c.args.writer.now)) (g.W.Write.contents (inner_of l.writer)) all rs l.written l.batch) same l.invariant.slicing in
     IsStopped-here _ _ all full l.written c.in-Err.n _ l.batch slicing (subst (AreEndsOf all) same l.invariant.left) l.invariant.room c.stopped_after.ensures
 
@@ -75,7 +75,7 @@ rounds-smaller g c =
     omega (
       arith,
       more,
-      round_smaller c.fill_all-cut.result c.is_some-has_more.result (wholes (map f c.rounds.slices)) (map f c.fill_all-cut.new.slices) (map f c.forget_all.new.slices) c.fill_all-cut.ensures.cut c.fill_all-cut.ensures.whole
+      round_smaller c.fill_round-cut.result c.is_some-has_more.result (wholes (map f c.rounds.slices)) (map f c.fill_round-cut.new.slices) (map f c.forget_all.new.slices) c.fill_round-cut.ensures.cut c.fill_round-cut.ensures.whole
           c.forget_all.ensures.left c.is_some-has_more.ensures,
     )
 
@@ -84,11 +84,11 @@ rounds-preserved g c =
     let f = g.S.Slices.sliced in
     let all = wholes (map f c.args.slices.now) in
     let l = c.rounds in
-    let cut = c.fill_all-cut.result in
-    let full = map f c.fill_all-cut.new.slices in
+    let cut = c.fill_round-cut.result in
+    let full = map f c.fill_round-cut.new.slices in
     let left = map f c.forget_all.new.slices in
-    let final = c.fill_all-cut.ensures.cut.final in
-    let same = sym c.fill_all-cut.ensures.whole in
+    let final = c.fill_round-cut.ensures.cut.final in
+    let same = sym c.fill_round-cut.ensures.whole in
     let gone = sym (ap wholes c.forget_all.ensures.left) in
     let before = g.W.Write.contents (inner_of c.args.writer.now) in
     let mid = g.W.Write.contents (inner_of l.writer) in
@@ -101,7 +101,7 @@ rounds-preserved g c =
       slicing = subst (λ (rs : List SwitchesView). IsSlicing before after all rs (l.written + c.in-Ok.n) batch) gone next;
       left = subst (AreEndsOf all) gone (AreEndsOf-next cut all full c.forget_all.ensures.split (subst (AreEndsOf all) same l.invariant.left));
       last = λ none. round_last cut c.is_some-has_more.result full left final c.forget_all.ensures.left c.is_some-has_more.ensures none;
-      few = omega (arith, c.forget_all.auto.slices, c.fill_all-cut.auto.slices, l.invariant.few);
+      few = omega (arith, c.forget_all.auto.slices, c.fill_round-cut.auto.slices, l.invariant.few);
       room = c.in-Ok.ensures.room;
       many = c.send_fronts.ensures.many;
       slots = subst (λ (names : ℕ → ℕ → List ℕ). All (IsSlot names) c.send_fronts.new.slots) names c.send_fronts.ensures.slots;
