@@ -361,6 +361,8 @@ impl Slices for Playing {
 
     ghost sliced = { sliced_of };
 
+    ghost kept = { λ _. tt };
+
     fn fill(&mut self) -> Option<u64> {
         self.make_more()
     }

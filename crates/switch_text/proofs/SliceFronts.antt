@@ -102,6 +102,11 @@ wholes_set f [] i y d same = refl
 wholes_set f (x ∷ xs) zero y d same = ap (λ (v : SwitchesView). v ∷ wholes (map f xs)) same
 wholes_set f (x ∷ xs) (suc i) y d same = ap (λ (vs : List SwitchesView). whole_of (f x) ∷ vs) (wholes_set f xs i y d same)
 
+pub kept_set : {X K : Type 0} (f : X → K) (xs : List X) (i : ℕ) (y d : X) → f y ≡ f (get_or xs i d) → map f (set xs i y) ≡ map f xs
+kept_set f [] i y d same = refl
+kept_set {K = K} f (x ∷ xs) zero y d same = ap (λ (v : K). v ∷ map f xs) same
+kept_set {K = K} f (x ∷ xs) (suc i) y d same = ap (λ (vs : List K). f x ∷ vs) (kept_set f xs i y d same)
+
 pub taken_set : {X : Type 0} (f : X → SlicedView) (xs : List X) (i : ℕ) (y : X) → i < length xs → take (i + 1) (map f (set xs i y)) ≡ take i (map f xs) ++ f y ∷ []
 taken_set f xs i y h = ap (take (i + 1)) (map-set f xs i y) ∙ take_more_set (map f xs) i (f y) (omega (arith, h, length-map xs f))
 
@@ -152,3 +157,13 @@ wholes_each f (x ∷ xs) (y ∷ ys) long same =
     let head : whole_of (f y) ≡ whole_of (f x) = same 0 x (omega arith) in
     let tail = wholes_each f xs ys (omega (arith, long)) (λ i d h. same (suc i) d (omega (arith, h))) in
     ap (λ (v : SwitchesView). v ∷ wholes (map f ys)) head ∙ ap (λ (vs : List SwitchesView). whole_of (f x) ∷ vs) tail
+
+pub kept_each : {X K : Type 0} (f : X → K) (xs ys : List X) → length ys ≡ length xs
+    → ((i : ℕ) (d : X) → i < length xs → f (get_or ys i d) ≡ f (get_or xs i d)) → map f ys ≡ map f xs
+kept_each f [] [] long same = refl
+kept_each f [] (y ∷ ys) long same = absurd (omega (arith, long))
+kept_each f (x ∷ xs) [] long same = absurd (omega (arith, long))
+kept_each {K = K} f (x ∷ xs) (y ∷ ys) long same =
+    let head : f y ≡ f x = same 0 x (omega arith) in
+    let tail = kept_each f xs ys (omega (arith, long)) (λ i d h. same (suc i) d (omega (arith, h))) in
+    ap (λ (v : K). v ∷ map f ys) head ∙ ap (λ (vs : List K). f x ∷ vs) tail

@@ -33,6 +33,11 @@ pub trait Slices {
     /// at hand and those to come.
     ghost sliced: { Self → SlicedView };
 
+    /// What of it no call changes, such as the calls that the run is made of. No text shows it.
+    ghost Kept: { Type 0 } = { Unit {0} };
+
+    ghost kept: { Self → Kept };
+
     /// Makes more switches, which come after those at hand, until there is room for no more. Takes
     /// no memory. `None`: nothing is to come any more. `Some`: up to which time the run is made;
     /// all switches at hand are before it, and at least one is there; those to come are at that
@@ -43,12 +48,14 @@ pub trait Slices {
         ensures some { IfSome result (λ _. 0 < length (sliced self.new).at_hand) }
         ensures past { IfSome result (λ time. All (λ s. s.time < time) (sliced self.new).at_hand) }
         ensures later { IfSome result
-            (λ time. All (λ s. time ≤ s.time) (sliced self.new).to_come) };
+            (λ time. All (λ s. time ≤ s.time) (sliced self.new).to_come) }
+        ensures kept { kept self.new ≡ kept self.old };
 
     /// Forgets the first `count` of the switches at hand, or all if they are fewer. Takes no
     /// memory.
     fn forget_front(&mut self, count: usize)
-        ensures { sliced self.new ≡ without_first count (sliced self.old) };
+        ensures rest { sliced self.new ≡ without_first count (sliced self.old) }
+        ensures kept { kept self.new ≡ kept self.old };
 
     /// The switches at hand, as they are written. Their names are those of the whole run.
     fn slice(&self) -> Run<'_>
@@ -75,6 +82,7 @@ fn earlier(a: Option<u64>, b: Option<u64>) -> Option<u64>
 fn fill_all<S: Slices>(slices: &mut [S]) -> Option<u64>
     ensures whole { wholes (map S.sliced slices.new) ≡ wholes (map S.sliced slices.old) }
     ensures cut { AreCutAt result (map S.sliced slices.new) }
+    ensures kept { map S.kept slices.new ≡ map S.kept slices.old }
 {
     let mut cut = None;
     'runs: for slice in slices.iter_mut() {
@@ -89,25 +97,31 @@ fn fill_round<S: Slices, F: Fn(&mut [S])>(slices: &mut [S], ahead: &F) -> Option
     requires able { F.IsAlwaysCallable ahead.now }
     requires keeps { (argument after : MutBor (List S)) → F.post ahead.now argument tt after
         → wholes (map S.sliced after.now) ≡ wholes (map S.sliced argument.now) }
+    requires leaves { (argument after : MutBor (List S)) → F.post ahead.now argument tt after
+        → map S.kept after.now ≡ map S.kept argument.now }
     ensures whole { wholes (map S.sliced slices.new) ≡ wholes (map S.sliced slices.old) }
     ensures cut { AreCutAt result (map S.sliced slices.new) }
+    ensures kept { map S.kept slices.new ≡ map S.kept slices.old }
 {
     ahead(slices);
     fill_all(slices)
 }
 
-/// The runs make more switches, up to `workers` of them side by side, each in a thread if one can be
-/// made.
+/// The runs make more switches, up to `workers` of them side by side. Each does so in a thread of
+/// its own, if one can be made.
 fn fill_apart<S: Slices + Send, R: Threads + Sync>(rt: &R, workers: usize, slices: &mut [S])
     requires { 0 < workers }
-    ensures { wholes (map S.sliced slices.new) ≡ wholes (map S.sliced slices.old) }
+    ensures whole { wholes (map S.sliced slices.new) ≡ wholes (map S.sliced slices.old) }
+    ensures kept { map S.kept slices.new ≡ map S.kept slices.old }
 {
     thread::for_each_mut(
         rt,
         slices,
         workers,
         &|_, slice: &mut S|
-            ensures { whole_of (S.sliced slice.exit.now) ≡ whole_of (S.sliced slice.entry.now) }
+            ensures whole { whole_of (S.sliced slice.exit.now)
+                ≡ whole_of (S.sliced slice.entry.now) }
+            ensures kept { S.kept slice.exit.now ≡ S.kept slice.entry.now }
         {
             let _ = slice.fill();
         },
@@ -234,6 +248,7 @@ fn send_fronts<S: Slices, W: Write>(
 fn forget_before<S: Slices>(slices: &mut S, cut: Option<u64>)
     ensures left { S.sliced slices.new ≡ run_from_cut cut (S.sliced slices.old) }
     ensures split { IsSplit cut (S.sliced slices.old) }
+    ensures kept { S.kept slices.new ≡ S.kept slices.old }
 {
     let run = slices.slice();
     let count = count_before(run.switches, cut);
@@ -246,6 +261,7 @@ fn forget_before<S: Slices>(slices: &mut S, cut: Option<u64>)
 fn forget_all<S: Slices>(slices: &mut [S], cut: Option<u64>)
     ensures left { map S.sliced slices.new ≡ runs_from_cut cut (map S.sliced slices.old) }
     ensures split { AllByRecursion (IsSplit cut) (map S.sliced slices.old) }
+    ensures kept { map S.kept slices.new ≡ map S.kept slices.old }
 {
     'runs: for slice in slices.iter_mut() {
         forget_before(slice, cut);
@@ -265,6 +281,8 @@ fn write_rounds<S: Slices, W: Write, F: Fn(&mut [S])>(
     requires able { F.IsAlwaysCallable ahead.now }
     requires keeps { (argument after : MutBor (List S)) → F.post ahead.now argument tt after
         → wholes (map S.sliced after.now) ≡ wholes (map S.sliced argument.now) }
+    requires leaves { (argument after : MutBor (List S)) → F.post ahead.now argument tt after
+        → map S.kept after.now ≡ map S.kept argument.now }
     ensures ok { OnOk result (Appends
         (W.contents (inner_of writer.old)) (W.contents (inner_of writer.new))
         (trace_of (wholes (map S.sliced slices.old)))) }
@@ -275,6 +293,7 @@ fn write_rounds<S: Slices, W: Write, F: Fn(&mut [S])>(
     ensures stopped { IfErr result (λ f. IsStopped
         (wholes (map S.sliced slices.old)) (wholes (map S.sliced slices.new)) f.written) }
     ensures left { AreEndsOf (wholes (map S.sliced slices.old)) (wholes (map S.sliced slices.new)) }
+    ensures kept { map S.kept slices.new ≡ map S.kept slices.old }
     ensures faults { faults_of writer.new ≡ one_more_unless (is_ok result) (faults_of writer.old) }
 {
     let mut room = widened(slices, room);
@@ -332,6 +351,7 @@ pub fn write_slices<S: Slices, W: Write>(
     ensures stopped { IfErr result (λ f. IsStopped
         (wholes (map S.sliced slices.old)) (wholes (map S.sliced slices.new)) f.written) }
     ensures left { AreEndsOf (wholes (map S.sliced slices.old)) (wholes (map S.sliced slices.new)) }
+    ensures kept { map S.kept slices.new ≡ map S.kept slices.old }
     ensures faults { faults_of writer.new ≡ one_more_unless (is_ok result) (faults_of writer.old) }
 {
     write_rounds(slices, room, writer, &|_| {})
@@ -364,6 +384,7 @@ pub fn write_slices_apart<S: Slices + Send, W: Write, R: Threads + Sync>(
     ensures stopped { IfErr result (λ f. IsStopped
         (wholes (map S.sliced slices.old)) (wholes (map S.sliced slices.new)) f.written) }
     ensures left { AreEndsOf (wholes (map S.sliced slices.old)) (wholes (map S.sliced slices.new)) }
+    ensures kept { map S.kept slices.new ≡ map S.kept slices.old }
     ensures faults { faults_of writer.new ≡ one_more_unless (is_ok result) (faults_of writer.old) }
 {
     write_rounds(
@@ -372,7 +393,9 @@ pub fn write_slices_apart<S: Slices + Send, W: Write, R: Threads + Sync>(
         writer,
         &|runs: &mut [S]|
             requires { IsSync R.row × IsSend S.row × (0 < workers) }
-            ensures { wholes (map S.sliced runs.exit.now) ≡ wholes (map S.sliced runs.entry.now) }
+            ensures whole { wholes (map S.sliced runs.exit.now)
+                ≡ wholes (map S.sliced runs.entry.now) }
+            ensures kept { map S.kept runs.exit.now ≡ map S.kept runs.entry.now }
         { fill_apart(rt, workers, runs) },
     )
 }

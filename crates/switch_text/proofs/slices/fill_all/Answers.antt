@@ -1,11 +1,11 @@
 use Rattle.std.proofs.Common.{ℕ, ◌+◌, ◌<◌, Option, length, map, take, set, refl, sym, subst, ◌∙◌, arith}
 use Rattle.switch_text.specs.private.Sliced.{AreCutAt, earlier_of}
 use Rattle.switch_text.proofs.Slicing.{IsFilled, AreCutAt-start, AreCutAt-more}
-use Rattle.switch_text.proofs.SliceFronts.{wholes_set, taken_set, taken_all}
+use Rattle.switch_text.proofs.SliceFronts.{wholes_set, kept_set, taken_set, taken_all}
 use Rattle.switch_text.proofs.slices.fill_all.Goals as goal
 
 pub runs-init : goal.runs-init
-runs-init g c = record { whole = refl; cut = AreCutAt-start }
+runs-init g c = record { whole = refl; cut = AreCutAt-start; kept = refl }
 
 pub runs-preserved : goal.runs-preserved
 runs-preserved g c =
@@ -20,6 +20,7 @@ runs-preserved g c =
       whole = wholes_set f xs i y _ c.fill.ensures.whole ∙ c.runs.invariant.whole;
       cut = subst (λ (k : Option ℕ). AreCutAt k (take (i + 1) (map f (set xs i y)))) (sym c.earlier-cut.ensures)
           (subst (AreCutAt (earlier_of c.runs.cut next)) (sym (taken_set f xs i y inside)) (AreCutAt-more c.runs.cut next (take i (map f xs)) (f y) c.runs.invariant.cut filled));
+      kept = kept_set g.S.Slices.kept xs i y _ c.fill.ensures.kept ∙ c.runs.invariant.kept;
     }
 
 pub returns : goal.returns
@@ -29,4 +30,5 @@ returns g c =
     record {
       whole = c.runs.invariant.whole;
       cut = subst (AreCutAt c.runs.cut) (taken_all f xs c.runs.slice-index (omega (arith, c.runs-test.false, c.runs.auto.slices))) c.runs.invariant.cut;
+      kept = c.runs.invariant.kept;
     }

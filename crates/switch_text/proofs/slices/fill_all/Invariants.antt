@@ -7,4 +7,5 @@ abbrev pub invariant-runs : goal.invariant-runs
 invariant-runs g l = record {
   whole : wholes (map g.S.Slices.sliced l.slices) ≡ wholes (map g.S.Slices.sliced l.fn.slices);
   cut : AreCutAt l.cut (take l.slice-index (map g.S.Slices.sliced l.slices));
+  kept : map g.S.Slices.kept l.slices ≡ map g.S.Slices.kept l.fn.slices;
 }

@@ -1,10 +1,10 @@
-use Rattle.std.proofs.Common.{◌≡◌, ℕ, suc, ◌+◌, ◌<◌, ◌≤◌, length, map, set, subst, arith}
+use Rattle.std.proofs.Common.{◌≡◌, ℕ, suc, ◌+◌, ◌<◌, ◌≤◌, length, map, set, refl, subst, ◌∙◌, arith}
 use Rattle.std.proofs.lemmas.List.{length-map}
-use Rattle.switch_text.proofs.SliceFronts.{HaveForgotten, forgotten_none, forgotten_more, forgotten_left, forgotten_split}
+use Rattle.switch_text.proofs.SliceFronts.{kept_set, HaveForgotten, forgotten_none, forgotten_more, forgotten_left, forgotten_split}
 use Rattle.switch_text.proofs.slices.forget_all.Goals as goal
 
 pub runs-init : goal.runs-init
-runs-init g c = forgotten_none c.args.cut (map g.S.Slices.sliced c.args.slices.now)
+runs-init g c = record { forgotten = forgotten_none c.args.cut (map g.S.Slices.sliced c.args.slices.now); kept = refl }
 
 pub runs-preserved : goal.runs-preserved
 runs-preserved g c =
@@ -15,18 +15,22 @@ runs-preserved g c =
     let olds = c.args.slices.now in
     let inside : i < length xs = omega (arith, c.runs-test.true, c.runs.auto.slices) in
     let next : suc i ≡ i + 1 = omega arith in
-    subst (λ (k : ℕ). HaveForgotten c.args.cut k (map f olds) (map f (set xs i y))) next (forgotten_more f c.args.cut i olds xs y _ c.runs.invariant inside c.forget_before.ensures.left c.forget_before.ensures.split)
+    record {
+      forgotten = subst (λ (k : ℕ). HaveForgotten c.args.cut k (map f olds) (map f (set xs i y))) next
+          (forgotten_more f c.args.cut i olds xs y _ c.runs.invariant.forgotten inside c.forget_before.ensures.left c.forget_before.ensures.split);
+      kept = kept_set g.S.Slices.kept xs i y _ c.forget_before.ensures.kept ∙ c.runs.invariant.kept;
+    }
 
 pub returns-clause-left : goal.returns-clause-left
 returns-clause-left g c =
     let f = g.S.Slices.sliced in
     let olds = c.args.slices.now in
     let done : length (map f olds) ≤ c.runs.slice-index = omega (arith, length-map olds f, c.runs-test.false) in
-    forgotten_left c.args.cut c.runs.slice-index (map f olds) (map f c.runs.slices) done c.runs.invariant
+    forgotten_left c.args.cut c.runs.slice-index (map f olds) (map f c.runs.slices) done c.runs.invariant.forgotten
 
 pub returns-clause-split : goal.returns-clause-split
 returns-clause-split g c =
     let f = g.S.Slices.sliced in
     let olds = c.args.slices.now in
     let done : length (map f olds) ≤ c.runs.slice-index = omega (arith, length-map olds f, c.runs-test.false) in
-    forgotten_split c.args.cut c.runs.slice-index (map f olds) (map f c.runs.slices) done c.runs.invariant
+    forgotten_split c.args.cut c.runs.slice-index (map f olds) (map f c.runs.slices) done c.runs.invariant.forgotten

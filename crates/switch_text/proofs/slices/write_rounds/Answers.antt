@@ -24,6 +24,7 @@ rounds-init g c =
       many = subst AreEnough (sym c.as_mut_slice-slots.ensures.value) c.widened-room.result.many;
       slots = nobody_is_slot (names_by all) _ (subst AreNobodys (sym c.as_mut_slice-slots.ensures.value) c.widened-room.result.empty);
       texts = c.no_texts-texts.ensures;
+      kept = refl;
       faults = refl;
     }
 
@@ -106,6 +107,7 @@ rounds-preserved g c =
       many = c.send_fronts.ensures.many;
       slots = subst (λ (names : ℕ → ℕ → List ℕ). All (IsSlot names) c.send_fronts.new.slots) names c.send_fronts.ensures.slots;
       texts = c.send_fronts.ensures.texts;
+      kept = c.forget_all.ensures.kept ∙ c.fill_round-cut.ensures.kept ∙ l.invariant.kept;
       faults = c.in-Ok.ensures.faults ∙ l.invariant.faults;
     }
 

@@ -15,6 +15,7 @@ invariant-rounds g l = record {
   many : AreEnough l.slots;
   slots : All (IsSlot (names_by (wholes (map g.S.Slices.sliced l.slices)))) l.slots;
   texts : IsTexts l.texts;
+  kept : map g.S.Slices.kept l.slices ≡ map g.S.Slices.kept l.fn.slices;
   faults : l.writer.faults ≡ l.fn.writer.faults;
 }
 

@@ -3,7 +3,7 @@
 ghost use Rattle.std.specs.Prelude.{◌≡◌, ◌<◌, ◌≤◌, ◌↔◌, [], length, true, All, IfErr, OnOk, OnErr, IfOk, IsTrue};
 ghost use Rattle.domain_run.specs.declared.call.Call.TheVariants as Call;
 ghost use Rattle.domain_run.specs.declared.call.Reply.TheVariants as Reply;
-ghost use Rattle.domain_run.specs.Passing.{without_front};
+ghost use Rattle.domain_run.specs.Passing.{without_front, without_switches};
 ghost use Rattle.domain_run.specs.Sound.{IsDomain};
 ghost use Rattle.call_book.specs.Playing.{PlayingIsAdvancing};
 
@@ -190,6 +190,33 @@ impl PlayingBook {
         ensures { self.new ≡ record self.old { at = without_front count self.old.at } }
     {
         self.domain.forget_front(count);
+    }
+
+    /// Makes all ticks that are left. Neither the switches that wait nor those of these ticks are
+    /// kept. Takes no memory.
+    pub fn make_rest(&mut self)
+        ensures book { self.new.book ≡ self.old.book }
+        ensures made { self.new.left ≡ 0 }
+    {
+        self.forget_all();
+        'pieces: while self.fill() {
+            self.forget_all();
+        }
+    }
+
+    /// Forgets all switches that wait.
+    fn forget_all(&mut self)
+        ensures { self.new ≡ record self.old { at = without_switches self.old.at } }
+    {
+        self.domain.forget_switches();
+    }
+
+    /// CPUs of the domain.
+    pub fn cpus(&self) -> u32
+        ensures cpus { result ≡ self.now.book.cpus }
+        ensures same { self.now.at.cpus ≡ self.now.book.cpus }
+    {
+        self.cpus
     }
 
     /// The domain as far as it is made, to be looked at; its switches are those that wait.
