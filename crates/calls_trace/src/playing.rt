@@ -13,8 +13,9 @@ use crate::kept_section::KeptSection;
 use crate::laid_out::lay_out_if_admitted;
 use crate::named_run::RunWithNames;
 use attr_check::Params;
-use domain_run::{Buffered, Call, Name, NoMemory, Script};
+use domain_run::{Call, Name, NoMemory, Script};
 use indexmap::IndexMap;
+use repeat_run::Repeating;
 use std::alloc::Global;
 use switch_text::{Run, Slices};
 
@@ -22,7 +23,7 @@ use switch_text::{Run, Slices};
 /// is put down needs room that was made before.
 #[derive(Drop)]
 pub(crate) struct NamedDomain {
-    domain: Buffered,
+    domain: Repeating,
     names: IndexMap<u32, String>,
 }
 
@@ -58,7 +59,7 @@ impl NamedDomain {
     ghost use Rattle.calls_trace.specs.private.Kept.{room_of};
 
     /// The domain of a run and its names, with room for so many more.
-    fn of(run: RunWithNames, room: usize) -> Result<NamedDomain, NoMemory>
+    fn of(alloc: Global, run: RunWithNames, room: usize) -> Result<NamedDomain, NoMemory>
         ensures domain { IfOk result (λ d. d.domain ≡ run.state) }
         ensures names { IfOk result (λ d. MapGives d.names (name_of_task run.names)) }
         ensures room { IfOk result (λ d. room ≤ spare d.names) }
@@ -77,7 +78,7 @@ impl NamedDomain {
             drop(state);
             return Err(error);
         }
-        match Buffered::of(state) {
+        match Repeating::of(alloc, state) {
             Ok(domain) => Ok(NamedDomain { domain, names }),
             Err(error) => {
                 drop(names);
@@ -241,7 +242,7 @@ impl Playing {
     {
         let KeptSection { run, calls, .. } = kept;
         // The calls are let go of by one call: their parts would be written out on each way.
-        let domain = match NamedDomain::of(run, calls.room()) {
+        let domain = match NamedDomain::of(alloc, run, calls.room()) {
             Ok(domain) => domain,
             Err(error) => {
                 drop(calls);

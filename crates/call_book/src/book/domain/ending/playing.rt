@@ -14,7 +14,8 @@ use crate::book::ledger::Ledger;
 use crate::book::stock::Stock;
 use bw_gate::Gate;
 use calls_text::Entry;
-use domain_run::{Buffered, Call, Reply, State};
+use domain_run::{Call, Reply, State};
+use repeat_run::Repeating;
 use std::alloc::Global;
 use std::marker::Model;
 
@@ -26,7 +27,7 @@ use std::marker::Model;
 pub struct PlayingBook {
     cpus: u32,
     limit: u64,
-    domain: Buffered,
+    domain: Repeating,
     // How many ticks are still to be made.
     ticks: u64,
     ledger: Ledger,
@@ -87,7 +88,7 @@ impl EndingBook {
         } = self;
         // For the prover alone: a look at the state brings what every domain keeps.
         let _ = state.now();
-        match Buffered::try_of(state) {
+        match Repeating::try_of(alloc, state) {
             Ok(domain) => Ok(PlayingBook {
                 cpus,
                 limit,
