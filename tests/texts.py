@@ -629,7 +629,27 @@ def one_minute():
         yield start + 500, ("t", 1), "S", IDLE
 
 
+def each_millisecond(rounds, work, state):
+    """A task works from the beginning of each millisecond on, and leaves the CPU in this state."""
+    for start in range(0, 1000 * rounds, 1000):
+        yield start, IDLE, "R", ("a", 1)
+        yield start + work, ("a", 1), state, IDLE
+
+
+# Runs that repeat, so that their periods are given again: without end, up to a last round, up to a call, and with work that lasts.
+REPEATING = [
+    ("a run that repeats", ["admit 1 1 a 300 1000 1000 - 0 -1:1{r100,t1000}", "advance 1 5000000"], (5000, 100, "S")),
+    ("a run that repeats for 4321 rounds", ["admit 1 1 a 300 1000 1000 - 0 4321:1{r100,t1000}", "advance 1 5000000"], (4321, 100, "S")),
+    (
+        "a run that repeats up to a call",
+        ["admit 1 1 a 300 1000 1000 - 0 -1:1{r100,t1000}", "advance 1 3000500", "leave 1 1", "advance 1 3000000"],
+        (3001, 100, "S"),
+    ),
+    ("work that outlasts each period", ["admit 1 1 a 300 1000 1000 - 0 1:1{r1000000000}", "advance 1 5000000"], (5000, 300, "R+")),
+]
+
 LONG = [
+    *(replayed(name, ["domain 1 1048576", *lines], *each_millisecond(*shape)) for name, lines, shape in REPEATING),
     Row("two domains for a second", "run --domains 1,1", TWO_DOMAINS, 0, trace(*two_domains()), ""),
     Row("a minute", "run", ONE_MINUTE, 0, trace(*one_minute()), ""),
 ]
