@@ -22,14 +22,14 @@ use no_memory::NoMemory;
 use std::marker::Model;
 use task_script::{Name, Script};
 
-/// So many switches wait at least before an advance stops; each is 16 bytes, so a buffer has some
-/// 64 kB.
+/// The least number of switches that wait before an advance stops. Each takes 16 bytes, so a buffer
+/// has some 64 kB.
 const PIECE: usize = 4096;
 
-/// A domain whose switches wait in a buffer, of which the room is made once. No call on it takes
-/// memory, so none can be refused for want of it: an advance stops where the buffer is full, and
-/// goes on once the switches that wait were taken and are forgotten. In contracts it is its domain,
-/// whose switches are those that wait.
+/// A domain whose switches wait in a buffer, of which the room is made once. Only
+/// [`Buffered::repeat`] takes memory, and it may do without. So no call can be refused for want of
+/// memory: an advance stops if the buffer is full, and goes on after the waiting switches were taken
+/// and forgotten. In contracts it is its domain, whose switches are those that wait.
 #[derive(Drop)]
 pub struct Buffered {
     state: State,

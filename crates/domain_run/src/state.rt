@@ -104,8 +104,8 @@ impl State {
         &self.switches
     }
 
-    /// How many switches there is room for, those so far among them. Only [`State::tick`] and
-    /// [`State::begin`] change it, since no other call takes memory.
+    /// The number of switches that there is room for, those so far among them. Only
+    /// [`State::tick`], [`State::begin`] and [`Buffered::repeat`](crate::Buffered::repeat) change it.
     pub fn room(&self) -> usize
         ensures { length self.now.switches ≤ result }
     {

@@ -145,7 +145,7 @@ impl Switch {
         u64::from(self.high) * HIGHER + u64::from(self.low)
     }
 
-    /// The same switch so many microseconds later, below 2^48.
+    /// The same switch `micros` microseconds later, below 2^48.
     #[inline(always)]
     pub fn later(&self, micros: u64) -> Switch
         requires { self.now.time + micros < 2 ^ 48 }

@@ -70,7 +70,7 @@ fn hear(state: &mut State, log: &mut Log, accounting: &mut Accounting)
     state.forget_switches();
 }
 
-/// The next piece, of so many ticks at most: how many were made, and at least one. `Err` where a
+/// The next piece, of at most `n` ticks: returns how many were made, at least one. `Err` if a
 /// growth was refused before it; nothing has changed then.
 fn next_piece(state: &mut State, n: u64, log: &mut Log) -> Result<u64, NoMemory>
     requires early { state.old.time + n ≤ 2 ^ 42 }
@@ -93,7 +93,7 @@ fn next_piece(state: &mut State, n: u64, log: &mut Log) -> Result<u64, NoMemory>
     Ok(piece.ticks)
 }
 
-/// Goes on by so many ticks, as [`advance_told`](jump_run::advance_told) does, while an accounting
+/// Goes on by `n` ticks, as [`advance_told`](jump_run::advance_told) does, while an accounting
 /// that has heard this run up to here goes on to hear it: first what the log and the state have at
 /// hand, and then, piece by piece, what happens in these ticks and the switches that they make.
 /// State and log forget what was heard, so they hold a bounded number of both, however much

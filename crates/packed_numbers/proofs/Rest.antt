@@ -11,24 +11,24 @@ abbrev pub from : ℕ → List ℕ → Read
 from part bytes = fold with_byte (record { numbers = []; part = part }) bytes
 
 -- numbers that were read before stay in front
-abbrev pub behind : List ℕ → Read → Read
-behind ns r = record { numbers = ns ++ r.numbers; part = r.part }
+abbrev pub after : List ℕ → Read → Read
+after ns r = record { numbers = ns ++ r.numbers; part = r.part }
 
-pub read_behind : (ns : List ℕ) (r : Read) (bytes : List ℕ) → fold with_byte (behind ns r) bytes ≡ behind ns (fold with_byte r bytes)
-read_behind ns r [] = refl
-read_behind ns r (b ∷ bs) =
-    ap (λ (x : Read). fold with_byte x bs) (one (ltb b 128)) ∙ read_behind ns (with_byte r b) bs
+pub read_after : (ns : List ℕ) (r : Read) (bytes : List ℕ) → fold with_byte (after ns r) bytes ≡ after ns (fold with_byte r bytes)
+read_after ns r [] = refl
+read_after ns r (b ∷ bs) =
+    ap (λ (x : Read). fold with_byte x bs) (one (ltb b 128)) ∙ read_after ns (with_byte r b) bs
   where
     one : (c : Bool) → cond c (record { numbers = (ns ++ r.numbers) ++ (r.part * 128 + b) ∷ []; part = 0 }) (record { numbers = ns ++ r.numbers; part = r.part * 128 + (b - 128) })
-        ≡ behind ns (cond c (record { numbers = r.numbers ++ (r.part * 128 + b) ∷ []; part = 0 }) (record { numbers = r.numbers; part = r.part * 128 + (b - 128) }))
+        ≡ after ns (cond c (record { numbers = r.numbers ++ (r.part * 128 + b) ∷ []; part = 0 }) (record { numbers = r.numbers; part = r.part * 128 + (b - 128) }))
     one true = λ i. record { numbers = append_assoc ns r.numbers ((r.part * 128 + b) ∷ []) i; part = 0 }
     one false = refl
 
 -- the last byte of a number, and one that is not its last
-pub from_last : (part b : ℕ) (bs : List ℕ) → ltb b 128 ≡ true → from part (b ∷ bs) ≡ behind ((part * 128 + b) ∷ []) (read_of bs)
+pub from_last : (part b : ℕ) (bs : List ℕ) → ltb b 128 ≡ true → from part (b ∷ bs) ≡ after ((part * 128 + b) ∷ []) (read_of bs)
 from_last part b bs last =
     ap (λ (c : Bool). fold with_byte (cond c (record { numbers = (part * 128 + b) ∷ []; part = 0 }) (record { numbers = []; part = part * 128 + (b - 128) })) bs) last
-    ∙ read_behind ((part * 128 + b) ∷ []) nothing_read bs
+    ∙ read_after ((part * 128 + b) ∷ []) nothing_read bs
 
 pub from_more : (part b : ℕ) (bs : List ℕ) → ltb b 128 ≡ false → from part (b ∷ bs) ≡ from (part * 128 + (b - 128)) bs
 from_more part b bs more =
@@ -41,7 +41,7 @@ part_small part (b ∷ bs) is = by (ltb b 128) refl (part_small (part * 128 + (b
   where
     by : (c : Bool) → ltb b 128 ≡ c → (IsReadWhole (from (part * 128 + (b - 128)) bs) → part * 128 + (b - 128) < 2 ^ 64) → part < 2 ^ 64
     by true last rest =
-        let ends : IsReadWhole (behind ((part * 128 + b) ∷ []) (read_of bs)) = subst IsReadWhole (from_last part b bs last) is in
+        let ends : IsReadWhole (after ((part * 128 + b) ∷ []) (read_of bs)) = subst IsReadWhole (from_last part b bs last) is in
         let small = All-head (λ (n : ℕ). n < 2 ^ 64) (part * 128 + b) (read_of bs).numbers ends.wide in
         omega (arith, small)
     by false more rest =
@@ -61,11 +61,11 @@ front_small part (suc m) small some =
 here : (bytes : List ℕ) (at part : ℕ) → at < length bytes → from part (drop at bytes) ≡ read_of bytes → from part (get_or bytes at 0 ∷ drop (suc at) bytes) ≡ read_of bytes
 here bytes at part inside is = ap (from part) (sym (drop-cons bytes at 0 inside)) ∙ is
 
-pub at_last : (bytes : List ℕ) (at part : ℕ) → at < length bytes → from part (drop at bytes) ≡ read_of bytes → get_or bytes at 0 < 128 → read_of bytes ≡ behind ((part * 128 + get_or bytes at 0) ∷ []) (read_of (drop (at + 1) bytes))
+pub at_last : (bytes : List ℕ) (at part : ℕ) → at < length bytes → from part (drop at bytes) ≡ read_of bytes → get_or bytes at 0 < 128 → read_of bytes ≡ after ((part * 128 + get_or bytes at 0) ∷ []) (read_of (drop (at + 1) bytes))
 at_last bytes at part inside is last =
     let b = get_or bytes at 0 in
     let e : suc at ≡ at + 1 = omega arith in
-    sym (here bytes at part inside is) ∙ from_last part b (drop (suc at) bytes) (lt-ltb b 128 last) ∙ ap (λ (k : ℕ). behind ((part * 128 + b) ∷ []) (read_of (drop k bytes))) e
+    sym (here bytes at part inside is) ∙ from_last part b (drop (suc at) bytes) (lt-ltb b 128 last) ∙ ap (λ (k : ℕ). after ((part * 128 + b) ∷ []) (read_of (drop k bytes))) e
 
 pub at_more : (bytes : List ℕ) (at part : ℕ) → at < length bytes → from part (drop at bytes) ≡ read_of bytes → 128 ≤ get_or bytes at 0 → from (part * 128 + (get_or bytes at 0 - 128)) (drop (at + 1) bytes) ≡ read_of bytes
 at_more bytes at part inside is more =
@@ -75,18 +75,18 @@ at_more bytes at part inside is more =
 
 pub number_fits : (bytes : List ℕ) (at part : ℕ) → IsReadWhole (read_of bytes) → at < length bytes → from part (drop at bytes) ≡ read_of bytes → get_or bytes at 0 < 128 → part * 128 + get_or bytes at 0 < 2 ^ 64
 number_fits bytes at part whole inside is last =
-    let ends : IsReadWhole (behind ((part * 128 + get_or bytes at 0) ∷ []) (read_of (drop (at + 1) bytes))) = subst IsReadWhole (at_last bytes at part inside is last) whole in
+    let ends : IsReadWhole (after ((part * 128 + get_or bytes at 0) ∷ []) (read_of (drop (at + 1) bytes))) = subst IsReadWhole (at_last bytes at part inside is last) whole in
     All-head (λ (n : ℕ). n < 2 ^ 64) (part * 128 + get_or bytes at 0) (read_of (drop (at + 1) bytes)).numbers ends.wide
 
 pub rest_whole : (bytes : List ℕ) (at part : ℕ) → IsReadWhole (read_of bytes) → at < length bytes → from part (drop at bytes) ≡ read_of bytes → get_or bytes at 0 < 128 → IsReadWhole (read_of (drop (at + 1) bytes))
 rest_whole bytes at part whole inside is last =
-    let ends : IsReadWhole (behind ((part * 128 + get_or bytes at 0) ∷ []) (read_of (drop (at + 1) bytes))) = subst IsReadWhole (at_last bytes at part inside is last) whole in
+    let ends : IsReadWhole (after ((part * 128 + get_or bytes at 0) ∷ []) (read_of (drop (at + 1) bytes))) = subst IsReadWhole (at_last bytes at part inside is last) whole in
     record { whole = ends.whole; wide = All-tail (λ (n : ℕ). n < 2 ^ 64) (part * 128 + get_or bytes at 0) (read_of (drop (at + 1) bytes)).numbers ends.wide }
 
 pub part_fits : (bytes : List ℕ) (at part : ℕ) → IsReadWhole (read_of bytes) → at < length bytes → from part (drop at bytes) ≡ read_of bytes → 128 ≤ get_or bytes at 0 → part * 128 + (get_or bytes at 0 - 128) < 2 ^ 64
 part_fits bytes at part whole inside is more =
     part_small (part * 128 + (get_or bytes at 0 - 128)) (drop (at + 1) bytes) (subst IsReadWhole (sym (at_more bytes at part inside is more)) whole)
 
--- behind the last byte nothing is left
+-- after the last byte nothing is left
 pub none_left : (bytes : List ℕ) (at part : ℕ) → length bytes ≤ at → from part (drop at bytes) ≡ read_of bytes → (read_of bytes).numbers ≡ []
 none_left bytes at part end is = sym (ap (λ (r : Read). r.numbers) is) ∙ ap (λ (bs : List ℕ). (from part bs).numbers) (drop_all at bytes end)

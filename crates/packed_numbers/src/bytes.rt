@@ -57,7 +57,7 @@ impl PackedNumbers {
         }
     }
 
-    /// One number more, behind the others.
+    /// Appends a number.
     ///
     /// # Errors
     /// 12 [`NoMemory`]: a growth was refused; the list is as it was.

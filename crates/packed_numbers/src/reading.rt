@@ -34,7 +34,7 @@ impl<'a> NumbersLeft<'a> {
         NumbersLeft { bytes }
     }
 
-    /// The next one; none behind the last.
+    /// The next one; none after the last.
     pub fn next(&mut self) -> Option<u64>
         ensures { MatchOption result ((self.old ≡ []) × (self.new ≡ []))
             (λ n. self.old ≡ n ∷ self.new) }

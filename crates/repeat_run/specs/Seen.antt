@@ -1,4 +1,4 @@
--- WHAT IS COMPARED: what was seen of all tasks at one time, and the tasks some time later.
+-- WHAT IS COMPARED: what was seen of all tasks at one time, and the tasks some time later (own).
 use Rattle.std.specs.Prelude.{ℕ, ◌≡◌, List, [], ◌∷◌, is_some}
 use Rattle.std.specs.List.{AllZip}
 use Rattle.domain_run.specs.declared.task.Task.{Task}

@@ -10,13 +10,13 @@ use crate::seeing::{paces_to, runs_same, see_all, see_running};
 use crate::span::span_of;
 use domain_run::State;
 
-/// After so many looks at one time without a period it is not looked for any more.
+/// After this many looks from one time without a period, the search ends.
 const MOST_LOOKS: u32 = 4096;
 
-/// So many recorded periods fit into what is left of the run, if that is long enough.
+/// The least number of recorded periods in the rest of the run, if that is long enough.
 const LEAST_PERIODS: u64 = 16;
 
-/// A recorded period has at least so many switches, if the run is long enough.
+/// The least number of switches of a recorded period, if the run is long enough.
 const LEAST_SWITCHES: u64 = 2048;
 
 /// The least number of switches for each task.
@@ -24,6 +24,13 @@ const SWITCHES_A_TASK: u64 = 16;
 
 /// The most ticks of a recorded period.
 const MOST_TICKS: u64 = 1 << 40;
+
+/// Microseconds without a period after which looks are far apart.
+const LONG_WATCH: u64 = 1_000_000;
+
+/// The least number of microseconds between looks that are far apart. A shorter fill does not skip
+/// zero-lag timers.
+const FAR_APART: u64 = 100_000;
 
 /// The first look is one span from now.
 pub(crate) fn begin_watch(state: &State) -> Watch {
@@ -38,7 +45,7 @@ pub(crate) fn begin_watch(state: &State) -> Watch {
     }
 }
 
-/// The watch after so many ticks, which made so many switches.
+/// The watch after `ticks` ticks, which made `switches` switches.
 pub(crate) fn passed(watch: Watch, ticks: u64, switches: u64) -> Watch {
     Watch {
         span: watch.span,
@@ -116,11 +123,21 @@ fn look_later(watch: Watch) -> Watch {
     }
 }
 
+/// The distance of the next looks: a multiple of the one so far that is far apart, if no period was
+/// found for long.
+fn next_span(watch: Watch) -> u64 {
+    if watch.since < LONG_WATCH {
+        return watch.span;
+    }
+    watch.span.saturating_mul(FAR_APART / watch.span.max(1) + 1)
+}
+
 /// The watch from a time at which all was written down, for twice as many looks.
 fn look_anew(watch: Watch) -> Watch {
+    let span = next_span(watch);
     Watch {
-        span: watch.span,
-        next: watch.span,
+        span,
+        next: span,
         since: 0,
         switches: 0,
         looks: 0,
@@ -128,7 +145,7 @@ fn look_anew(watch: Watch) -> Watch {
     }
 }
 
-/// Looks on, from this time if there were enough looks from the one before.
+/// Looks on, from this time if there were enough looks from the earlier one.
 fn look_on(state: &State, kept: &mut Kept, watch: Watch) -> Phase
     ensures { KnowsInPhase result kept.new state.now }
 {
@@ -144,7 +161,7 @@ fn look_on(state: &State, kept: &mut Kept, watch: Watch) -> Phase
     Phase::Looking(look_anew(watch))
 }
 
-/// Looks whether the run has come back to what was written down. So many ticks are left.
+/// Looks whether the run has come back to what was written down. `left` ticks are left.
 pub(crate) fn look_around(state: &State, kept: &mut Kept, watch: Watch, left: u64) -> Phase
     ensures { KnowsInPhase result kept.new state.now }
 {

@@ -166,11 +166,11 @@ impl Repeating {
         made.ticks
     }
 
-    /// Goes on from event to event, by at most so many ticks, and answers how many they were: the
-    /// domain and its switches are exactly those of so many single ticks. It stops early where the
-    /// buffer has no room for the switches of one more event; where no switch waits, at least one
-    /// tick is made. Time stays within 2^42 us. Tasks that have left may go off the list; nobody
-    /// comes, and the others keep number, bandwidth and order.
+    /// Goes on from event to event by at most `n` ticks, and returns the number of ticks made. The
+    /// domain and its switches are exactly those of that number of single ticks. It stops early if
+    /// the buffer has no room for the switches of one more event. If no switch waits, it makes at
+    /// least one tick. Time stays within 2^42 us. Tasks that have left may go off the list; no task
+    /// is added, and the others keep number, bandwidth and order.
     pub fn advance(&mut self, n: u64) -> u64
         requires { self.old.time + n ≤ 2 ^ 42 }
         ensures ticks { self.new ≡ tick.ticks result self.old }

@@ -18,14 +18,14 @@ const MOST: usize = 1 << 18;
 /// An advance that is shorter is not looked at, in microseconds.
 const LEAST_RUN: u64 = 1_000_000;
 
-/// So many ticks were made, and this is known then.
+/// The ticks made, and what is known after them.
 #[derive(Clone, Copy)]
 pub(crate) struct Made {
     pub(crate) ticks: u64,
     pub(crate) phase: Phase,
 }
 
-// Makes at most so many ticks; at least one, or switches wait.
+// Makes at most `n` ticks; at least one, or switches wait.
 fn simulate(buffered: &mut Buffered, n: u64) -> u64
     requires { buffered.old.time + n ≤ 2 ^ 42 }
     ensures made { buffered.new ≡ tick.ticks result buffered.old }
@@ -35,7 +35,7 @@ fn simulate(buffered: &mut Buffered, n: u64) -> u64
     n - buffered.fill(n)
 }
 
-// At most so many ticks, and at most those that are left.
+// At most `next` ticks, and at most those that are left.
 fn up_to(next: u64, left: u64) -> u64
     requires { 0 < left }
     ensures some { 0 < result }
@@ -172,7 +172,7 @@ fn give(buffered: &mut Buffered, kept: &mut Kept, giving: Giving, left: u64) -> 
     }
 }
 
-/// Goes on by at most so many ticks; at least one, or switches wait.
+/// Goes on by at most `left` ticks; at least one, or switches wait.
 pub(crate) fn go_on(buffered: &mut Buffered, kept: &mut Kept, phase: Phase, left: u64) -> Made
     requires some { 0 < left }
     requires early { buffered.old.time + left ≤ 2 ^ 42 }

@@ -72,7 +72,7 @@ fn busy_with(task: Option<u32>, us: u64) -> u64
     }
 }
 
-/// One more switch, so many microseconds before the end.
+/// One more switch, `us` microseconds before the end.
 fn add_switch(cpu: &mut Cpu, switch: &Switch, us: u64)
     requires time { cpu.old.busy_us ≤ (2 ^ 64 - 2) * 2 ^ 64 }
     requires count { cpu.old.switches ≤ 2 ^ 64 - 2 }

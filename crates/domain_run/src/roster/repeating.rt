@@ -84,7 +84,7 @@ fn later_condition(condition: Condition, micros: u64) -> Condition
     }
 }
 
-/// A task is so many microseconds later, so many rounds further on, and has so much work done.
+/// Makes a task later by `micros` microseconds, by `rounds` rounds, and by `worked` of work done.
 fn make_later(task: &mut Task, micros: u64, rounds: u64, worked: u64)
     requires time { HasTime task.old }
     requires micros { micros ≤ 2 ^ 42 }

@@ -9,10 +9,10 @@ use super::State;
 use crate::pace::Pace;
 use crate::switch::Switch;
 
-/// So many switches at most are given again at once.
+/// The most switches that are given again at once.
 const MOST_SWITCHES: usize = 1 << 32;
 
-// Appends the switches of a period, later by so many microseconds.
+// Appends the switches of a period, later by `later_by` microseconds.
 fn append(switches: &mut Vec<Switch>, period: &[Switch], later_by: u64)
     requires room { length switches.old.items + length period.now ≤ vec_capacity switches.old }
     requires early { All (λ s. s.time + later_by < 2 ^ 48) period.now }

@@ -19,7 +19,7 @@ nothing_read = record { numbers = []; part = 0 }
 abbrev pub read_of : List ℕ → Read
 read_of bytes = fold with_byte nothing_read bytes
 
--- behind a number, and all numbers are below 2^64
+-- after a whole number, and all numbers are below 2^64
 pub record IsReadWhole (r : Read) : Type 0 where
   pub whole : r.part ≡ 0
   pub wide : All (λ n. n < 2 ^ 64) r.numbers

@@ -1,4 +1,4 @@
--- What a run that looks for a period knows in each phase.
+-- What a run that looks for a period knows in each phase (own).
 use Rattle.std.specs.Prelude.{ℕ, ◌≡◌, ◌<◌, ◌≤◌}
 use Rattle.domain_run.specs.Domain.{Domain}
 use Rattle.domain_run.specs.Coming.{switches_to_come}
@@ -20,7 +20,7 @@ pub record IsRecorded (made : ℕ) (kept : Kept) (d : Domain) : Type 0 where
   pub there : without_switches d ≡ without_switches (ticks made start)
   pub period : kept.period.items ≡ switches_to_come made start
 
--- so many periods may be given
+-- `left` more periods may be given
 pub record IsGiving (micros later_by left : ℕ) (kept : Kept) (d : Domain) : Type 0 where
   pub some : 0 < micros
   pub past : later_by ≤ d.time
