@@ -323,6 +323,10 @@ def one_minute():
         yield start + 500, ("t", 1), "S", IDLE
 
 
+def timer(us):
+    return f',"timer":{{"ref":"unique","period":{us}}}'
+
+
 # Three halves of a CPU, admitted at 0, where no time passes.
 THREE = [((f"t-{n}", n + 1), 0, 0, 0, NOBODY, (0, 0), (0, 0, 0), ("0.00", "50.00")) for n in range(3)]
 # In each of two domains three jobs a millisecond, of 50 us, one behind the other: the CPU is idle between.
@@ -360,6 +364,34 @@ RUNS = [
         ),
         "",
     ),
+    # Runs that repeat, whose periods are counted and not simulated.
+    Row(
+        "two timers of 10 and 15 ms for a minute: summary",
+        "run --print summary",
+        scenario(("a", working(2000, 10000, 1500, timer(10000))), ("b", working(3000, 15000, 2500, timer(15000))), duration=60),
+        0,
+        summary(
+            [
+                (("a", 1), 0, 6000, 0, (1500, 1500, 1500, 8500), (0, 0), (0, 0, 9000000), ("15.00", "20.00")),
+                (("b", 2), 0, 4000, 0, (2500, 3250, 4000, 11000), (0, 0), (0, 0, 10000000), ("16.66", "20.00")),
+            ],
+            [(0, 0, 19000000, "31.66", 18000)],
+            [(0, 1, 419430, 996147, "42.10", 60000000)],
+        ),
+        "",
+    ),
+    Row(
+        "each job is throttled twice and late for a minute: summary",
+        "run --print summary",
+        scenario(("a", working(300, 1000, 800, timer(3000))), duration=60),
+        0,
+        summary(
+            [(A, 0, 20000, 20000, (2200, 2200, 2200, -1200), (40000, 28000000), (0, 0, 16000000), ("26.66", "30.00"))],
+            [(0, 0, 16000000, "26.66", 120000)],
+            [(0, 1, 314572, 996147, "31.57", 60000000)],
+        ),
+        "",
+    ),
     Row("two domains for a second: summary", "run --domains 1,1 --print summary", TWO_DOMAINS, 0, OF_TWO, ""),
     Row("the same by six clients and two workers", "run --domains 1,1 --clients 6 --workers 2 --print summary", TWO_DOMAINS, 0, OF_TWO, ""),
 ]
@@ -377,10 +409,6 @@ def promises(*tasks):
 
 def promised(example, words, *tasks):
     return Row(f"promises of {example}", f"run {words} --print promises", (EXAMPLES / f"{example}.json").read_text(), 0, promises(*tasks), "")
-
-
-def timer(us):
-    return f',"timer":{{"ref":"unique","period":{us}}}'
 
 
 # With the whole CPU as the limit each budget is kept, and c and d are late: their shares are rounded down (docs/PROMISES.md).

@@ -45,7 +45,7 @@ pub use Rattle.domain_run.proofs.ToldFew.{ticks_few, told_few, event_few, begun_
 pub use Rattle.domain_run.proofs.Tracing.{AllPairs-append, before_time}
 pub use Rattle.domain_run.proofs.Keeping.{same_replenished, same_settled, same_unblocked, same_ran, AllPairs-map, length-filter_least}
 pub use Rattle.domain_run.proofs.Seating.{AreCandidates, placed_is}
-pub use Rattle.domain_run.proofs.Repeating.{ready_later, throttled_later, contending_later, sound_paced}
+pub use Rattle.domain_run.proofs.Repeating.{ready_later, throttled_later, contending_later, sound_paced, IsGoing, going}
 pub use Rattle.domain_run.proofs.Placing.{ready_in, stands_at, one_index}
 pub use Rattle.domain_run.proofs.KeptKeys.{ticked_numbered}
 pub use Rattle.domain_run.proofs.OrderTicks.{prepared_apart}

@@ -9,7 +9,7 @@ use Rattle.domain_run.specs.declared.task.Task.{Task}
 use Rattle.due_times.specs.declared.seats.Seat.{Seat}
 use Rattle.domain_run.specs.declared.run_queue.RunQueue.{RunQueue}
 use Rattle.domain_run.specs.Shift.{paced_task, paced_all, MayGo, AllMayGo}
-use Rattle.domain_run.specs.private.Repeating.{HasTime}
+use Rattle.domain_run.specs.LowTimes.{HasTime}
 use Rattle.domain_run.specs.private.RunQueue.{standing_of, IsCounted, MayTurn, HasTurned}
 use Rattle.due_times.specs.Seats.{SeatsView}
 use Rattle.domain_run.specs.private.Waiting.{seat_of_task, owed_by, owed, owed_all, seats_without, WaitsIf, AllWait}

@@ -58,5 +58,7 @@ pub mod Extending
 pub mod ToldLags
 pub mod ToldPassing
 pub mod ToldWoken
+pub mod LogTicks
 pub mod GoingOn
 pub mod Repeating
+pub mod Gone

@@ -3,7 +3,7 @@ use Rattle.std.proofs.Common.{◌≡◌, ℕ, ◌+◌, ◌-◌, ◌<◌, ◌≤�
 use borrow.Rule.Slice.PartMut.{mid_of, put_mid, post_of}
 use Rattle.std.specs.Prelude.{AllPairs}
 use Rattle.std.specs.List.Sorted.{IsPermutation}
-use Rattle.std.proofs.lemmas.List.{append-nil, append_assoc, length-append, take_at, take_all, take-append-le, drop_at, get_or_default}
+use Rattle.std.proofs.lemmas.List.{append-nil, append_assoc, length-append, length-map, take_at, take_all, take-append-le, drop_at, get_or_default}
 use Rattle.std.proofs.lemmas.List.Edits.{map_over_more}
 use Rattle.std.proofs.lemmas.List.Sorted.{IsPermutation-trans, IsPermutation-append_right}
 use Rattle.std.proofs.lemmas.Slice.{take-put_mid}
@@ -13,7 +13,7 @@ use Rattle.domain_run.specs.Happened.{in_order, with_its_cpu}
 use Rattle.domain_run.specs.Log.{LogView, if_wanted, Tells}
 use Rattle.domain_run.specs.private.Expiring.{TellsPart}
 use Rattle.domain_run.specs.private.Telling.{IsApart, InOrderFrom, GoHome}
-use Rattle.domain_run.proofs.ToldSorted.{pairs_none, pairs_mixed, order_alike}
+use Rattle.domain_run.proofs.ToldSorted.{pairs_none, pairs_mixed, order_alike, length-in_order}
 
 -- ---- TOLD, one list behind another
 
@@ -25,6 +25,7 @@ pub tells_silent : (told : List Happened) (log : LogView) → log.wanted ≡ fal
 tells_silent told log silent = record {
   wanted = refl;
   happened = sym (append-nil log.happened) ∙ ap (λ w. log.happened ++ cond w told []) (sym silent);
+  room = omega arith;
 }
 
 kept_none : (w : Bool) (xs : List Happened) → xs ≡ xs ++ cond w [] []
@@ -32,7 +33,7 @@ kept_none true xs = sym (append-nil xs)
 kept_none false xs = sym (append-nil xs)
 
 pub tells_none : (log : LogView) → Tells log [] log
-tells_none log = record { wanted = refl; happened = kept_none log.wanted log.happened }
+tells_none log = record { wanted = refl; happened = kept_none log.wanted log.happened; room = omega arith }
 
 kept_append : (w : Bool) (hs gs : List Happened) → cond w hs [] ++ cond w gs [] ≡ cond w (hs ++ gs) []
 kept_append true hs gs = refl
@@ -42,9 +43,17 @@ pub tells_more : (hs gs : List Happened) (a b c : LogView) → Tells a hs b → 
 tells_more hs gs a b c one two = record {
   wanted = two.wanted ∙ one.wanted;
   happened = two.happened ∙ (λ i. one.happened i ++ kept_alike a b gs one.wanted i) ∙ append_assoc a.happened (if_wanted a hs) (if_wanted a gs) ∙ ap (λ ks. a.happened ++ ks) (kept_append a.wanted hs gs);
+  room = omega (arith, one.room, two.room);
 }
 
 -- ---- IN ORDER, what it was told last
+
+-- where as much stands in another order there is as much room
+room_kept : (a b c : LogView) (hs gs : List Happened) → a.room + length a.happened ≤ b.room + length b.happened → b.happened ≡ a.happened ++ hs → c.room ≡ b.room → c.happened ≡ a.happened ++ gs → length gs ≡ length hs
+    → a.room + length a.happened ≤ c.room + length c.happened
+room_kept a b c hs gs le told room put same =
+    let len : List Happened → ℕ = λ xs. length xs in
+    omega (arith, le, ap len told, ap len put, length-append a.happened hs, length-append a.happened gs, same, room)
 
 apart_kept : (w : Bool) (hs : List Happened) → AllPairs IsApart hs → AllPairs IsApart (cond w hs [])
 apart_kept true hs apart = apart
@@ -55,21 +64,29 @@ order_kept true hs gs same = same
 order_kept false hs gs same = refl
 
 -- told in whatever order, it is told in its own
-pub tells_order : (hs gs : List Happened) (a b c : LogView) → IsPermutation hs gs → AllPairs IsApart hs → Tells a gs b → c.wanted ≡ b.wanted → InOrderFrom (length a.happened) b.happened c.happened → Tells a (in_order hs) c
-tells_order hs gs a b c mixed apart told wanted order = record {
-  wanted = wanted ∙ told.wanted;
-  happened = order a.happened (if_wanted a gs) refl told.happened (apart_kept a.wanted gs (pairs_mixed hs gs mixed apart)) ∙ ap (λ ks. a.happened ++ ks) (order_kept a.wanted gs (in_order hs) (order_alike hs gs mixed apart));
-}
+pub tells_order : (hs gs : List Happened) (a b c : LogView) → IsPermutation hs gs → AllPairs IsApart hs → Tells a gs b → c.wanted ≡ b.wanted → c.room ≡ b.room → InOrderFrom (length a.happened) b.happened c.happened → Tells a (in_order hs) c
+tells_order hs gs a b c mixed apart told wanted room order =
+    let put = order a.happened (if_wanted a gs) refl told.happened (apart_kept a.wanted gs (pairs_mixed hs gs mixed apart)) in
+    record {
+      wanted = wanted ∙ told.wanted;
+      happened = put ∙ ap (λ ks. a.happened ++ ks) (order_kept a.wanted gs (in_order hs) (order_alike hs gs mixed apart));
+      room = room_kept a b c (if_wanted a gs) (in_order (if_wanted a gs)) told.room told.happened room put (length-in_order (if_wanted a gs));
+    }
 
 home_kept : (places : Places) (w : Bool) (hs : List Happened) → in_order (map (with_its_cpu places) (cond w hs [])) ≡ cond w (in_order (map (with_its_cpu places) hs)) []
 home_kept places true hs = refl
 home_kept places false hs = refl
 
-pub tells_home : (places : Places) (hs : List Happened) (a b c : LogView) → AllPairs IsApart hs → Tells a hs b → c.wanted ≡ b.wanted → GoHome places (length a.happened) b.happened c.happened → Tells a (in_order (map (with_its_cpu places) hs)) c
-tells_home places hs a b c apart told wanted homes = record {
-  wanted = wanted ∙ told.wanted;
-  happened = homes a.happened (if_wanted a hs) refl told.happened (apart_kept a.wanted hs apart) ∙ ap (λ ks. a.happened ++ ks) (home_kept places a.wanted hs);
-}
+pub tells_home : (places : Places) (hs : List Happened) (a b c : LogView) → AllPairs IsApart hs → Tells a hs b → c.wanted ≡ b.wanted → c.room ≡ b.room → GoHome places (length a.happened) b.happened c.happened → Tells a (in_order (map (with_its_cpu places) hs)) c
+tells_home places hs a b c apart told wanted room homes =
+    let kept = if_wanted a hs in
+    let put = homes a.happened kept refl told.happened (apart_kept a.wanted hs apart) in
+    let same : length (in_order (map (with_its_cpu places) kept)) ≡ length kept = length-in_order (map (with_its_cpu places) kept) ∙ length-map kept (with_its_cpu places) in
+    record {
+      wanted = wanted ∙ told.wanted;
+      happened = put ∙ ap (λ ks. a.happened ++ ks) (home_kept places a.wanted hs);
+      room = room_kept a b c kept (in_order (map (with_its_cpu places) kept)) told.room told.happened room put same;
+    }
 
 -- a log that was told this, in whatever order
 pub record TellsMixed (told : List Happened) (before after : LogView) : Type 0 where

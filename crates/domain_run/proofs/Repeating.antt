@@ -21,7 +21,7 @@ use Rattle.domain_run.specs.Shift.{paced_task, paced_all, given_again, IsResting
 use Rattle.domain_run.specs.Sound.{IsTimed, IsSound, IsDomain, IsAdmitted, HasNoTaskTwice, IsTraced}
 use Rattle.domain_run.specs.Switch.{Switch}
 use Rattle.domain_run.specs.Tick.{candidates, prepared, ran_if, with_tick_begun, ticked, ticks}
-use Rattle.domain_run.specs.private.Repeating.{IsLowTime, HasTime}
+use Rattle.domain_run.specs.LowTimes.{IsLowTime, HasTime}
 use Rattle.domain_run.proofs.Placing.{ready_in}
 use Rattle.domain_run.proofs.Seating.{IsSeating, placed_is}
 use Rattle.domain_run.proofs.Ticking.{AreListed, listed_of, listed_map, listed_homed, list_prepared, same_ran_if}

@@ -117,8 +117,8 @@ walk_mixed time tasks =
     subst (λ hs. IsPermutation hs (told_of_parts time tasks)) each
     (subst (λ hs. IsPermutation (flat_map (λ t. R t ++ V t) tasks) (flat_map R tasks ++ hs)) (unblocked_each time tasks) (told_both R V tasks))
 
-pub walk_home : (places : Places) (time : ℕ) (tasks : List Task) (a b c : LogView) → AreNumbered tasks → Tells a (flat_map (told_of_task time) tasks) b → c.wanted ≡ b.wanted → GoHome places (length a.happened) b.happened c.happened → Tells a (told_at_home places time tasks) c
-walk_home places time tasks a b c numbered told wanted homes =
+pub walk_home : (places : Places) (time : ℕ) (tasks : List Task) (a b c : LogView) → AreNumbered tasks → Tells a (flat_map (told_of_task time) tasks) b → c.wanted ≡ b.wanted → c.room ≡ b.room → GoHome places (length a.happened) b.happened c.happened → Tells a (told_at_home places time tasks) c
+walk_home places time tasks a b c numbered told wanted room homes =
     let hs = told_of_parts time tasks in
     let gs = flat_map (told_of_task time) tasks in
     let f = with_its_cpu places in
@@ -126,4 +126,4 @@ walk_home places time tasks a b c numbered told wanted homes =
     let apart : AllPairs IsApart hs = beginning_apart d numbered in
     let mixed : IsPermutation hs gs = IsPermutation-sym gs hs (walk_mixed time tasks) in
     let same : in_order (map f gs) ≡ in_order (map f hs) = order_alike (map f hs) (map f gs) (IsPermutation-map f hs gs mixed) (AllPairs-map IsApart f (λ x y h. h) hs apart) in
-    subst (λ ks. Tells a ks c) same (tells_home places gs a b c (pairs_mixed hs gs mixed apart) told wanted homes)
+    subst (λ ks. Tells a ks c) same (tells_home places gs a b c (pairs_mixed hs gs mixed apart) told wanted room homes)

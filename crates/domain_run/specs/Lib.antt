@@ -10,6 +10,7 @@ pub mod Calls
 pub mod Busy
 pub mod Happened
 pub mod Log
+pub mod Logged
 pub mod Keys
 pub mod Run
 pub mod Views
@@ -18,6 +19,8 @@ pub mod Sound
 pub mod Jump
 pub mod Later
 pub mod Shift
+pub mod LowTimes
+pub mod GoneOn
 pub mod Marks
 pub mod examples
 pub mod private

@@ -6,10 +6,10 @@ pub mod Index
 pub mod Timers
 pub mod Roster
 pub mod Doubts
+pub mod Gathering
 pub mod Telling
 pub mod Waiting
 pub mod Dozing
 pub mod Choosing
 pub mod Extending
 pub mod Expiring
-pub mod Repeating

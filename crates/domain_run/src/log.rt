@@ -1,6 +1,6 @@
 //! A log of what happens to the tasks of a domain.
 
-ghost use Rattle.std.specs.Prelude.{◌≡◌, ◌≤◌, ◌+◌, [], true, false, IsTrue, length, AllPairs, OnOk};
+ghost use Rattle.std.specs.Prelude.{◌≡◌, ◌<◌, ◌≤◌, ◌+◌, [], true, false, drop, IsTrue, length, AllPairs, OnOk};
 ghost use Rattle.std.specs.Ordering.{is_lt};
 ghost use Rattle.domain_run.specs.Happened as happened_spec;
 ghost use Rattle.domain_run.specs.Log.{Tells, LogHasRoom};
@@ -117,6 +117,30 @@ impl Log {
         // For the prover alone: a look at the room tells that what is there fits it.
         let _ = self.happened.capacity();
         self.happened.clear();
+    }
+
+    /// Forgets the first `count` of what it was told, or all if that is less, and keeps its room.
+    pub fn forget_front(&mut self, count: usize)
+        ensures wanted { self.new.wanted ≡ self.old.wanted }
+        ensures rest { self.new.happened ≡ drop count self.old.happened }
+        ensures room { self.old.room + length self.old.happened
+            ≤ self.new.room + length self.new.happened }
+    {
+        // For the prover alone: a look at the room tells that what is there fits it.
+        let _ = self.happened.capacity();
+        if count >= self.happened.len() {
+            self.happened.clear();
+        } else {
+            self.happened.drain(..count);
+        }
+    }
+
+    /// Whether it keeps what it is told and has no room for so much more.
+    pub(crate) fn lacks_room(&self, count: usize) -> bool
+        ensures lacks { IsTrue result → self.now.room < count }
+        ensures has { result ≡ false → LogHasRoom count self.now }
+    {
+        self.wanted && self.happened.capacity() - self.happened.len() < count
     }
 
     /// Whether it has room for so much more, or keeps nothing.

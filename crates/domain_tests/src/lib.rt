@@ -5,6 +5,8 @@
 #[cfg(test)]
 mod buffered;
 #[cfg(test)]
+mod logged;
+#[cfg(test)]
 mod of_domain;
 #[cfg(test)]
 mod of_jumps;

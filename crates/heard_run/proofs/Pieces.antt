@@ -27,7 +27,7 @@ behind_itself : (d : Domain) → with_past d.switches (without_switches d) ≡ d
 behind_itself d = ap (λ (ss : List Switch). record d { switches = ss }) (append-nil d.switches)
 
 -- the whole run, by the domain before the piece and that behind it
-joined : (k m : ℕ) (d e f : Domain) → e ≡ without_switches (ticks k d) → f ≡ ticks m e → ticks (k + m) d ≡ with_past (ticks k d).switches f
+pub joined : (k m : ℕ) (d e f : Domain) → e ≡ without_switches (ticks k d) → f ≡ ticks m e → ticks (k + m) d ≡ with_past (ticks k d).switches f
 joined k m d e f is made =
     let b = ticks k d in
     sym (ticks_more k m d)
@@ -36,7 +36,7 @@ joined k m d e f is made =
     ∙ ap (λ (x : Domain). with_past b.switches (ticks m x)) (sym is)
     ∙ ap (with_past b.switches) (sym made)
 
-told_joined : (k m : ℕ) (d e : Domain) → e ≡ without_switches (ticks k d) → told_by_ticks k d ++ told_by_ticks m e ≡ told_by_ticks (k + m) d
+pub told_joined : (k m : ℕ) (d e : Domain) → e ≡ without_switches (ticks k d) → told_by_ticks k d ++ told_by_ticks m e ≡ told_by_ticks (k + m) d
 told_joined k m d e is =
     let b = ticks k d in
     let same : told_by_ticks m e ≡ told_by_ticks m b =
@@ -127,7 +127,7 @@ told_alone hs before after wanted empty tells = (
   tells.happened ∙ ap (λ (gs : List Happened). gs ++ (if before.wanted then hs else [])) empty ∙ ap (λ (b : Bool). if b then hs else []) wanted,
 )
 
-time_behind : (k m : ℕ) (d e f : Domain) → e ≡ without_switches (ticks k d) → f ≡ ticks m e → f.time ≡ d.time + (k + m)
+pub time_behind : (k m : ℕ) (d e f : Domain) → e ≡ without_switches (ticks k d) → f ≡ ticks m e → f.time ≡ d.time + (k + m)
 time_behind k m d e f is made =
     let at : e.time ≡ d.time + k = ap (λ (x : Domain). x.time) is ∙ ticks_time k d in
     let more : f.time ≡ e.time + m = ap (λ (x : Domain). x.time) made ∙ ticks_time m e in
@@ -159,11 +159,10 @@ told_past was since k d up_to =
 told_length : (was : AccountingView) (since : List Happened) (k : ℕ) (d : Domain) → length d.tasks ≤ 256 → length (was.happened ++ (since ++ told_by_ticks k d)) ≤ length was.happened + length since + 2304 * k
 told_length was since k d few = omega (arith, told_few k d few, length-append was.happened (since ++ told_by_ticks k d), length-append since (told_by_ticks k d))
 
-next_of : (was : AccountingView) (since : List Happened) (k m : ℕ) (d e f : Domain) → IsDomain d → IsDomain f → IsHeardUpTo d since was → d.time + (k + m) ≤ was.time → was.time ≤ 2 ^ 42 → IsSeen (whole_of was k d) → e ≡ without_switches (ticks k d) → f ≡ ticks m e
+next_of : (was : AccountingView) (since : List Happened) (k m : ℕ) (d e f : Domain) → IsDomain d → IsSeen f → IsHeardUpTo d since was → d.time + (k + m) ≤ was.time → was.time ≤ 2 ^ 42 → IsSeen (whole_of was k d) → e ≡ without_switches (ticks k d) → f ≡ ticks m e
     → IsNextPiece (heard_so_far was since k d) (told_by_ticks m e) f.switches
-next_of was since k m d e f first last up_to most early switches is made =
+next_of was since k m d e f first more up_to most early switches is made =
     let b = whole_of was k d in
-    let more = seen f last in
     let now : b.time ≡ d.time + k = ticks_time k d in
     let at : e.time ≡ d.time + k = ap (λ (x : Domain). x.time) is ∙ now in
     let end = time_behind k m d e f is made in
@@ -185,18 +184,21 @@ next_of was since k m d e f first last up_to most early switches is made =
       few_switches = omega (arith, seen_few b switches (omega (arith, ticks_cpus k d, limit)), seen_few f more (omega (arith, cpus, limit)), now, end, most, early);
     }
 
+pub piece_seen : (was : AccountingView) (since : List Happened) (k m : ℕ) (d e f : Domain) (a : AccountingView) (log : LogView) → IsDomain d → IsSeen f → IsHeardUpTo d since was → d.time + (k + m) ≤ was.time → was.time ≤ 2 ^ 42 → IsHeard was since k d e a log → f ≡ ticks m e
+    → IsNextPiece a (told_by_ticks m e) f.switches
+piece_seen was since k m d e f a log first more up_to most early heard made =
+    subst (λ (x : AccountingView). IsNextPiece x (told_by_ticks m e) f.switches) (sym heard.heard) (next_of was since k m d e f first more up_to most early heard.switches heard.state made)
+
 pub next_piece : (was : AccountingView) (since : List Happened) (k m : ℕ) (d e f : Domain) (a : AccountingView) (log : LogView) → IsDomain d → IsDomain f → IsHeardUpTo d since was → d.time + (k + m) ≤ was.time → was.time ≤ 2 ^ 42 → IsHeard was since k d e a log → f ≡ ticks m e
     → IsNextPiece a (told_by_ticks m e) f.switches
-next_piece was since k m d e f a log first last up_to most early heard made =
-    subst (λ (x : AccountingView). IsNextPiece x (told_by_ticks m e) f.switches) (sym heard.heard) (next_of was since k m d e f first last up_to most early heard.switches heard.state made)
+next_piece was since k m d e f a log first last up_to most early heard made = piece_seen was since k m d e f a log first (seen f last) up_to most early heard made
 
 -- which is heard, and forgotten
-heard_more : (was : AccountingView) (since : List Happened) (k m : ℕ) (d e f : Domain) (a : AccountingView) (log now : LogView) → IsDomain f → IsHeard was since k d e a log → f ≡ ticks m e → now.wanted ≡ true → now.happened ≡ []
+heard_more : (was : AccountingView) (since : List Happened) (k m : ℕ) (d e f : Domain) (a : AccountingView) (log now : LogView) → IsSeen f → IsHeard was since k d e a log → f ≡ ticks m e → now.wanted ≡ true → now.happened ≡ []
     → IsHeard was since (k + m) d (without_switches f) (with_piece a (told_by_ticks m e) f.switches) now
-heard_more was since k m d e f a log now last is made wanted empty =
+heard_more was since k m d e f a log now more is made wanted empty =
     let b = ticks k d in
     let w = whole_of was k d in
-    let more = seen f last in
     let all = joined k m d e f is.state made in
     let time : b.time ≡ d.time + k = ticks_time k d in
     let end = time_behind k m d e f is.state made in
@@ -241,10 +243,10 @@ first_heard d e was a since log is up_to heard left wanted empty = record {
   empty = empty;
 }
 
-pub next_heard : (was : AccountingView) (since : List Happened) (k m : ℕ) (d e f g : Domain) (a b : AccountingView) (hs : List Happened) (log now : LogView) → IsDomain f → IsHeard was since k d e a log → f ≡ ticks m e → hs ≡ told_by_ticks m e → b ≡ with_piece a hs f.switches → g ≡ without_switches f
+pub heard_seen : (was : AccountingView) (since : List Happened) (k m : ℕ) (d e f g : Domain) (a b : AccountingView) (hs : List Happened) (log now : LogView) → IsSeen f → IsHeard was since k d e a log → f ≡ ticks m e → hs ≡ told_by_ticks m e → b ≡ with_piece a hs f.switches → g ≡ without_switches f
     → now.wanted ≡ true → now.happened ≡ [] → IsHeard was since (k + m) d g b now
-next_heard was since k m d e f g a b hs log now last is made told heard left wanted empty =
-    let whole = heard_more was since k m d e f a log now last is made wanted empty in
+heard_seen was since k m d e f g a b hs log now more is made told heard left wanted empty =
+    let whole = heard_more was since k m d e f a log now more is made wanted empty in
     record {
       state = left ∙ whole.state;
       heard = heard ∙ ap (λ (gs : List Happened). with_piece a gs f.switches) told ∙ whole.heard;
@@ -252,6 +254,10 @@ next_heard was since k m d e f g a b hs log now last is made told heard left wan
       wanted = wanted;
       empty = empty;
     }
+
+pub next_heard : (was : AccountingView) (since : List Happened) (k m : ℕ) (d e f g : Domain) (a b : AccountingView) (hs : List Happened) (log now : LogView) → IsDomain f → IsHeard was since k d e a log → f ≡ ticks m e → hs ≡ told_by_ticks m e → b ≡ with_piece a hs f.switches → g ≡ without_switches f
+    → now.wanted ≡ true → now.happened ≡ [] → IsHeard was since (k + m) d g b now
+next_heard was since k m d e f g a b hs log now last is made told heard left wanted empty = heard_seen was since k m d e f g a b hs log now (seen f last) is made told heard left wanted empty
 
 -- ---- at the end it is heard up to there
 

@@ -8,7 +8,7 @@ ghost use Rattle.domain_run.specs.Log.{Tells};
 ghost use Rattle.domain_run.specs.Passing.{without_switches};
 ghost use Rattle.run_figures.specs.Accounting.{IsNextPiece, with_piece};
 ghost use Rattle.run_figures.specs.Runs.{AreTasks};
-ghost use Rattle.heard_run.specs.Heard.{nothing_heard, heard_after, IsHeardUpTo, piece_end};
+ghost use Rattle.heard_run.specs.Heard.{nothing_heard, IsHeardUpTo, piece_end};
 ghost use Rattle.jump_run.specs.Pieces.{IsBounded};
 
 use domain_run::{Log, NoMemory, State};
@@ -58,7 +58,7 @@ pub fn open_heard(alloc: Global, state: &State, n: u64) -> Result<Accounting, No
 }
 
 /// The accounting hears what the log was told and the switches of the state, which both forget it.
-fn hear(state: &mut State, log: &mut Log, accounting: &mut Accounting)
+pub(crate) fn hear(state: &mut State, log: &mut Log, accounting: &mut Accounting)
     requires next { IsNextPiece accounting.old log.old.happened state.old.switches }
     ensures heard { accounting.new ≡ with_piece accounting.old log.old.happened state.old.switches }
     ensures state { state.new ≡ without_switches state.old }
@@ -72,7 +72,7 @@ fn hear(state: &mut State, log: &mut Log, accounting: &mut Accounting)
 
 /// The next piece, of at most `n` ticks: returns how many were made, at least one. `Err` if a
 /// growth was refused before it; nothing has changed then.
-fn next_piece(state: &mut State, n: u64, log: &mut Log) -> Result<u64, NoMemory>
+pub(crate) fn next_piece(state: &mut State, n: u64, log: &mut Log) -> Result<u64, NoMemory>
     requires early { state.old.time + n ≤ 2 ^ 42 }
     requires some { 0 < n }
     requires forgotten { state.old.switches ≡ [] }
@@ -135,20 +135,4 @@ pub fn advance_heard_on(
         ticks += made;
     }
     Done { ticks }
-}
-
-/// As [`advance_heard_on`], of a run of which nothing was heard yet, with a log of its own: the
-/// accounting hears the switches so far, and then what happens in these ticks.
-pub fn advance_heard(alloc: Global, state: &mut State, n: u64, accounting: &mut Accounting) -> Done
-    requires early { state.old.time + n ≤ 2 ^ 42 }
-    requires new { accounting.old ≡ nothing_heard n state.old }
-    ensures state { state.new ≡ without_switches (ticks_of result.ticks state.old) }
-    ensures most { result.ticks ≤ n }
-    ensures keys { AreKept state.old.tasks state.new.tasks }
-    ensures heard { accounting.new ≡ heard_after n result.ticks state.old }
-{
-    let mut log = Log::open(alloc);
-    // For the prover alone: a look at a state brings what every domain keeps.
-    let _ = state.now();
-    advance_heard_on(state, n, &mut log, accounting)
 }

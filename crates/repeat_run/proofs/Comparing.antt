@@ -117,10 +117,21 @@ module _ (s : Shift) where
       let may : MayGo (many_paces m p) t = subst (λ (t : Task). MayGo (many_paces m p) t) h.0.mark (law s.micros m p b.mark t g.0.begins h.0.step has) in
       All-cons (λ (t : Task). MayGo ((many m s).pace t.number) t) t ts may (all_last law m seen ts after h.1 g.1 l.1)
 
-module _ (shift_law : ShiftLaw) (repeats_law : RepeatsLaw) (lasts_law : LastsLaw) (found_law : FoundLaw) (periods_law : HasPeriodsLaw) where
-  pub found_gives : (k most : ℕ) (seen : List TaskSeen) (paces : List Pace) (d : Domain) → IsFoundAgain k most seen paces d → GivesPeriods most k paces 0 (switches_to_come k d) (without_switches d)
-  found_gives k most seen paces d f =
-      let s : Shift = record { micros = k; pace = pace_in paces d.tasks } in
+-- ---- what repeats, by the pace of each number
+
+abbrev pub shift_of : ℕ → (ℕ → Pace) → Shift
+shift_of k pace = record { micros = k; pace = pace }
+
+pub record IsRepeating (k most : ℕ) (paces : List Pace) (d : Domain) : Type 0 where
+  pub pace : ℕ → Pace
+  pub listed : paces ≡ map (λ (t : Task). pace t.number) d.tasks
+  pub once : Repeats (shift_of k pace) d
+  pub lasts : (m : ℕ) → m ≤ most → LastsFor m (shift_of k pace) d
+
+module _ (found_law : FoundLaw) (periods_law : HasPeriodsLaw) where
+  pub found_repeats : (k most : ℕ) (seen : List TaskSeen) (paces : List Pace) (d : Domain) → IsFoundAgain k most seen paces d → IsRepeating k most paces d
+  found_repeats k most seen paces d f =
+      let s : Shift = shift_of k (pace_in paces d.tasks) in
       let as_seen = seen_length seen d.tasks f.first in
       let as_paced = paced_length k seen (ticks k d).tasks paces f.paced in
       let after_length = as_paced.0 in
@@ -135,10 +146,19 @@ module _ (shift_law : ShiftLaw) (repeats_law : RepeatsLaw) (lasts_law : LastsLaw
         marks = refl;
         long = all_outlast s seen d.tasks (ticks k d).tasks f.first paced;
       } in
-      let once : Repeats s d = found_law s d (marks_of seen) (shifted_marks s (marks_of seen) d.tasks) again in
-      let lasts : (m : ℕ) → m ≤ most → LastsFor m s d = λ m within.
-      all_last s periods_law m seen d.tasks (ticks k d).tasks f.first paced (subst (λ (ps : List Pace). AllLast m seen ps) listed (f.lasts m within)) in
-      let all = gives_on shift_law repeats_law lasts_law s d f.domain once most lasts most 0 (omega arith) in
+      record {
+        pace = pace_in paces d.tasks;
+        listed = listed;
+        once = found_law s d (marks_of seen) (shifted_marks s (marks_of seen) d.tasks) again;
+        lasts = λ m within.
+            all_last s periods_law m seen d.tasks (ticks k d).tasks f.first paced (subst (λ (ps : List Pace). AllLast m seen ps) listed (f.lasts m within));
+      }
+
+module _ (shift_law : ShiftLaw) (repeats_law : RepeatsLaw) (lasts_law : LastsLaw) (found_law : FoundLaw) (periods_law : HasPeriodsLaw) where
+  pub found_gives : (k most : ℕ) (seen : List TaskSeen) (paces : List Pace) (d : Domain) → IsFoundAgain k most seen paces d → GivesPeriods most k paces 0 (switches_to_come k d) (without_switches d)
+  found_gives k most seen paces d f =
+      let r = found_repeats found_law periods_law k most seen paces d f in
+      let all = gives_on shift_law repeats_law lasts_law (shift_of k r.pace) d f.domain r.once most r.lasts most 0 (omega arith) in
       let none : 0 * k ≡ 0 = omega arith in
-      let from_none = subst (λ n. GivesPeriods most k (map (λ (t : Task). s.pace t.number) d.tasks) n (switches_to_come k d) (without_switches (ticks n d))) none all in
-      subst (λ (ps : List Pace). GivesPeriods most k ps 0 (switches_to_come k d) (without_switches d)) (sym listed) from_none
+      let from_none = subst (λ n. GivesPeriods most k (map (λ (t : Task). r.pace t.number) d.tasks) n (switches_to_come k d) (without_switches (ticks n d))) none all in
+      subst (λ (ps : List Pace). GivesPeriods most k ps 0 (switches_to_come k d) (without_switches d)) (sym r.listed) from_none

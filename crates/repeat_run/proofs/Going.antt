@@ -24,7 +24,7 @@ rounds_stay (Some n) j r len place h =
 some_of_more : (j r : ℕ) → 0 < r → 0 < suc j * r
 some_of_more j r some = let one = suc-mul j r in omega (arith, one, some)
 
-contends_later : (k : ℕ) (c : Condition) → IsTrue (is_contending c) → IsTrue (is_contending (later_condition k c))
+pub contends_later : (k : ℕ) (c : Condition) → IsTrue (is_contending c) → IsTrue (is_contending (later_condition k c))
 contends_later k Ready h = h
 contends_later k Throttled h = h
 contends_later k (Blocked u) h = h

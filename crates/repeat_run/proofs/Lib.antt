@@ -5,3 +5,5 @@ mod Comparing
 mod Recording
 mod Handing
 mod Noting
+mod Alike
+mod Sights

@@ -1,3 +1,4 @@
 pub mod Seen
 pub mod Gives
+pub mod Sight
 pub mod private

@@ -11,7 +11,7 @@ use crate::span::span_of;
 use domain_run::State;
 
 /// After this many looks from one time without a period, the search ends.
-const MOST_LOOKS: u32 = 4096;
+pub(crate) const MOST_LOOKS: u32 = 4096;
 
 /// The least number of recorded periods in the rest of the run, if that is long enough.
 const LEAST_PERIODS: u64 = 16;
@@ -112,7 +112,7 @@ fn looks_same(state: &State, kept: &mut Kept, micros: u64) -> bool {
 }
 
 /// The watch up to the next look.
-fn look_later(watch: Watch) -> Watch {
+pub(crate) fn look_later(watch: Watch) -> Watch {
     Watch {
         span: watch.span,
         next: watch.span,
@@ -133,7 +133,7 @@ fn next_span(watch: Watch) -> u64 {
 }
 
 /// The watch from a time at which all was written down, for twice as many looks.
-fn look_anew(watch: Watch) -> Watch {
+pub(crate) fn look_anew(watch: Watch) -> Watch {
     let span = next_span(watch);
     Watch {
         span,

@@ -200,10 +200,10 @@ busy_there : (cpu at us : ℕ) (who : Option ℕ) → eqb at cpu ≡ false → u
 busy_there cpu at us None e = refl
 busy_there cpu at us (Some n) e = ap {B = ℕ} (λ b. cond b us 0) e
 
-who_more : (cpu : ℕ) (s : Switch) (ss : List Switch) → who_from None cpu (ss ++ s ∷ []) ≡ cond (eqb s.cpu cpu) s.next (who_from None cpu ss)
+pub who_more : (cpu : ℕ) (s : Switch) (ss : List Switch) → who_from None cpu (ss ++ s ∷ []) ≡ cond (eqb s.cpu cpu) s.next (who_from None cpu ss)
 who_more cpu s ss = fold-append (λ (who : Option ℕ) (x : Switch). cond (eqb x.cpu cpu) x.next who) None ss (s ∷ [])
 
-count_more : (cpu : ℕ) (s : Switch) (ss : List Switch) → count_by (λ (x : Switch). eqb x.cpu cpu) (ss ++ s ∷ []) ≡ count_by (λ (x : Switch). eqb x.cpu cpu) ss + cond (eqb s.cpu cpu) 1 0
+pub count_more : (cpu : ℕ) (s : Switch) (ss : List Switch) → count_by (λ (x : Switch). eqb x.cpu cpu) (ss ++ s ∷ []) ≡ count_by (λ (x : Switch). eqb x.cpu cpu) ss + cond (eqb s.cpu cpu) 1 0
 count_more cpu s ss =
     omega (arith, sum_by-append (λ (x : Switch). cond (eqb x.cpu cpu) 1 0) ss (s ∷ []), sum_by-cons (λ (x : Switch). cond (eqb x.cpu cpu) 1 0) s [])
 

@@ -48,7 +48,7 @@ preempts_still : (n : ℕ) (before hs : List Happened) (s : Switch) → All (λ 
 preempts_still n before hs s all =
     ap (λ (own : List Happened). (is_task n s.prev && wants_it s.state) && not (is_throttled_by (of_task n own))) (up_to_stays s.time before hs all)
 
-preemptions_stay : (n : ℕ) (before hs : List Happened) (ss : List Switch) → All (λ s. All (λ h. s.time < h.time) hs) ss → preemptions before ss n ≡ preemptions (before ++ hs) ss n
+pub preemptions_stay : (n : ℕ) (before hs : List Happened) (ss : List Switch) → All (λ s. All (λ h. s.time < h.time) hs) ss → preemptions before ss n ≡ preemptions (before ++ hs) ss n
 preemptions_stay n before hs [] all = refl
 preemptions_stay n before hs (s ∷ ss) all =
     let first = preempts_still n before hs s (All-head (λ (x : Switch). All (λ h. x.time < h.time) hs) s ss all) in

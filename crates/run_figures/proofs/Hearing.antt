@@ -14,7 +14,10 @@ use Rattle.run_figures.specs.declared.ran.Cpu.{Cpu}
 use Rattle.run_figures.specs.declared.run.Admitted.{Admitted}
 use Rattle.run_figures.specs.Runs.{RunView, AreTasks, IsBoundedRun}
 use Rattle.run_figures.specs.Accounting.{AccountingView, heard_run, with_piece, IsNextPiece}
-use Rattle.run_figures.specs.private.Keeping.{IsAccountingKept, IsOfRun}
+use Rattle.run_figures.specs.private.Keeping.{IsAccountingKept, IsOfRun, IsHeardCounted}
+use Rattle.run_figures.specs.private.Past.{items_of}
+use Rattle.run_figures.specs.declared.accounting.Heard.{Heard}
+use Rattle.domain_run.specs.Later.{later_happened, later_switch}
 use Rattle.run_figures.specs.private.Telling.{told_all, told_by, so_far, nothing_told, with_preemption, IsToldWithin, HaveRoomFor}
 use Rattle.run_figures.specs.private.Running.{not_run, idle, ran_by, cpu_by, with_stay_of, without_rest_of, with_switch_on}
 use Rattle.run_figures.specs.declared.figures.TaskFigures.{TaskFigures}
@@ -187,7 +190,7 @@ pub nothing_kept : (a : AccountingView) (ts : List Told) (rs : List Ran) (cs : L
 nothing_kept a ts rs cs none nobody t r c = record {
   told = t ∙ map_same nothing_told (told_by a.time [] []) a.tasks (λ n. refl) ∙ (λ i. map (told_by a.time (sym none i) (sym nobody i)) a.tasks);
   within = subst (All (IsToldWithin (length a.happened))) (sym t) (All-map (IsToldWithin (length a.happened)) nothing_told a.tasks
-      (λ k d l. record { job = tt; ended = tt; late = omega arith; times = omega arith; us = omega arith }));
+      (λ k d l. record { job = tt; ended = tt; late = omega arith; times = omega arith; us = omega arith; superseded = omega arith }));
   ran = r ∙ map_same not_run (ran_by a.time []) a.tasks (λ n. refl) ∙ (λ i. map (ran_by a.time (sym nobody i)) a.tasks);
   cpus = c ∙ map_same idle (cpu_by a.time []) (range_with_len 0 a.cpus) (λ n. refl) ∙ (λ i. map (cpu_by a.time (sym nobody i)) (range_with_len 0 a.cpus));
 }
@@ -205,6 +208,12 @@ nothing_of_run a none nobody early few =
       few_happened = omega (arith, first);
       few_switches = omega (arith, second);
     }
+
+pub none_counted : (h : Heard) → h.happened.count ≡ 0 → h.switches.count ≡ 0 → items_of later_happened h.happened.items ≡ [] → items_of later_switch h.switches.items ≡ [] → IsHeardCounted h
+none_counted h first second none nobody = record {
+  happened = first ∙ sym (ap (λ (hs : List Happened). length hs) none);
+  switches = second ∙ sym (ap (λ (ss : List Switch). length ss) nobody);
+}
 
 -- THE RUN that was heard
 pub run_heard : (a : AccountingView) (tasks : List Admitted) → IsOfRun a → AreTasks tasks → IsBoundedRun (heard_run a tasks)

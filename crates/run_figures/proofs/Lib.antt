@@ -15,3 +15,8 @@ pub mod Balance
 pub mod Alternating
 pub mod RunsInTurn
 pub mod Evened
+pub mod PeriodTold
+pub mod PeriodPreempted
+pub mod PeriodRan
+pub mod RowsBoth
+pub mod PeriodAgain

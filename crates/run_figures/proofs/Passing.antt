@@ -37,7 +37,7 @@ pub numbers_of_told : (end : ℕ) (hs : List Happened) (ts : List Told) → map 
 numbers_of_told end hs ts = map-map (λ (t : Told). t.number) (told_all end hs) ts ∙ map_same (λ t. (told_all end hs t).number) (λ t. t.number) ts (number_of_told end hs)
 
 -- COUNTS
-if_within : (n end : ℕ) (h : Happened) (t : Told) → h.time < 2 ^ 64 → IsToldWithin n t → IsToldWithin (n + 1) (told_to_task end t h)
+pub if_within : (n end : ℕ) (h : Happened) (t : Told) → h.time < 2 ^ 64 → IsToldWithin n t → IsToldWithin (n + 1) (told_to_task end t h)
 if_within n end h t small w = elim (eqb t.number h.number) as (λ b. IsToldWithin (n + 1) (cond b (told_after end h t) t)) [
   | true ↦ told_within n end h t small w
   | false ↦ within_more n (n + 1) t (omega arith) w
@@ -89,7 +89,7 @@ told_room end hs i old now h l room =
 if_with : (end : ℕ) (t : Told) (p : ℕ) (h : Happened) → told_to_task end (record t { preempted = p }) h ≡ record (told_to_task end t h) { preempted = p }
 if_with end t p h = elim (eqb t.number h.number) as (λ b. cond b (told_after end h (record t { preempted = p })) (record t { preempted = p }) ≡ record (cond b (told_after end h t) t) { preempted = p }) [ true ↦ refl | false ↦ refl ]
 
-told_with : (end : ℕ) (hs : List Happened) (t : Told) (p : ℕ) → told_all end hs (record t { preempted = p }) ≡ record (told_all end hs t) { preempted = p }
+pub told_with : (end : ℕ) (hs : List Happened) (t : Told) (p : ℕ) → told_all end hs (record t { preempted = p }) ≡ record (told_all end hs t) { preempted = p }
 told_with end [] t p = refl
 told_with end (h ∷ hs) t p = ap (told_all end hs) (if_with end t p h) ∙ told_with end hs (told_to_task end t h) p
 

@@ -21,7 +21,7 @@ added_nowhere f u m (k ∷ ks) absent =
     omega (arith, sum_by-cons (λ j. cond (eqb m j) u 0 + f j) k ks, sum_by-cons f k ks, ap (λ b. cond b u 0) other, added_nowhere f u m ks (rest_absent k ks m absent))
 
 -- what is added where a number stands is added once
-added_once : (f : ℕ → ℕ) (u m : ℕ) (ks : List ℕ) → AllPairs (λ a b. a ≢ b) ks → IsAmong ks m → sum_by (λ k. cond (eqb m k) u 0 + f k) ks ≡ u + sum_by f ks
+pub added_once : (f : ℕ → ℕ) (u m : ℕ) (ks : List ℕ) → AllPairs (λ a b. a ≢ b) ks → IsAmong ks m → sum_by (λ k. cond (eqb m k) u 0 + f k) ks ≡ u + sum_by f ks
 added_once f u m [] apart (p, l, is) = absurd (omega (arith, l))
 added_once f u m (k ∷ ks) apart (zero, l, is) =
     let same : eqb m k ≡ true = eq-eqb m k (sym (is 0)) in
@@ -31,7 +31,7 @@ added_once f u m (k ∷ ks) apart (suc p, l, is) =
     let more = added_once f u m ks (rest_apart k ks apart) (p, omega (arith, l), is) in
     omega (arith, sum_by-cons (λ j. cond (eqb m j) u 0 + f j) k ks, sum_by-cons f k ks, ap (λ b. cond b u 0) other, more)
 
-sums_same : (f g : ℕ → ℕ) (ks : List ℕ) → ((k : ℕ) → f k ≡ g k) → sum_by f ks ≡ sum_by g ks
+pub sums_same : (f g : ℕ → ℕ) (ks : List ℕ) → ((k : ℕ) → f k ≡ g k) → sum_by f ks ≡ sum_by g ks
 sums_same f g [] same = refl
 sums_same f g (k ∷ ks) same = omega (arith, sum_by-cons f k ks, sum_by-cons g k ks, same k, sums_same f g ks same)
 

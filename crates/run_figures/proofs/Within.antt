@@ -11,7 +11,7 @@ use Rattle.run_figures.specs.declared.throttle.Throttle.{Throttle}
 use Rattle.run_figures.specs.declared.told.Told.{Told}
 use Rattle.run_figures.specs.Jobs.{over_by, job_after}
 use Rattle.run_figures.specs.Figures.{Outcome, outcome_at, is_late}
-use Rattle.run_figures.specs.private.Telling.{IsJobUnderWay, IsWithinEnded, IsToldWithin, with_outcome, with_over, gap, throttle_by, told_after}
+use Rattle.run_figures.specs.private.Telling.{IsJobUnderWay, IsWithinEnded, IsToldWithin, with_outcome, with_over, is_superseded, superseded_by, gap, throttle_by, told_after}
 
 way_more : (n m : ℕ) (o : Option Job) → n ≤ m → IfSome o (IsJobUnderWay n) → IfSome o (IsJobUnderWay m)
 way_more n m None l h = tt
@@ -81,6 +81,10 @@ us_within n time (Replenished d) t small h = omega (arith, gap_small t.since tim
 us_within n time (Released d) t small h = omega arith
 us_within n time (WokenSpent d) t small h = omega (arith, gap_small t.since time)
 
+superseded_few : (o : Option Job) → superseded_by o ≤ 1
+superseded_few None = omega arith
+superseded_few (Some j) = elim (is_superseded j) as (λ b. cond b 1 0 ≤ 1) [ true ↦ omega arith | false ↦ omega arith ]
+
 -- one entry more
 pub told_within : (n end : ℕ) (h : Happened) (t : Told) → h.time < 2 ^ 64 → IsToldWithin n t → IsToldWithin (n + 1) (told_after end h t)
 told_within n end h t small w = record {
@@ -89,6 +93,7 @@ told_within n end h t small w = record {
   late = late_within n end t.counts (over_by h.time h.what t.job) w.late;
   times = times_within n h.time h.what t.throttle w.times;
   us = us_within n h.time h.what t.throttle small w.us;
+  superseded = omega (arith, w.superseded, superseded_few (over_by h.time h.what t.job));
 }
 
 pub within_more : (n m : ℕ) (t : Told) → n ≤ m → IsToldWithin n t → IsToldWithin m t
@@ -98,6 +103,7 @@ within_more n m t l w = record {
   late = omega (arith, w.late);
   times = omega (arith, w.times);
   us = omega (arith, w.us);
+  superseded = omega (arith, w.superseded);
 }
 
 -- counts of the jobs with the one under way

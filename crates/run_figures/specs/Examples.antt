@@ -1,5 +1,5 @@
 -- Worked rows: what is told of a run.
-use Rattle.std.specs.Prelude.{ℕ, ◌≡◌, true, false, negsuc, pos, List, [], ◌∷◌, Option, Some, None, refl}
+use Rattle.std.specs.Prelude.{ℕ, ◌≡◌, true, false, negsuc, pos, List, [], ◌∷◌, ◌++◌, Option, Some, None, refl}
 use Rattle.domain_run.specs.declared.happened.What.{What}
 use Rattle.domain_run.specs.declared.happened.What.TheVariants.{JobEnds, NextReleased, Spent, Cut, Replenished, Released, WokenSpent}
 use Rattle.domain_run.specs.declared.happened.Happened.{Happened}
@@ -12,6 +12,7 @@ use Rattle.run_figures.specs.Runs.{RunView}
 use Rattle.run_figures.specs.Jobs.{jobs_of}
 use Rattle.run_figures.specs.Throttling.{throttled_us, preemptions}
 use Rattle.run_figures.specs.Stays.{cpu_us, busy_us, migrations}
+use Rattle.run_figures.specs.Again.{more_told, more_switches}
 use Rattle.run_figures.specs.Figures.{figures_of, cpu_of, is_late, outcomes, responses_of}
 
 -- to a task at a time
@@ -66,6 +67,37 @@ its_figures = refl
 
 its_cpu : cpu_of throttled 0 ≡ record { busy_us = 4; switches = 4 }
 its_cpu = refl
+
+-- A PERIOD HEARD AGAIN, twice: the run above, each time 11 us later. Counts and times are three
+-- times as much; the least, the mean and the greatest are the same
+released_again : more_told 11 2 (at 0 1 (Released 5) ∷ at 7 1 JobEnds ∷ [])
+    ≡ at 11 1 (Released 16) ∷ at 18 1 JobEnds ∷ at 22 1 (Released 27) ∷ at 29 1 JobEnds ∷ []
+released_again = refl
+
+abbrev heard_again : RunView
+heard_again = record throttled {
+  time = 33;
+  happened = throttled.happened ++ more_told 11 2 throttled.happened;
+  switches = throttled.switches ++ more_switches 11 2 throttled.switches;
+}
+
+its_figures_again : figures_of heard_again task ≡ record {
+  number = 1;
+  runtime = 2;
+  period = 5;
+  jobs = 3;
+  late = 3;
+  responses = Some (record { least = 7; mean = 7; most = 7; slack = negsuc 1 });
+  throttled = 3;
+  throttled_us = 9;
+  preempted = 0;
+  migrated = 0;
+  cpu_us = 12;
+}
+its_figures_again = refl
+
+its_cpu_again : cpu_of heard_again 0 ≡ record { busy_us = 12; switches = 12 }
+its_cpu_again = refl
 
 -- THE MEAN IS ROUNDED DOWN: responses of 1 and 2; the slack is from the deadline
 two_jobs : responses_of (outcomes (job 0 9 (Some 1) 0 ∷ job 10 15 (Some 12) 0 ∷ []))

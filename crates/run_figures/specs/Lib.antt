@@ -8,6 +8,7 @@ pub mod Balance
 pub mod Runs
 pub mod Figures
 pub mod Accounting
+pub mod Again
 pub mod Laws
 pub mod Examples
 pub mod private

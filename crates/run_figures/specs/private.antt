@@ -5,3 +5,4 @@ pub mod Lines
 pub mod Putting
 pub mod Past
 pub mod Keeping
+pub mod Growing

@@ -7,6 +7,7 @@ ghost use Rattle.run_figures.specs.Laws as laws;
 ghost use Rattle.run_figures.specs.Runs.{AreTasks, IsBoundedRun, run_view_of};
 ghost use Rattle.run_figures.specs.private.Keeping as keeping;
 
+mod again;
 mod opening;
 
 use crate::figures::Summary;
@@ -17,6 +18,7 @@ use crate::run::{Admitted, Run};
 use crate::summary::{all_figures, cpu_figures};
 use crate::telling::{tell_all, tell_switch, tell_until};
 use crate::told::Told;
+pub use again::CountsMark;
 use domain_run::{Happened, NoMemory, Switch};
 use opening::Rooms;
 use std::alloc::Global;
@@ -48,7 +50,7 @@ pub struct Accounting {
 impl Model for Accounting {
     ghost use Rattle.std.specs.Prelude.{vec_capacity};
     ghost use Rattle.run_figures.specs.Accounting.{AccountingView};
-    ghost use Rattle.run_figures.specs.private.Keeping.{HaveRooms, IsAccountingKept, IsOfRun, accounting_view_of};
+    ghost use Rattle.run_figures.specs.private.Keeping.{HaveRooms, IsAccountingKept, IsHeardCounted, IsOfRun, accounting_view_of};
 
     ghost Value = { AccountingView };
 
@@ -58,7 +60,8 @@ impl Model for Accounting {
         a.ran.tasks.items a.ran.cpus.items
         × IsOfRun (accounting_view_of a.heard a.places)
         × HaveRooms (vec_capacity a.told) (vec_capacity a.ran.tasks) (vec_capacity a.ran.cpus)
-        a.rooms };
+        a.rooms
+        × IsHeardCounted a.heard };
 }
 
 /// Hears one piece more: each switch behind what happened up to its time.

@@ -10,6 +10,7 @@
 mod accounting;
 mod counting;
 mod figures;
+mod growing;
 mod job;
 mod lines;
 mod past;
@@ -21,7 +22,7 @@ mod telling;
 mod throttle;
 mod told;
 
-pub use accounting::{Accounting, summary_of};
+pub use accounting::{Accounting, CountsMark, summary_of};
 pub use domain_run::NoMemory;
 pub use figures::{CpuFigures, Responses, Summary, TaskFigures};
 pub use job::Job;

@@ -1,17 +1,19 @@
 //! A list in proofs alone.
 
-ghost use Rattle.std.specs.Prelude.{◌≡◌, ◌++◌, ◌∷◌, []};
+ghost use Rattle.std.specs.Prelude.{ℕ, ◌≡◌, ◌+◌, ◌-◌, ◌*◌, ◌<◌, ◌^◌, ◌++◌, ◌∷◌, [], drop, length};
+ghost use Rattle.run_figures.specs.Again.{more_of};
+ghost use Rattle.run_figures.specs.private.Past.{items_of};
 
-use std::marker::Model;
 use std::mem;
 use std::snapshot::Snapshot;
 
-// A list, one by one. It has a mark of whether it is empty, and no element.
+// A list, one by one. It has a mark of how it ends, and no element.
 #[cycle(items)]
 #[derive(Drop)]
 enum Items<T> {
     Nothing,
     One(Snapshot<WithOne<T>>),
+    Again(Snapshot<WithAgain<T>>),
 }
 
 // One more, and those before it. No value of it is kept: a snapshot has no bytes.
@@ -22,35 +24,43 @@ struct WithOne<T> {
     one: Snapshot<T>,
 }
 
-/// A list in proofs alone: contracts see all that it was told, and memory has nothing of it. No
+// Those before it, and then those of them from a place on, a number of times, each time later than
+// the time before. No value of it is kept.
+#[cycle(items)]
+#[derive(Drop)]
+struct WithAgain<T> {
+    before: Items<T>,
+    from: u64,
+    micros: u64,
+    periods: u64,
+}
+
+/// A list in proofs alone: contracts see all that it was told, and memory has its length alone. No
 /// call takes memory.
 #[derive(Drop)]
 pub(crate) struct Past<T> {
     items: Items<T>,
-}
-
-impl<T> Model for Past<T> {
-    ghost use Rattle.std.specs.Prelude.{List};
-    ghost use Rattle.run_figures.specs.private.Past.{items_of};
-
-    ghost Value = { List T };
-
-    ghost view = { λ p. items_of p.items };
+    /// The length.
+    pub(crate) count: u64,
 }
 
 impl<T: Drop> Past<T> {
     /// A list that was told nothing yet.
     pub(crate) fn new() -> Past<T>
-        ensures { result ≡ [] }
+        ensures none { (later : ℕ → T → T) → items_of later result.items ≡ [] }
+        ensures count { result.count ≡ 0 }
     {
         Past {
             items: Items::Nothing,
+            count: 0,
         }
     }
 
     /// It is told one more.
     fn push(&mut self, one: &T)
-        ensures { self.new ≡ self.old ++ one.now ∷ [] }
+        ensures more { (later : ℕ → T → T)
+            → items_of later self.new.items ≡ items_of later self.old.items ++ one.now ∷ [] }
+        ensures count { self.new.count ≡ self.old.count }
     {
         let before = mem::replace(&mut self.items, Items::Nothing);
         let item = WithOne {
@@ -62,10 +72,35 @@ impl<T: Drop> Past<T> {
 
     /// It is told all of these, in this order.
     pub(crate) fn extend(&mut self, many: &[T])
-        ensures { self.new ≡ self.old ++ many.now }
+        requires room { self.old.count + length many.now < 2 ^ 64 }
+        ensures more { (later : ℕ → T → T)
+            → items_of later self.new.items ≡ items_of later self.old.items ++ many.now }
+        ensures count { self.new.count ≡ self.old.count + length many.now }
     {
+        self.count += many.len() as u64;
         for one in many {
             self.push(one);
         }
+    }
+
+    /// It is told again, `periods` times, what it was told from a place on: each time `micros`
+    /// later than the time before.
+    pub(crate) fn give_again(&mut self, from: u64, micros: u64, periods: u64)
+        requires room { self.old.count + periods * (self.old.count - from) < 2 ^ 64 }
+        ensures more { (later : ℕ → T → T)
+            → items_of later self.new.items ≡ items_of later self.old.items
+            ++ more_of later micros periods (drop from (items_of later self.old.items)) }
+        ensures count { self.new.count
+            ≡ self.old.count + periods * (self.old.count - from) }
+    {
+        let before = mem::replace(&mut self.items, Items::Nothing);
+        let item = WithAgain {
+            before,
+            from,
+            micros,
+            periods,
+        };
+        self.items = Items::Again(Snapshot::of(&item));
+        self.count += periods * self.count.saturating_sub(from);
     }
 }

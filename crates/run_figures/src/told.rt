@@ -1,6 +1,6 @@
 //! What is told of a task while its entries go by.
 
-ghost use Rattle.std.specs.Prelude.{ℕ, ◌≡◌, ◌+◌, ◌-◌, ◌^◌};
+ghost use Rattle.std.specs.Prelude.{ℕ, ◌≡◌, ◌≤◌, ◌+◌, ◌-◌, ◌^◌, Some};
 ghost use Rattle.run_figures.specs.private.Telling as telling;
 
 use crate::counting::{Counts, add_job};
@@ -20,6 +20,8 @@ pub(crate) struct Told {
     pub(crate) throttle: Throttle,
     /// How often it was preempted.
     pub(crate) preempted: u64,
+    /// How many of its jobs are over with no end and no cut.
+    pub(crate) superseded: u64,
 }
 
 pub(crate) fn untold(number: u32) -> Told
@@ -38,6 +40,18 @@ pub(crate) fn untold(number: u32) -> Told
             since: None,
         },
         preempted: 0,
+        superseded: 0,
+    }
+}
+
+/// Whether a job that is over had no end and no cut: 1 or 0.
+fn superseded_by(job: &Job) -> u64
+    ensures superseded { result ≡ telling.superseded_by (Some job.now) }
+    ensures few { result ≤ 1 }
+{
+    match job.ended {
+        None if !job.cut => 1,
+        _ => 0,
     }
 }
 
@@ -48,6 +62,7 @@ fn tell_over(told: &mut Told, happened: &Happened, time: u64)
 {
     if let Some(job) = over_by(happened, told.job) {
         add_job(&mut told.counts, &job, time);
+        told.superseded += superseded_by(&job);
     }
 }
 

@@ -19,7 +19,7 @@ filter_holds_at : {X : Type 0} (p : X → Bool) (x : X) (xs : List X) (b : Bool)
 filter_holds_at p x xs true is more = (is, more)
 filter_holds_at p x xs false is more = more
 
-filter_holds : {X : Type 0} (p : X → Bool) (xs : List X) → AllByRecursion (λ x. p x ≡ true) (filter p xs)
+pub filter_holds : {X : Type 0} (p : X → Bool) (xs : List X) → AllByRecursion (λ x. p x ≡ true) (filter p xs)
 filter_holds p [] = tt
 filter_holds p (x ∷ xs) = filter_holds_at p x xs (p x) refl (filter_holds p xs)
 
@@ -31,11 +31,11 @@ pub filter_every : {X : Type 0} (p : X → Bool) (xs : List X) → AllByRecursio
 filter_every p [] all = refl
 filter_every p (x ∷ xs) all = rw all.0 (ap (λ ys. x ∷ ys) (filter_every p xs all.1))
 
-not_true : (b : Bool) → not b ≡ true → b ≡ false
+pub not_true : (b : Bool) → not b ≡ true → b ≡ false
 not_true true is = sym is
 not_true false is = refl
 
-not_false : (b : Bool) → b ≡ false → not b ≡ true
+pub not_false : (b : Bool) → b ≡ false → not b ≡ true
 not_false b is = ap not is
 
 -- ---- entries

@@ -1,15 +1,18 @@
 -- Laws of the events text that callers may cite: where nothing happens it is the trace, and its switches are those of the
 -- trace, in the trace's order.
-use Rattle.std.proofs.Common.{◌≡◌, Bool, true, false, cond, List, [], ◌∷◌, ◌++◌, map, refl, sym, ap, ◌∙◌, arith}
-use Rattle.std.specs.Prelude.{filter, ◌==◌}
+use Rattle.std.proofs.Common.{◌≡◌, ◌≢◌, ℕ, ◌<◌, inl, inr, Bool, true, false, cond, List, [], ◌∷◌, ◌++◌, map, refl, sym, ap, ◌∙◌, arith}
+use Rattle.std.specs.Prelude.{filter, ◌==◌, ◌&&◌, ◌||◌, nat_lt}
 use Rattle.std.specs.List.{AllByRecursion, flat_map}
 use Rattle.std.proofs.lemmas.Bool.Decides.{nat_tests}
 use Rattle.domain_run.specs.declared.happened.What.{What}
 use Rattle.domain_run.specs.declared.happened.What.TheVariants.{JobEnds, NextReleased, Spent, Cut, Replenished, Released, WokenSpent}
 use Rattle.domain_run.specs.declared.happened.Happened.{Happened}
 use Rattle.domain_run.specs.Happened.{kind_rank}
+use Rattle.domain_run.specs.Logged.{IsToldUntil, IsToldFrom}
 use Rattle.switch_text.specs.Trace.{SwitchesView, Entry, entries_of, is_earlier, placed_in, entries_in_order, header, text_of_entries, trace_of}
 use Rattle.switch_text.specs.Events.{ToldView, Event, told_event, told_events, switch_events, all_events, comes_before, with_event, in_sequence, lines_of_events, events_of}
+use Rattle.switch_text.specs.SlicedEvents.{is_told_by}
+use Rattle.switch_text.specs.ToldLine.{has_line}
 use Rattle.switch_text.specs.private.ToldMerging.{is_line_told}
 use Rattle.switch_text.specs.private.EventMerging.{of_entry}
 use Rattle.switch_text.proofs.Order.{AllByRecursion-append}
@@ -90,3 +93,56 @@ filter-all_events runs told =
     let switches = flat_map entries_of runs in
     let alone : in_sequence (flat_map switch_events runs) ≡ map of_entry (entries_in_order switches) = ap in_sequence (sym (all_switches-are runs)) ∙ in_sequence-of_entry switches in
     filter-among (flat_map told_events told) (flat_map switch_events runs) (no_switch told) ∙ ap (filter is_switch) alone ∙ filter-of_entry (entries_in_order switches) ∙ sym alone
+
+-- ---- a cut has no line, so the text is that of what has one
+
+abbrev pub shown : ToldView → ToldView
+shown t = record { base = t.base; names = t.names; happened = filter is_line_told t.happened }
+
+twice_by_line : (h : Happened) (hs : List Happened) (b : Bool) → is_line_told h ≡ b → filter is_line_told (filter is_line_told hs) ≡ filter is_line_told hs
+    → filter is_line_told (cond b (h ∷ filter is_line_told hs) (filter is_line_told hs)) ≡ cond b (h ∷ filter is_line_told hs) (filter is_line_told hs)
+twice_by_line h hs true is more = rw is (ap (λ (gs : List Happened). h ∷ gs) more)
+twice_by_line h hs false is more = more
+
+filter_twice : (hs : List Happened) → filter is_line_told (filter is_line_told hs) ≡ filter is_line_told hs
+filter_twice [] = refl
+filter_twice (h ∷ hs) = twice_by_line h hs (is_line_told h) refl (filter_twice hs)
+
+told_shown : (told : List ToldView) → flat_map told_events (map shown told) ≡ flat_map told_events told
+told_shown [] = refl
+told_shown (t ∷ ts) =
+    ap (λ (hs : List Happened). map (told_event t) hs ++ flat_map told_events (map shown ts)) (filter_twice t.happened)
+    ∙ ap (λ (es : List Event). told_events t ++ es) (told_shown ts)
+
+pub events_shown : (runs : List SwitchesView) (told : List ToldView) → events_of runs (map shown told) ≡ events_of runs told
+unfolding events_of
+events_shown runs told = ap (λ (es : List Event). header ++ lines_of_events (in_sequence (es ++ flat_map switch_events runs))) (told_shown told)
+
+-- ---- what a `Logged` of domain_run tells until its time is told by that time, and what it tells from then on is not
+
+by_time : (t time rank : ℕ) → time < t → (nat_lt time t || (time == t && nat_lt rank 4)) ≡ true
+by_time t time rank less = grind (arith, nat_tests)
+
+by_end : (t time rank : ℕ) → time ≡ t → rank < 3 → (nat_lt time t || (time == t && nat_lt rank 4)) ≡ true
+by_end t time rank at low = grind (arith, nat_tests)
+
+after_time : (t time rank : ℕ) → t < time → (nat_lt time t || (time == t && nat_lt rank 4)) ≡ false
+after_time t time rank less = grind (arith, nat_tests)
+
+after_end : (t time rank : ℕ) → time ≡ t → 3 < rank → (nat_lt time t || (time == t && nat_lt rank 4)) ≡ false
+after_end t time rank at high = grind (arith, nat_tests)
+
+pub told_by-until : (t : ℕ) (h : Happened) → IsToldUntil t h → is_told_by t h ≡ true
+told_by-until t h is = elim is.past [ inl less ↦ by_time t h.time (kind_rank h.what) less | inr at ↦ by_end t h.time (kind_rank h.what) at.0 at.1 ]
+
+pub untold_by-from : (t : ℕ) (h : Happened) → IsToldFrom t h → is_told_by t h ≡ false
+untold_by-from t h is = elim is.later [ inl less ↦ after_time t h.time (kind_rank h.what) less | inr at ↦ after_end t h.time (kind_rank h.what) at.0 at.1 ]
+
+pub line-unless_cut : (what : What) → kind_rank what ≢ 3 → has_line what ≡ true
+line-unless_cut JobEnds other = refl
+line-unless_cut (NextReleased d) other = refl
+line-unless_cut (Spent d) other = refl
+line-unless_cut Cut other = absurd (other refl)
+line-unless_cut (Replenished d) other = refl
+line-unless_cut (Released d) other = refl
+line-unless_cut (WokenSpent d) other = refl

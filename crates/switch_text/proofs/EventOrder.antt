@@ -78,3 +78,8 @@ length-with_event e [] = refl
 length-with_event e (f ∷ fs) =
     let more = length-with_event e fs in
     elim (comes_before f e) as (λ b. length (cond b (f ∷ with_event e fs) (e ∷ f ∷ fs)) ≡ length (f ∷ fs) + 1) [ true ↦ omega arith | false ↦ omega arith ]
+
+pub length-in_sequence : (es : List Event) → length (in_sequence es) ≡ length es
+unfolding in_sequence
+length-in_sequence [] = refl
+length-in_sequence (e ∷ es) = omega (arith, length-with_event e (in_sequence es), length-in_sequence es)

@@ -162,7 +162,7 @@ switch_next runs told p n few next late =
       step = IsStep-switch (left_told (told_views told) p.told) runs p.switches n next late;
       smaller = omega (arith, ap length a.split, ap length a.moved, length-append a.before (next_entry n ∷ a.after), length-append a.before a.after);
       places = (omega arith, next.place);
-      shown = (next.printed, next.run);
+      shown = (next.printed, (next.run, next.among));
     }
 
 -- where a switch is before the next of what happens, it is before all of it

@@ -1,12 +1,10 @@
 -- The events text that goes out line by line.
-use Rattle.std.proofs.Common.{◌≡◌, ℕ, zero, suc, ◌+◌, ◌*◌, ◌<◌, ◌≤◌, ◌^◌, true, false, cond, List, [], ◌∷◌, ◌++◌, length, map, take, replicate, Option, refl, sym, ap, subst, ◌∙◌, append-nil, arith}
+use Rattle.std.proofs.Common.{◌≡◌, ℕ, zero, suc, ◌+◌, ◌*◌, ◌<◌, ◌≤◌, ◌^◌, true, false, cond, List, [], ◌∷◌, ◌++◌, length, map, replicate, Option, refl, sym, ap, subst, ◌∙◌, append-nil, arith}
 use Rattle.std.specs.Prelude.{All, filter}
 use Rattle.std.specs.List.{AllByRecursion, flat_map}
-use Rattle.std.specs.Io.KnownBytes.{Appends}
-use Rattle.std.proofs.KnownBytes.{Appends-nil, Appends-trans}
-use Rattle.std.proofs.lemmas.List.{length-append, length-map, map-append, take-append-le}
+use Rattle.std.proofs.KnownBytes.{Appends-nil}
+use Rattle.std.proofs.lemmas.List.{length-append, length-map, map-append}
 use Rattle.std.proofs.lemmas.List.Elements.{recursion_from_All}
-use Rattle.std.proofs.Math.Seq.{take-append-add}
 use Rattle.domain_run.specs.declared.happened.Happened.{Happened}
 use Rattle.domain_run.specs.Switch.{Switch}
 use Rattle.counted_io.specs.Faults.{TakesFront}
@@ -21,50 +19,60 @@ use Rattle.switch_text.specs.private.Sending.{Sends}
 use Rattle.switch_text.specs.private.ToldMerging.{is_line_told, left_told}
 use Rattle.switch_text.specs.private.EventMerging.{of_entry, left_events, IsEventStep}
 use Rattle.switch_text.proofs.Few.{few}
-use Rattle.switch_text.proofs.UnderWay.{sends_on, length-sent, left_of-start, length-header}
+use Rattle.switch_text.proofs.UnderWay.{sends_on, length-sent, left_of-start}
+use Rattle.switch_text.proofs.Sliced.{stops_all, front_more}
+use Rattle.switch_text.specs.private.EventSlicing.{sequence_lines}
 
--- so many bytes of the events text went out, these wait, and the others are still to be made
-pub record AreUnderWay (before after : Option (List ℕ)) (text : List ℕ) (total : ℕ) (left : List Event) (sent : ℕ) (waiting : List ℕ) : Type 0 where
-  pub sends : Sends before after text sent (waiting ++ lines_of_events (in_sequence left))
-  pub bound : sent + length waiting + 512 * length left ≤ 14 + 512 * total
+-- after a first text the lines of events go out: so many bytes did, these wait, and the others are still to be made
+pub record AreUnderWay (before after : Option (List ℕ)) (first : List ℕ) (all left : List Event) (sent : ℕ) (waiting : List ℕ) : Type 0 where
+  pub sends : Sends before after (first ++ sequence_lines all) sent (waiting ++ sequence_lines left)
+  pub bound : sent + length waiting + 512 * length left ≤ length first + 512 * length all
 
-pub AreUnderWay-next : (before mid after : Option (List ℕ)) (text : List ℕ) (total : ℕ) (left left' : List Event) (sent n : ℕ) (waiting rest line : List ℕ) → AreUnderWay before mid text total left sent waiting
-    → IsEventStep left left' line → Sends mid after (waiting ++ line) n rest → length line ≤ 512 → AreUnderWay before after text total left' (sent + n) rest
-AreUnderWay-next before mid after text total left left' sent n waiting rest line u step s short =
+pub AreUnderWay-start : (before : Option (List ℕ)) (first : List ℕ) (all left : List Event) → left ≡ all → AreUnderWay before before first all left 0 first
+AreUnderWay-start before first all left start =
+    record {
+      sends = record {
+        gone = [];
+        taken = Appends-nil before;
+        count = refl;
+        whole = ap (λ (es : List Event). first ++ sequence_lines es) (sym start);
+      };
+      bound = omega (arith, ap length start);
+    }
+
+pub AreUnderWay-next : (before mid after : Option (List ℕ)) (first : List ℕ) (all left left' : List Event) (sent n : ℕ) (waiting rest line : List ℕ) → AreUnderWay before mid first all left sent waiting
+    → IsEventStep left left' line → Sends mid after (waiting ++ line) n rest → length line ≤ 512 → AreUnderWay before after first all left' (sent + n) rest
+AreUnderWay-next before mid after first all left left' sent n waiting rest line u step s short =
+    let text = first ++ sequence_lines all in
     let sends = subst (λ (xs : List ℕ). Sends before mid text sent (waiting ++ xs)) step.lines u.sends in
     let bound = u.bound in
     record {
-      sends = sends_on before mid after text waiting line (lines_of_events (in_sequence left')) rest sent n sends s;
+      sends = sends_on before mid after text waiting line (sequence_lines left') rest sent n sends s;
       bound = omega (arith, length-sent mid after (waiting ++ line) rest n s, length-append waiting line, step.count short, bound);
     }
 
-pub AreUnderWay-stop : (before mid after : Option (List ℕ)) (text : List ℕ) (total : ℕ) (left : List Event) (sent n : ℕ) (waiting : List ℕ) → AreUnderWay before mid text total left sent waiting → TakesFront mid after waiting n
-    → TakesFront before after text (sent + n)
-AreUnderWay-stop before mid after text total left sent n waiting u s =
-    let gone = u.sends.gone in
-    let rest = lines_of_events (in_sequence left) in
-    let some_left : n < length waiting = s.some_left in
-    let le : n ≤ length waiting = omega arith in
-    let front : take (sent + n) text ≡ gone ++ take n waiting = ap (take (sent + n)) u.sends.whole ∙ ap (λ (k : ℕ). take (k + n) (gone ++ (waiting ++ rest))) u.sends.count
-    ∙ take-append-add gone (waiting ++ rest) n ∙ ap (λ (xs : List ℕ). gone ++ xs) (take-append-le n waiting rest le) in
-    record {
-      taken = subst (λ (xs : List ℕ). Appends before after xs) (sym front) (Appends-trans before mid after gone (take n waiting) u.sends.taken s.taken);
-      some_left = omega (arith, length-sent before mid text (waiting ++ rest) sent u.sends, length-append waiting rest);
-    }
+pub AreUnderWay-stops : (before mid after : Option (List ℕ)) (first : List ℕ) (all left : List Event) (sent n : ℕ) (waiting : List ℕ) → AreUnderWay before mid first all left sent waiting → TakesFront mid after waiting n
+    → TakesFront before after (first ++ sequence_lines all) (sent + n)
+AreUnderWay-stops before mid after first all left sent n waiting u t =
+    stops_all before mid after (first ++ sequence_lines all) (waiting ++ sequence_lines left) sent n u.sends (front_more mid after waiting (sequence_lines left) n t)
 
-pub AreUnderWay-end : (before mid after : Option (List ℕ)) (text : List ℕ) (total : ℕ) (left : List Event) (sent n : ℕ) (waiting rest : List ℕ) → AreUnderWay before mid text total left sent waiting
-    → left ≡ [] → Sends mid after waiting n rest → rest ≡ [] → Appends before after text
+-- nothing is left: all that did not go out waits
+pub AreUnderWay-ends : (before after : Option (List ℕ)) (first : List ℕ) (all left : List Event) (sent : ℕ) (waiting : List ℕ) → AreUnderWay before after first all left sent waiting → left ≡ []
+    → Sends before after (first ++ sequence_lines all) sent waiting
 unfolding lines_of_events in_sequence
-AreUnderWay-end before mid after text total left sent n waiting rest u none s empty =
-    let made : lines_of_events (in_sequence left) ≡ [] = ap (λ (es : List Event). lines_of_events (in_sequence es)) none in
-    let whole : text ≡ u.sends.gone ++ s.gone = u.sends.whole ∙ ap (λ (xs : List ℕ). u.sends.gone ++ xs)
-    (ap (λ (xs : List ℕ). waiting ++ xs) made ∙ append-nil waiting ∙ s.whole ∙ ap (λ (xs : List ℕ). s.gone ++ xs) empty ∙ append-nil s.gone) in
-    subst (λ (xs : List ℕ). Appends before after xs) (sym whole) (Appends-trans before mid after u.sends.gone s.gone u.sends.taken s.taken)
+AreUnderWay-ends before after first all left sent waiting u none =
+    let made : sequence_lines left ≡ [] = ap (λ (es : List Event). lines_of_events (in_sequence es)) none in
+    subst (λ (xs : List ℕ). Sends before after (first ++ sequence_lines all) sent xs) (ap (λ (xs : List ℕ). waiting ++ xs) made ∙ append-nil waiting) u.sends
 
 -- what is counted stays below 2^64
-pub counts_fit : (before after : Option (List ℕ)) (text : List ℕ) (total : ℕ) (left : List Event) (sent n : ℕ) (waiting : List ℕ) → AreUnderWay before after text total left sent waiting
-    → total ≤ 2 ^ 53 + 2 ^ 54 → n ≤ length waiting → sent + n < 2 ^ 64
-counts_fit before after text total left sent n waiting u few le = let bound = u.bound in omega (arith, bound)
+pub events_fit : (before after : Option (List ℕ)) (first : List ℕ) (all left : List Event) (sent n : ℕ) (waiting : List ℕ) → AreUnderWay before after first all left sent waiting
+    → length first ≤ 65536 → length all ≤ 2 ^ 53 + 2 ^ 54 → n ≤ length waiting → sent + n < 2 ^ 64
+events_fit before after first all left sent n waiting u short few le = let bound = u.bound in omega (arith, bound, short, few, le)
+
+-- the events text is the header, and then the lines
+pub events_are : (first : List ℕ) (runs : List SwitchesView) (told : List ToldView) → first ≡ header → first ++ sequence_lines (all_events runs told) ≡ events_of runs told
+unfolding events_of
+events_are first runs told is = ap (λ (xs : List ℕ). xs ++ sequence_lines (all_events runs told)) is
 
 -- ---- at first all is left
 
@@ -88,20 +96,6 @@ pub left_events-start : (runs : List Run) (told : List Told) → length runs ≤
 left_events-start runs told few_runs few_told =
     ap (λ (es : List Event). es ++ map of_entry (entries_left (views runs) (replicate 8 0))) (left_told-start (told_views told) 8 (omega (arith, length-map told told_view)))
     ∙ ap (λ (es : List Event). flat_map told_events (told_views told) ++ es) (ap (map of_entry) (left_of-start (views runs) 8 (omega (arith, length-map runs switches_view_of))) ∙ all_switches-are (views runs))
-
-pub AreUnderWay-start : (before : Option (List ℕ)) (runs : List SwitchesView) (told : List ToldView) (left : List Event) → left ≡ all_events runs told
-    → AreUnderWay before before (events_of runs told) (length (all_events runs told)) left 0 header
-unfolding events_of
-AreUnderWay-start before runs told left start =
-    record {
-      sends = record {
-        gone = [];
-        taken = Appends-nil before;
-        count = refl;
-        whole = ap (λ (es : List Event). header ++ lines_of_events (in_sequence es)) (sym start);
-      };
-      bound = omega (arith, ap length start, length-header);
-    }
 
 -- ---- they are few enough to be counted
 

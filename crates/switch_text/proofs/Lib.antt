@@ -20,5 +20,9 @@ mod ToldAhead
 mod ToldFound
 mod EventPick
 mod EventsUnderWay
+mod EventCutting
+mod EventSplitting
+mod EventFronts
+mod EventRounds
 pub mod EventLemmas
 pub mod CallerLemmas

@@ -107,10 +107,10 @@ kept_set f [] i y d same = refl
 kept_set {K = K} f (x ∷ xs) zero y d same = ap (λ (v : K). v ∷ map f xs) same
 kept_set {K = K} f (x ∷ xs) (suc i) y d same = ap (λ (vs : List K). f x ∷ vs) (kept_set f xs i y d same)
 
-pub taken_set : {X : Type 0} (f : X → SlicedView) (xs : List X) (i : ℕ) (y : X) → i < length xs → take (i + 1) (map f (set xs i y)) ≡ take i (map f xs) ++ f y ∷ []
+pub taken_set : {X Y : Type 0} (f : X → Y) (xs : List X) (i : ℕ) (y : X) → i < length xs → take (i + 1) (map f (set xs i y)) ≡ take i (map f xs) ++ f y ∷ []
 taken_set f xs i y h = ap (take (i + 1)) (map-set f xs i y) ∙ take_more_set (map f xs) i (f y) (omega (arith, h, length-map xs f))
 
-pub taken_all : {X : Type 0} (f : X → SlicedView) (xs : List X) (i : ℕ) → length xs ≤ i → take i (map f xs) ≡ map f xs
+pub taken_all : {X Y : Type 0} (f : X → Y) (xs : List X) (i : ℕ) → length xs ≤ i → take i (map f xs) ≡ map f xs
 taken_all f xs i h = take_all i (map f xs) (omega (arith, h, length-map xs f))
 
 -- the first `i` runs have forgotten what is before the cut, the others not yet

@@ -1,5 +1,5 @@
 -- Worked rows of the events text, computed by the definitions.
-use Rattle.std.specs.Prelude.{ℕ, ◌≡◌, List, [], ◌∷◌, ◌++◌, codes, refl, Some}
+use Rattle.std.specs.Prelude.{ℕ, ◌≡◌, List, [], ◌∷◌, ◌++◌, map, true, false, codes, refl, Some}
 use Rattle.std.specs.Fmt.{digits}
 use Rattle.domain_run.specs.declared.happened.What.{What}
 use Rattle.domain_run.specs.declared.happened.What.TheVariants.{JobEnds, NextReleased, Spent, Cut, Replenished, Released, WokenSpent}
@@ -9,6 +9,7 @@ use Rattle.switch_text.specs.Line.{task_part, cpu_part, time_part, prev_part, ne
 use Rattle.switch_text.specs.ToldLine.{seconds_part, target_part, deadline_part, event_fields, told_line_of}
 use Rattle.switch_text.specs.Trace.{header}
 use Rattle.switch_text.specs.Events.{ToldView, in_sequence, lines_of_events, events_of}
+use Rattle.switch_text.specs.SlicedEvents.{told_runs, told_runs_text, is_told_by}
 use Rattle.switch_text.specs.Examples.{at, numbered, run}
 
 abbrev it : ℕ → What → ℕ → ℕ → Happened
@@ -88,3 +89,29 @@ two_domains = refl
 nothing : events_of [] (told 0 [] ∷ []) ≡ header
 unfolding events_of header lines_of_events in_sequence
 nothing = refl
+
+-- at the time 4 the end of a tick is told, and its spent budget; a release is not, nor a later end
+told_by_four :
+    map (is_told_by 4) (it 3 (Released 9) 1 0 ∷ it 4 JobEnds 1 0 ∷ it 4 (Spent 6) 2 0
+    ∷ it 4 (Released 9) 2 0 ∷ it 5 JobEnds 2 0 ∷ [])
+    ≡ true ∷ true ∷ true ∷ false ∷ false ∷ []
+told_by_four = refl
+
+-- a run that is made up to 4, and the rest of it: the events text of the whole
+sliced :
+    told_runs_text (told_runs (record {
+      base = 0;
+      names = numbered;
+      at_hand = at 3 0 (Some 2) Sleeping (Some 1) ∷ [];
+      to_come = at 4 0 (Some 1) Sleeping (Some 2) ∷ [];
+      told = it 4 JobEnds 1 0 ∷ [];
+      to_tell = it 4 (Released 9) 2 0 ∷ [];
+    } ∷ []))
+    ≡ header
+    ++ switch_line numbered 0 (at 3 0 (Some 2) Sleeping (Some 1))
+    ++ told_line_of numbered 0 (it 4 JobEnds 1 0)
+    ++ told_line_of numbered 0 (it 4 (Released 9) 2 0)
+    ++ switch_line numbered 0 (at 4 0 (Some 1) Sleeping (Some 2))
+unfolding events_of header lines_of_events in_sequence told_line_of switch_line task_part cpu_part
+    time_part event_fields target_part prev_part next_part digits
+sliced = refl

@@ -6,6 +6,7 @@ pub mod SlicedTrace
 pub mod ToldLine
 pub mod Events
 pub mod Telling
+pub mod SlicedEvents
 pub mod Examples
 pub mod EventExamples
 pub mod private

@@ -1,5 +1,6 @@
 pub mod Called
 pub mod EventMerging
+pub mod EventSlicing
 pub mod Fronts
 pub mod Merging
 pub mod Parts

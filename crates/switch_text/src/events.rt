@@ -1,14 +1,16 @@
 //! The events text of runs.
 
-ghost use Rattle.std.specs.Prelude.{◌≡◌, ◌+◌, ◌<◌, ◌≤◌, ◌^◌, ◌++◌, length, is_ok, All, IfErr, OnOk};
+ghost use Rattle.std.specs.Prelude.{ℕ, ◌≡◌, ◌+◌, ◌*◌, ◌<◌, ◌≤◌, ◌^◌, ◌++◌, List, length, is_ok, All, IfErr, IfOk, OnOk};
 ghost use Rattle.std.specs.Io.KnownBytes.{Appends};
 ghost use Rattle.counted_io.specs.Sides.{inner_of, faults_of};
 ghost use Rattle.counted_io.specs.Faults.{one_more_unless, TakesFront};
 ghost use Rattle.switch_text.specs.Runs.{views, IsPrintable};
-ghost use Rattle.switch_text.specs.Events.{events_of};
+ghost use Rattle.switch_text.specs.Events.{all_events, events_of};
 ghost use Rattle.switch_text.specs.Telling.{told_views, IsTold};
 ghost use Rattle.switch_text.specs.private.EventMerging.{line_of_next, CanShow};
-ghost use Rattle.switch_text.specs.private.Ready.{names_at, AreEnough, AreNobodys, IsSlot, IsTexts};
+ghost use Rattle.switch_text.specs.private.EventSlicing.{sequence_lines};
+ghost use Rattle.switch_text.specs.private.Ready.{RunsHaveNames, AreEnough, AreNobodys, IsSlot, IsTexts};
+ghost use Rattle.switch_text.specs.private.Sending.{Sends};
 ghost use Rattle.switch_text.specs.private.ToldMerging.{next_told_event, IsShown};
 
 use crate::batch::Batch;
@@ -19,7 +21,7 @@ use crate::run::Run;
 use crate::told::Told;
 use crate::told_lines::{has_a_line, told_line};
 use crate::told_merge::NextTold;
-use crate::writing::{append_line, header_text, stopped_after};
+use crate::writing::{append_line, header_text, stopped_after, together};
 use counted_io::Counted;
 use std::io::Write;
 
@@ -43,16 +45,18 @@ fn append_event(
     texts: &mut Texts,
     batch: &mut Batch,
 )
+    ghost names: { ℕ → ℕ → List ℕ }
     requires few { length runs.now ≤ 8 }
+    requires named { RunsHaveNames names runs.now }
     requires shown { CanShow runs.now next.now }
     requires many { AreEnough slots.old }
-    requires slots { All (IsSlot (names_at runs.now)) slots.old }
+    requires slots { All (IsSlot names) slots.old }
     requires texts { IsTexts texts.old }
     requires room { length batch.old ≤ 65152 }
     ensures text { batch.new ≡ batch.old ++ line_of_next next.now }
     ensures short { length batch.new ≤ length batch.old + 384 }
     ensures many { AreEnough slots.new }
-    ensures slots { All (IsSlot (names_at runs.now)) slots.new }
+    ensures slots { All (IsSlot names) slots.new }
     ensures texts { IsTexts texts.new }
 {
     match next {
@@ -63,6 +67,59 @@ fn append_event(
         }
         NextEvent::Switch(next) => append_line(runs, next, slots, texts, batch),
     }
+}
+
+/// The lines of what happens and of switches, in one order, go out after what waits: how many bytes
+/// went out, also if the writer failed. What is left waits. The texts of tasks that are kept are
+/// those by the names of whole runs, of which these may be slices.
+pub(crate) fn send_events<W: Write>(
+    runs: &[Run<'_>],
+    told: &[Told<'_>],
+    slots: &mut [Slot],
+    texts: &mut Texts,
+    batch: &mut Batch,
+    writer: &mut Counted<W>,
+) -> Result<usize, usize>
+    ghost names: { ℕ → ℕ → List ℕ }
+    requires few_runs { length runs.now ≤ 8 }
+    requires few_told { length told.now ≤ 8 }
+    requires runs { All IsPrintable runs.now }
+    requires told { All IsTold told.now }
+    requires named { RunsHaveNames names runs.now }
+    requires many { AreEnough slots.old }
+    requires slots { All (IsSlot names) slots.old }
+    requires texts { IsTexts texts.old }
+    requires room { length batch.old ≤ 65536 }
+    requires faults { faults_of writer.old < 2 ^ 63 }
+    ensures ok { IfOk result (λ n. Sends
+        (W.contents (inner_of writer.old)) (W.contents (inner_of writer.new))
+        (batch.old ++ sequence_lines (all_events (views runs.now) (told_views told.now)))
+        n batch.new) }
+    ensures counted { IfOk result (λ n. n + length batch.new < 2 ^ 64) }
+    ensures bound { IfOk result (λ n. n + length batch.new ≤ length batch.old
+        + 512 * length (all_events (views runs.now) (told_views told.now))) }
+    ensures stopped { IfErr result (λ n. n ≤ length batch.old
+        + 512 * length (all_events (views runs.now) (told_views told.now))) }
+    ensures room { OnOk result (length batch.new ≤ 65536) }
+    ensures err { IfErr result (TakesFront
+        (W.contents (inner_of writer.old)) (W.contents (inner_of writer.new))
+        (batch.old ++ sequence_lines (all_events (views runs.now) (told_views told.now)))) }
+    ensures many { AreEnough slots.new }
+    ensures slots { All (IsSlot names) slots.new }
+    ensures texts { IsTexts texts.new }
+    ensures faults { faults_of writer.new ≡ one_more_unless (is_ok result) (faults_of writer.old) }
+{
+    let mut sent = 0;
+    let mut merge = EventMerge::start(runs);
+    while let Some(next) = next_event(runs, told, &merge) {
+        merge.step(runs, &next);
+        match batch.make_room(writer) {
+            Ok(n) => sent += n,
+            Err(n) => return Err(together(sent, n)),
+        }
+        append_event(runs, &next, slots, texts, batch);
+    }
+    Ok(sent)
 }
 
 // The events text, with room for the texts of tasks that holds none yet.
@@ -89,17 +146,11 @@ fn write_with<W: Write>(
 {
     let mut batch = Batch::new();
     batch.append(header_text());
-    let mut written = 0;
-    let mut merge = EventMerge::start(runs);
     let mut texts = no_texts();
-    while let Some(next) = next_event(runs, told, &merge) {
-        merge.step(runs, &next);
-        match batch.make_room(writer) {
-            Ok(n) => written += n,
-            Err(n) => return Err(stopped_after(written, n)),
-        }
-        append_event(runs, &next, slots, &mut texts, &mut batch);
-    }
+    let written = match send_events(runs, told, slots, &mut texts, &mut batch, writer) {
+        Ok(n) => n,
+        Err(n) => return Err(stopped_after(0, n)),
+    };
     match batch.flush(writer) {
         Ok(_) => Ok(()),
         Err(n) => Err(stopped_after(written, n)),

@@ -15,13 +15,15 @@
 //! text (`specs/Events.antt`, with worked rows in `specs/EventExamples.antt`), which
 //! [`write_events_in`] appends, or stops as [`write_trace`] does. It stands here, since its lines
 //! of switches are put together from the texts that are kept for the trace's. Laws for callers are
-//! in `proofs/EventLemmas.antt`: where nothing happens it is the trace, and its switches stand in
-//! the trace's order.
+//! in `proofs/EventLemmas.antt`: where nothing happens it is the trace, its switches stand in the
+//! trace's order, and a cut changes nothing of it. [`write_event_slices`] writes the events of runs
+//! while they are made (`specs/SlicedEvents.antt`).
 #![tactic(auto)]
 
 mod batch;
 mod called;
 mod event_merge;
+mod event_slices;
 mod events;
 mod fault;
 mod heads;
@@ -38,6 +40,7 @@ mod told_merge;
 mod writing;
 
 pub use counted_io::{Counted, ReadFault};
+pub use event_slices::{EventSlices, write_event_slices};
 pub use events::write_events_in;
 pub use fault::WriteFault;
 pub use lines::line;

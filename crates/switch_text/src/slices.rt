@@ -67,7 +67,7 @@ pub trait Slices {
 }
 
 /// The earlier of two times, of which each may be missing.
-fn earlier(a: Option<u64>, b: Option<u64>) -> Option<u64>
+pub(crate) fn earlier(a: Option<u64>, b: Option<u64>) -> Option<u64>
     ensures { result ≡ earlier_of a b }
 {
     match (a, b) {
@@ -139,7 +139,7 @@ fn is_before(switch: &Switch, cut: Option<u64>) -> bool
 }
 
 /// How many switches are before the cut. They rise, so these are the first ones.
-fn count_before(switches: &[Switch], cut: Option<u64>) -> usize
+pub(crate) fn count_before(switches: &[Switch], cut: Option<u64>) -> usize
     requires { AllPairs (λ a b. IsTrue (is_switch_before a b)) switches.now }
     ensures front { take result switches.now ≡ switches_before cut switches.now }
     ensures rest { drop result switches.now ≡ switches_from_cut cut switches.now }

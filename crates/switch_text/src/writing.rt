@@ -100,7 +100,8 @@ pub(crate) fn stopped_after(written: usize, more: usize) -> WriteFault
     }
 }
 
-fn together(sent: usize, more: usize) -> usize
+/// What went out, and what more did.
+pub(crate) fn together(sent: usize, more: usize) -> usize
     requires { sent + more < 2 ^ 64 }
     ensures { result ≡ sent + more }
 {

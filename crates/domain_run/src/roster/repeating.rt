@@ -7,7 +7,7 @@ ghost use Rattle.domain_run.specs.declared.task.Task.{Task};
 ghost use Rattle.domain_run.specs.Jump.{asks_at};
 ghost use Rattle.domain_run.specs.Later as later_spec;
 ghost use Rattle.domain_run.specs.Shift.{paced_task, paced_all, MayGo, AllMayGo};
-ghost use Rattle.domain_run.specs.private.Repeating.{IsLowTime, HasTime};
+ghost use Rattle.domain_run.specs.LowTimes.{IsLowTime, HasTime};
 ghost use Rattle.domain_run.specs.private.RunQueue as spec;
 ghost use Rattle.domain_run.specs.private.Waiting as waiting;
 ghost use Rattle.domain_run.specs.private.Timers.{IsTimerStep};

@@ -20,7 +20,7 @@ impl State {
     /// seat, and at most so many, which are at most [`State::quiet`]. The domain is then as after
     /// so many single ticks from where it was before [`State::begin`]. The log is told what happens
     /// at the end of the last of them; the ends of the others and their beginnings tell nothing.
-    fn run(&mut self, most: u64, log: &mut Log) -> u64
+    pub(super) fn run(&mut self, most: u64, log: &mut Log) -> u64
         requires begun { jump.IsUnderWay self.old }
         requires some { 0 < most }
         requires quiet { most ≤ jump.ticks_to_event self.old }

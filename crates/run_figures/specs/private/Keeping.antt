@@ -7,18 +7,29 @@ use Rattle.run_figures.specs.declared.ran.Ran.{Ran}
 use Rattle.run_figures.specs.declared.ran.Cpu.{Cpu}
 use Rattle.run_figures.specs.declared.accounting.Heard.{Heard}
 use Rattle.run_figures.specs.declared.accounting.opening.Rooms.{Rooms}
+use Rattle.domain_run.specs.Later.{later_happened, later_switch}
 use Rattle.run_figures.specs.Accounting.{AccountingView}
 use Rattle.run_figures.specs.private.Telling.{told_by, IsToldWithin}
 use Rattle.run_figures.specs.private.Running.{ran_by, cpu_by}
+use Rattle.run_figures.specs.private.Past.{items_of}
 
 abbrev pub accounting_view_of : Heard → List ℕ → AccountingView
 accounting_view_of h tasks = record {
   cpus = h.cpus;
   time = h.time;
   tasks = tasks;
-  happened = h.happened;
-  switches = h.switches;
+  happened = items_of later_happened h.happened.items;
+  switches = items_of later_switch h.switches.items;
 }
+
+-- how much was heard
+pub record IsHeardCounted (h : Heard) : Type 0 where
+  pub happened : h.happened.count ≡ length (items_of later_happened h.happened.items)
+  pub switches : h.switches.count ≡ length (items_of later_switch h.switches.items)
+
+pub record IsMarkCounted (a : AccountingView) (happened switches : ℕ) : Type 0 where
+  pub happened_count : happened ≡ length a.happened
+  pub switches_count : switches ≡ length a.switches
 
 -- its tables are what the definitions make of all that was heard
 pub record IsAccountingKept (a : AccountingView) (ts : List Told) (rs : List Ran) (cs : List Cpu)

@@ -1,5 +1,5 @@
 -- What is told of a task while its entries go by.
-use Rattle.std.specs.Prelude.{ℕ, ◌+◌, ◌-◌, ◌*◌, ◌≡◌, ◌≤◌, ◌<◌, ◌^◌, ◌&&◌, is_none, min, max, fold, if◌then◌else◌, List, All, take, count_by, Option, Some, None, IfSome}
+use Rattle.std.specs.Prelude.{ℕ, Bool, ◌+◌, ◌-◌, ◌*◌, ◌≡◌, ◌≤◌, ◌<◌, ◌^◌, ◌&&◌, not, is_none, min, max, fold, if◌then◌else◌, List, All, take, count_by, Option, Some, None, IfSome}
 use Rattle.std.specs.Int.{int_min}
 use Rattle.domain_run.specs.declared.happened.What.{What}
 use Rattle.domain_run.specs.declared.happened.Happened.{Happened}
@@ -51,6 +51,15 @@ abbrev pub with_over : ℕ → Counts → Option Job → Counts
 with_over time c None = c
 with_over time c (Some job) = with_job time c job
 
+-- a job that is over with no end and no cut: the next one was released in its place. Whether it is
+-- late depends on the time at the end
+abbrev pub is_superseded : Job → Bool
+is_superseded job = is_none job.ended && not job.cut
+
+abbrev pub superseded_by : Option Job → ℕ
+superseded_by None = 0
+superseded_by (Some job) = if is_superseded job then 1 else 0
+
 -- THROTTLING
 abbrev pub gap : Option ℕ → ℕ → ℕ
 gap None time = 0
@@ -69,12 +78,16 @@ throttle_by time what t =
     else (if frees what then freed_from time t else t)
 
 -- A TASK, where the run ends at this time
-abbrev pub with_counts : Counts → Told → Told
-with_counts counts t = record t { counts = counts }
+abbrev pub with_counts : Counts → ℕ → Told → Told
+with_counts counts superseded t = record t {
+  counts = counts;
+  superseded = t.superseded + superseded;
+}
 
 -- with its job, where it is over by this
 abbrev pub with_over_by : ℕ → Happened → Told → Told
-with_over_by time h t = with_counts (with_over time t.counts (over_by h.time h.what t.job)) t
+with_over_by time h t = with_counts (with_over time t.counts (over_by h.time h.what t.job))
+    (superseded_by (over_by h.time h.what t.job)) t
 
 -- with an entry of its own
 abbrev pub told_after : ℕ → Happened → Told → Told
@@ -82,6 +95,7 @@ told_after time h t = record t {
   job = job_after h.time h.what t.job;
   counts = with_over time t.counts (over_by h.time h.what t.job);
   throttle = throttle_by h.time h.what t.throttle;
+  superseded = t.superseded + superseded_by (over_by h.time h.what t.job);
 }
 
 abbrev pub told_to_task : ℕ → Told → Happened → Told
@@ -98,6 +112,7 @@ nothing_told number = record {
   counts = record { ended = None; late = 0 };
   throttle = record { times = 0; us = 0; since = None };
   preempted = 0;
+  superseded = 0;
 }
 
 -- counts of at most so many entries
@@ -116,6 +131,7 @@ pub record IsToldWithin (n : ℕ) (t : Told) : Type 0 where
   pub late : t.counts.late ≤ n
   pub times : t.throttle.times ≤ n
   pub us : t.throttle.us ≤ n * 2 ^ 64
+  pub superseded : t.superseded ≤ n
 
 -- so much more can be told
 pub record HaveRoomFor (n : ℕ) (ts : List Told) : Type 0 where

@@ -11,7 +11,7 @@ use Rattle.switch_text.specs.Trace.{Entry}
 use Rattle.switch_text.specs.Runs.{views}
 use Rattle.switch_text.specs.Events.{Event, in_sequence, lines_of_events}
 use Rattle.switch_text.specs.Telling.{told_views}
-use Rattle.switch_text.specs.private.Merging.{entries_left, places_stepped, next_entry, IsPrinted, IsRunAt}
+use Rattle.switch_text.specs.private.Merging.{entries_left, places_stepped, next_entry, IsAmong, IsPrinted, IsRunAt}
 use Rattle.switch_text.specs.private.ToldMerging.{is_line_told, left_told, count_left, next_told_event, IsShown}
 
 -- how far each domain has gone, in its switches and in what happens
@@ -74,7 +74,7 @@ CanStep p (NextEvent.Switch n) = (n.index < 8) × (slice_index p.switches n.inde
 -- its line, if it has one, can be made
 abbrev pub CanShow : List Run → NextEvent → Type 0
 CanShow runs (NextEvent.Told n) = IsTrue (is_line_told n.happened.now) → IsShown n
-CanShow runs (NextEvent.Switch n) = IsPrinted n × IsRunAt runs n
+CanShow runs (NextEvent.Switch n) = IsPrinted n × (IsRunAt runs n × IsAmong n)
 
 pub record IsNextEvent (runs : List Run) (told : List Told) (p : EventPlaces) (n : NextEvent)
     : Type 0 where

@@ -86,7 +86,7 @@ returns-clause-told c =
     let homes : GoHome places (length log.happened) woken.happened after.happened =
     subst (λ (n : ℕ). GoHome places n woken.happened after.happened) c.len-from.ensures
     (subst (λ (ps : Places). GoHome ps c.len-from.result woken.happened after.happened) c.occupants.ensures.occupants c.go_home.ensures.home) in
-    walk_home places c.args.time c.args.roster.now.tasks log woken after c.requires.numbered c.wake_all.ensures.told c.go_home.ensures.wanted homes
+    walk_home places c.args.time c.args.roster.now.tasks log woken after c.requires.numbered c.wake_all.ensures.told c.go_home.ensures.wanted c.go_home.ensures.room homes
 
 pub wake_all-requires-clause-early : goal.wake_all-requires-clause-early
 wake_all-requires-clause-early c = grind (arith, common_steps)

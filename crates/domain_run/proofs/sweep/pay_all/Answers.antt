@@ -103,7 +103,7 @@ returns-clause-told c =
     let hs = flat_map (told_paid c.args.time ns c.args.ticks c.args.budgets.now) first in
     let all : take c.loop-i.i ns ≡ ns = take_all c.loop-i.i ns (omega arith) in
     let told = subst (λ (ms : List ℕ). TellsMixed (flat_map (told_paid c.args.time ms c.args.ticks c.args.budgets.now) first) log c.loop-i.log) all c.loop-i.invariant.told in
-    tells_order hs told.tail log c.loop-i.log c.put_in_order.new.self told.mixed (paying_apart c.args.time ns c.args.ticks c.args.budgets.now first c.requires.numbered) told.is c.put_in_order.ensures.wanted
+    tells_order hs told.tail log c.loop-i.log c.put_in_order.new.self told.mixed (paying_apart c.args.time ns c.args.ticks c.args.budgets.now first c.requires.numbered) told.is c.put_in_order.ensures.wanted c.put_in_order.ensures.room
     (subst (λ n. InOrderFrom n c.loop-i.log.happened c.put_in_order.new.self.happened) c.len-from.ensures c.put_in_order.ensures.order)
 
 pub put_in_order-requires : goal.put_in_order-requires

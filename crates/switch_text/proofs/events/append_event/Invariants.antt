@@ -1,5 +1,4 @@
-use Rattle.switch_text.specs.private.Ready.{names_at}
 use Rattle.switch_text.proofs.events.append_event.Given as goal
 
 abbrev pub ghost-append_line : goal.ghost-append_line
-ghost-append_line a = names_at a.runs.now
+ghost-append_line g a = g.names

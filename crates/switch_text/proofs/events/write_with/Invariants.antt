@@ -1,25 +1,5 @@
-use Rattle.std.proofs.Common.{length, ◌≡◌, All}
-use Rattle.switch_text.specs.Runs.{views}
-use Rattle.switch_text.specs.Events.{all_events, events_of}
-use Rattle.switch_text.specs.Telling.{told_views}
-use Rattle.switch_text.specs.private.EventMerging.{places_of, left_events, count_events}
-use Rattle.switch_text.specs.private.Ready.{AreEnough, names_at, IsSlot, IsTexts}
-use Rattle.switch_text.specs.private.Winning.{IsMerge}
-use Rattle.switch_text.proofs.EventsUnderWay.{AreUnderWay}
-use Rattle.counted_io.specs.Sides.{inner_of}
+use Rattle.switch_text.specs.private.Ready.{names_at}
 use Rattle.switch_text.proofs.events.write_with.Given as goal
 
-abbrev pub invariant-loop-next : goal.invariant-loop-next
-invariant-loop-next g l = record {
-  under_way :
-      AreUnderWay (g.W.Write.contents (inner_of l.fn.writer)) (g.W.Write.contents (inner_of l.writer)) (events_of (views l.runs) (told_views l.told)) (length (all_events (views l.runs) (told_views l.told)))
-      (left_events l.runs l.told (places_of l.merge)) l.written l.batch;
-  heads : IsMerge (views l.runs) l.merge.switches;
-  many : AreEnough l.slots;
-  slots : All (IsSlot (names_at l.runs)) l.slots;
-  texts : IsTexts l.texts;
-  faults : l.writer.faults ≡ l.fn.writer.faults;
-}
-
-abbrev pub decreases-loop-next : goal.decreases-loop-next
-decreases-loop-next g l = count_events l.runs l.told (places_of l.merge)
+abbrev pub ghost-send_events : goal.ghost-send_events
+ghost-send_events g a = names_at a.runs.now

@@ -1,6 +1,6 @@
 use Rattle.std.proofs.Common.{◌≡◌, ◌<◌, length, get_or, sym, subst, arith, inl, inr}
 use Rattle.std.proofs.lemmas.Bool.{cases_lt}
-use Rattle.domain_run.specs.private.Repeating.{HasTime}
+use Rattle.domain_run.specs.LowTimes.{HasTime}
 use Rattle.domain_run.specs.private.Roster.{RosterView}
 use Rattle.domain_run.proofs.GoingOn.{time_seen}
 use Rattle.domain_run.proofs.roster.Roster.has_time.Goals as goal

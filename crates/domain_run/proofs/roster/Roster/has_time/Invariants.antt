@@ -1,6 +1,6 @@
 use Rattle.std.proofs.Common.{ℕ, ◌<◌, length, get_or}
 use Rattle.domain_run.specs.declared.task.Task.{Task}
-use Rattle.domain_run.specs.private.Repeating.{HasTime}
+use Rattle.domain_run.specs.LowTimes.{HasTime}
 use Rattle.domain_run.proofs.roster.Roster.has_time.Given as goal
 
 abbrev pub invariant-loop-place : goal.invariant-loop-place

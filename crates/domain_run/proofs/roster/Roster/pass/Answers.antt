@@ -104,7 +104,7 @@ returns-clause-told c =
     let none = none_left c in
     let mixed : IsPermutation all told.tail = subst (IsPermutation all) (ap (λ hs. told.tail ++ hs) none ∙ append-nil told.tail) told.mixed in
     let numbered = subst (λ (r : RosterView). AllPairs (λ a b. a.number ≢ b.number) r.tasks) c.self.view_is c.self.invariant.counted.roster.numbered in
-    tells_order all told.tail log c.loop-cpu.log c.put_in_order.new.self mixed (passing_apart c.args.time c.args.ticks old.seats old.tasks numbered) told.is c.put_in_order.ensures.wanted
+    tells_order all told.tail log c.loop-cpu.log c.put_in_order.new.self mixed (passing_apart c.args.time c.args.ticks old.seats old.tasks numbered) told.is c.put_in_order.ensures.wanted c.put_in_order.ensures.room
     (subst (λ n. InOrderFrom n c.loop-cpu.log.happened c.put_in_order.new.self.happened) c.len-from.ensures c.put_in_order.ensures.order)
 
 pub expire_at-requires-clause-room : goal.expire_at-requires-clause-room

@@ -4,7 +4,7 @@ use Rattle.domain_run.specs.Domain.{Domain}
 use Rattle.domain_run.specs.Jump.{running_numbers}
 use Rattle.domain_run.specs.Shift.{given_again}
 use Rattle.domain_run.specs.Sound.{IsDomain}
-use Rattle.domain_run.specs.private.Repeating.{HasTime}
+use Rattle.domain_run.specs.LowTimes.{HasTime}
 use Rattle.domain_run.specs.private.RunQueue.{IsRoom}
 use Rattle.domain_run.proofs.Repeating.{again_is, early_again}
 use Rattle.domain_run.proofs.state.State.repeat.Goals as goal

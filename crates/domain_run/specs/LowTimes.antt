@@ -1,4 +1,4 @@
--- What a period that is given again needs of its numbers, for the code's own contracts.
+-- LOW TIMES: those that may go on, since 64 bits hold what is added (own).
 use Rattle.std.specs.Prelude.{ℕ, ◌<◌, ◌^◌, IfSome}
 use Rattle.domain_run.specs.declared.task.Task.{Task}
 use Rattle.domain_run.specs.Jump.{asks_at}

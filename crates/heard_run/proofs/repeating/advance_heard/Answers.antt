@@ -3,10 +3,10 @@ use Rattle.domain_run.specs.Happened.{told_by_ticks}
 use Rattle.domain_run.specs.Tick.{ticks}
 use Rattle.run_figures.specs.Accounting.{AccountingView, with_piece}
 use Rattle.heard_run.proofs.Pieces.{nothing_up_to}
-use Rattle.heard_run.proofs.hearing.advance_heard.Goals as goal
+use Rattle.heard_run.proofs.repeating.advance_heard.Goals as goal
 
-pub advance_heard_on-requires : goal.advance_heard_on-requires
-advance_heard_on-requires c =
+pub advance_heard_in_periods-requires : goal.advance_heard_in_periods-requires
+advance_heard_in_periods-requires c =
     let d = c.args.state.now in
     let time = ap (λ (x : AccountingView). x.time) c.requires.new in
     record {
@@ -19,6 +19,6 @@ advance_heard_on-requires c =
 pub returns-clause-heard : goal.returns-clause-heard
 returns-clause-heard c =
     let d = c.args.state.now in
-    let k = c.advance_heard_on.result.ticks in
-    c.advance_heard_on.ensures.heard
+    let k = c.advance_heard_in_periods.result.ticks in
+    c.advance_heard_in_periods.ensures.heard
     ∙ (λ i. with_piece (c.requires.new i) (c.open-log.ensures.empty i ++ told_by_ticks k d) (ticks k d).switches)

@@ -1,0 +1,18 @@
+use Rattle.std.proofs.Common.{arith}
+use Rattle.run_figures.specs.private.Growing.{grown_ran, IsRanCounted}
+use Rattle.run_figures.proofs.RowsBoth.{each_there, one_more_there, all_there}
+use Rattle.run_figures.proofs.growing.rows.grow_all_ran.Goals as goal
+
+pub grow_ran-requires : goal.grow_ran-requires
+grow_ran-requires c =
+    each_there IsRanCounted (grown_ran c.args.periods) c.loop-place.place _ c.index_mut.result.now c.args.before.now c.args.table.now.items c.loop-place.table.items c.loop-place.invariant.rows c.index_mut.ensures.value c.requires.same (omega arith) c.requires.counted
+
+pub loop-place-preserved : goal.loop-place-preserved
+loop-place-preserved c = record {
+  rows = one_more_there (grown_ran c.args.periods) c.loop-place.place _ c.index_mut.result.now c.grow_ran.new.ran c.args.before.now c.args.table.now.items c.loop-place.table.items c.loop-place.invariant.rows c.index_mut.ensures.value c.requires.same (omega arith) c.grow_ran.ensures;
+  same_room = c.loop-place.invariant.same_room;
+}
+
+pub returns-clause-grown : goal.returns-clause-grown
+returns-clause-grown c =
+    all_there (grown_ran c.args.periods) c.loop-place.place c.args.before.now c.args.table.now.items c.loop-place.table.items c.loop-place.invariant.rows c.requires.same (omega arith)

@@ -1,0 +1,86 @@
+//! The rows of a table, each beside its row at the beginning of a period.
+
+ghost use Rattle.std.specs.Prelude.{◌≡◌, IsTrue, All, length, vec_capacity};
+ghost use Rattle.run_figures.specs.private.Growing as growing;
+
+use super::{grow_cpu, grow_ran, grow_told, is_told_back, is_told_soon};
+use crate::ran::{Cpu, Ran};
+use crate::told::Told;
+
+pub(crate) fn all_told_back(before: &[Told], now: &[Told], micros: u64, shift: u64) -> bool
+    requires same { length before.now ≡ length now.now }
+    ensures back { IsTrue result
+        → growing.AreBoth (growing.IsToldBack micros) before.now now.now }
+    ensures soon { IsTrue result → All (growing.IsToldSoon shift) now.now }
+{
+    for (place, row) in now.iter().enumerate() {
+        if !is_told_back(micros, &before[place], row) || !is_told_soon(shift, row) {
+            return false;
+        }
+    }
+    true
+}
+
+pub(crate) fn all_ran_back(before: &[Ran], now: &[Ran]) -> bool
+    requires same { length before.now ≡ length now.now }
+    ensures { IsTrue result → growing.AreBoth growing.IsRanBack before.now now.now }
+{
+    for (place, row) in now.iter().enumerate() {
+        if before[place].last != row.last {
+            return false;
+        }
+    }
+    true
+}
+
+pub(crate) fn all_cpus_back(before: &[Cpu], now: &[Cpu]) -> bool
+    requires same { length before.now ≡ length now.now }
+    ensures { IsTrue result → growing.AreBoth growing.IsCpuBack before.now now.now }
+{
+    for (place, row) in now.iter().enumerate() {
+        if before[place].task != row.task {
+            return false;
+        }
+    }
+    true
+}
+
+pub(crate) fn grow_all_told(table: &mut Vec<Told>, before: &[Told], periods: u64, shift: u64)
+    requires same { length before.now ≡ length table.old.items }
+    requires soon { All (growing.IsToldSoon shift) table.old.items }
+    requires counted { All growing.IsToldCounted
+        (growing.rows_grown (growing.grown_told shift periods) before.now table.old.items) }
+    ensures grown { table.new.items
+        ≡ growing.rows_grown (growing.grown_told shift periods) before.now table.old.items }
+    ensures same_room { vec_capacity table.new ≡ vec_capacity table.old }
+{
+    for (place, row) in before.iter().enumerate() {
+        grow_told(&mut table[place], row, periods, shift);
+    }
+}
+
+pub(crate) fn grow_all_ran(table: &mut Vec<Ran>, before: &[Ran], periods: u64)
+    requires same { length before.now ≡ length table.old.items }
+    requires counted { All growing.IsRanCounted
+        (growing.rows_grown (growing.grown_ran periods) before.now table.old.items) }
+    ensures grown { table.new.items
+        ≡ growing.rows_grown (growing.grown_ran periods) before.now table.old.items }
+    ensures same_room { vec_capacity table.new ≡ vec_capacity table.old }
+{
+    for (place, row) in before.iter().enumerate() {
+        grow_ran(&mut table[place], row, periods);
+    }
+}
+
+pub(crate) fn grow_all_cpus(table: &mut Vec<Cpu>, before: &[Cpu], periods: u64)
+    requires same { length before.now ≡ length table.old.items }
+    requires counted { All growing.IsCpuCounted
+        (growing.rows_grown (growing.grown_cpu periods) before.now table.old.items) }
+    ensures grown { table.new.items
+        ≡ growing.rows_grown (growing.grown_cpu periods) before.now table.old.items }
+    ensures same_room { vec_capacity table.new ≡ vec_capacity table.old }
+{
+    for (place, row) in before.iter().enumerate() {
+        grow_cpu(&mut table[place], row, periods);
+    }
+}
