@@ -1,4 +1,4 @@
--- The calls text of a run's histories can be replayed, to the same trace.
+-- The calls text of a run's histories can be replayed, to the same trace; and their switches are few enough to be written.
 use Rattle.std.proofs.Common.{◌≡◌, ℕ, eqb, cond, ◌+◌, ◌≤◌, ◌<◌, None, List, [], ◌∷◌, ◌++◌, length, map, get_or, All, refl, sym, ap, subst, ◌∙◌, arith}
 use Rattle.std.proofs.lemmas.List.{map-append, length-map}
 use Rattle.std.proofs.lemmas.List.Sums.{sum_by-cons}
@@ -13,6 +13,7 @@ use Rattle.calls_text.specs.Limits.{IsEntry, IsSection, AreRead}
 use Rattle.calls_text.specs.RoundTrip.{without_reply, without_replies}
 use Rattle.switch_text.specs.Trace.{SwitchesView, trace_of}
 use Rattle.calls_trace.specs.Replay.{names_of, no_names, run_view, runs_from, trace_of_sections}
+pub use Rattle.calls_trace.proofs.Leading.{all_few}
 
 -- ---- entries without their replies
 

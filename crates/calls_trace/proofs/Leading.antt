@@ -56,7 +56,8 @@ one_more done s was is p so_far items base section whole =
 entries_few : (base : ℕ) (s : SectionView) → IsSection s → length (entries_of (run_view base s)) ≤ 2 ^ 51
 entries_few base s is = omega (arith, length-map (domain_of s).switches (entry_of (run_view base s)), (section_trace s is).few, section_time s is)
 
-all_few : (base : ℕ) (sections : List SectionView) → AllByRecursion IsSection sections → length (all_entries (runs_from base sections)) ≤ length sections * 2 ^ 51
+-- the switches of at most 8 sections are at most 2 ^ 54
+pub all_few : (base : ℕ) (sections : List SectionView) → AllByRecursion IsSection sections → length (all_entries (runs_from base sections)) ≤ length sections * 2 ^ 51
 all_few base [] are = omega arith
 all_few base (s ∷ ss) are =
     omega (arith, length-append (entries_of (run_view base s)) (all_entries (runs_from (base + s.cpus) ss)), entries_few base s are.0, all_few (base + s.cpus) ss are.1)

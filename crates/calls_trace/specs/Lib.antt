@@ -1,5 +1,6 @@
 pub mod Replay
 pub mod Told
+pub mod HistoryNames
 pub mod Charted
 pub mod Answer
 pub mod Written

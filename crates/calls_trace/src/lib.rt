@@ -13,8 +13,10 @@
 //! says, and where it is no fault of the writer, nothing was written. A trace goes out while the
 //! runs are made, so their switches are not kept. The calls of each section are kept, from its
 //! first advance on, until all sections are read. For the other texts each call is made as soon as
-//! it is read. `proofs/CallerLemmas.antt` has laws for callers:
-//! the calls text of histories is read again, and its replay writes the same trace.
+//! it is read. [`names_of_history`] gives the names to a caller that makes the run of a history
+//! while it is written (`specs/HistoryNames.antt`). `proofs/CallerLemmas.antt` has laws for
+//! callers: the calls text of histories is read again, and its replay writes the same trace; and
+//! the switches of sections are few enough to be written.
 #![tactic(auto)]
 
 mod charting;
@@ -22,6 +24,7 @@ mod counted_run;
 mod fault;
 mod figures;
 mod heard_summary;
+mod history_names;
 mod kept;
 mod kept_section;
 mod laid_out;
@@ -40,6 +43,7 @@ mod writing;
 pub use chart_pieces::Span;
 pub use fault::{ReplayFault, TraceFault};
 pub use heard_summary::write_heard_summary;
+pub use history_names::names_of_history;
 pub use replaying::{replay, replay_as};
 pub use run_options::ReplayPrint;
 pub use writing::write_run_as;

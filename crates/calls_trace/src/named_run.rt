@@ -353,7 +353,10 @@ fn put_given(
 }
 
 /// The names that entries give, by number.
-fn names_given(alloc: Global, entries: &[Entry]) -> Result<IndexMap<u32, String>, NoMemory>
+pub(crate) fn names_given(
+    alloc: Global,
+    entries: &[Entry],
+) -> Result<IndexMap<u32, String>, NoMemory>
     ensures names { IfOk result (λ names. MapGives names (given_by_all entries.now no_names)) }
 {
     let mut names = IndexMap::new(alloc);

@@ -3,7 +3,7 @@
 ghost use Rattle.std.specs.Prelude.{◌≡◌, IfOk, length};
 
 use crate::switches::have_part;
-use crate::workers::{admitted, forever, single_ticks};
+use crate::workers::{admitted, forever};
 use domain_run::{Event, Happened, Log, Logged, NoMemory, State};
 use jump_run::advance_told;
 use std::alloc::Global;

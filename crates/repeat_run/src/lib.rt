@@ -1,8 +1,8 @@
 //! A run that repeats is given again, and not simulated.
 //!
-//! [`Repeating`] gives the switches of such a run. A caller that wants no switches simulates the run
-//! itself: [`Lookout`] says when to look, and [`Sight`] whether the run has come back, and for how
-//! many periods it goes on alike.
+//! [`Repeating`] gives the switches of such a run. A caller that wants no switches simulates the
+//! run itself: [`Lookout`] says when to look, and [`Sight`] whether the run has come back, and for
+//! how many periods it goes on alike.
 #![tactic(auto)]
 
 mod closing;

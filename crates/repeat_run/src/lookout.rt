@@ -4,8 +4,8 @@ use crate::looking::{MOST_LOOKS, begin_watch, look_anew, look_later, passed};
 use crate::phase::Watch;
 use domain_run::State;
 
-/// When to look whether a run repeats. All that it answers is a hint: a caller that follows it finds
-/// most periods soon, and spends little on a run that does not repeat.
+/// When to look whether a run repeats. All that it answers is a hint: a caller that follows it
+/// finds most periods soon, and spends little on a run that does not repeat.
 #[derive(Clone, Copy)]
 pub struct Lookout {
     watch: Watch,

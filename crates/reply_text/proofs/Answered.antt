@@ -7,6 +7,7 @@ use Rattle.std.proofs.lemmas.List.{append-nil}
 use Rattle.domain_run.specs.declared.call.Reply.{Reply}
 use Rattle.domain_run.specs.Domain.{Domain, empty_domain}
 use Rattle.domain_run.specs.Calls.{reply_to, after_call}
+use Rattle.domain_run.specs.Passing.{without_switches}
 use Rattle.domain_run.specs.Run.{replies_to}
 use Rattle.calls_text.specs.declared.section.Entry.{Entry}
 use Rattle.calls_text.specs.SectionView.{SectionView}
@@ -14,14 +15,15 @@ use Rattle.calls_text.specs.Spelling.{domain_line, text_of}
 use Rattle.calls_text.specs.Histories.{calls_of}
 use Rattle.reply_text.specs.Replies.{answered_line, answered_lines, section_replies, replies_of}
 use Rattle.reply_text.specs.private.Recorded.{line_with, recorded_lines}
+use Rattle.reply_text.proofs.Forgetting.{same_lines}
 
 -- one more call was made, and its line put down
-pub made_more : (d then : Domain) (e : Entry) (entries left : List Entry) (out more all : List ℕ) → left ≡ e ∷ entries → then ≡ after_call d e.call → more ≡ out ++ (answered_line e (reply_to d e.call) ++ codes "\n")
+pub made_more : (d then : Domain) (e : Entry) (entries left : List Entry) (out more all : List ℕ) → left ≡ e ∷ entries → without_switches then ≡ without_switches (after_call d e.call) → more ≡ out ++ (answered_line e (reply_to d e.call) ++ codes "\n")
     → out ++ text_of (answered_lines d left) ≡ all → more ++ text_of (answered_lines then entries) ≡ all
 made_more d then e entries left out more all first made put was =
     let line : List ℕ = answered_line e (reply_to d e.call) ++ codes "\n" in
     ap (λ (x : List ℕ). x ++ text_of (answered_lines then entries)) put
-    ∙ ap (λ (x : Domain). (out ++ line) ++ text_of (answered_lines x entries)) made
+    ∙ ap (λ (ls : List (List ℕ)). (out ++ line) ++ text_of ls) (same_lines then (after_call d e.call) entries made)
     ∙ append_assoc out line (text_of (answered_lines (after_call d e.call) entries))
     ∙ sym (ap (λ (es : List Entry). out ++ text_of (answered_lines d es)) first)
     ∙ was

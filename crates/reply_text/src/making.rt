@@ -1,18 +1,20 @@
-//! A call that is made, and its reply.
+//! A call that is made, and its reply. The switches of an advance are forgotten while it is made.
 
-ghost use Rattle.std.specs.Prelude.{◌≡◌, ◌<◌, ◌≤◌, ◌+◌, ◌^◌, OnOk, IfOk};
+ghost use Rattle.std.specs.Prelude.{◌≡◌, ◌<◌, ◌≤◌, ◌+◌, ◌^◌};
 ghost use Rattle.domain_run.specs.declared.call.Call.TheVariants as Call;
 ghost use Rattle.domain_run.specs.Calls.{reply_to, after_call};
+ghost use Rattle.domain_run.specs.Passing.{without_switches};
 ghost use Rattle.domain_run.specs.Tick.{ticks as ticked_by};
 ghost use Rattle.calls_text.specs.Limits.{IsCall};
 
 use attr_check::Params;
-use calls_text::{Call, NoMemory, Reply};
-use domain_run::{Name, Script, State};
+use calls_text::{Call, Reply};
+use domain_run::{Name, Script};
+use repeat_run::Repeating;
 
 /// Admits a task.
 fn admit(
-    state: &mut State,
+    domain: &mut Repeating,
     number: u32,
     name: Name,
     params: Params,
@@ -22,41 +24,46 @@ fn admit(
     requires number { (0 < number) × (number < 65536) }
     requires delay { delay ≤ 1000000000 }
     ensures reply { result
-        ≡ reply_to state.old (Call.Admit number name params delay script) }
-    ensures state { state.new
-        ≡ after_call state.old (Call.Admit number name params delay script) }
+        ≡ reply_to domain.old (Call.Admit number name params delay script) }
+    ensures domain { domain.new
+        ≡ after_call domain.old (Call.Admit number name params delay script) }
 {
-    // Where it is refused, its script never runs.
-    if let Reply::Admitted = state.admit_reply(number, &params) {
+    // If it is refused, its script never runs.
+    if let Reply::Admitted = domain.state().admit_reply(number, &params) {
         script.lay_out();
     }
-    match state.admit(number, name, params, delay, script) {
+    match domain.admit(number, name, params, delay, script) {
         Ok(()) => Reply::Admitted,
         Err(refused) => refused.reply,
     }
 }
 
-/// Makes so many ticks.
-fn advance(state: &mut State, ticks: u64) -> Result<Reply, NoMemory>
-    requires early { state.old.time + ticks ≤ 2 ^ 42 }
-    ensures reply { IfOk result (λ r. r ≡ reply_to state.old (Call.Advance ticks)) }
-    ensures state { OnOk result (state.new ≡ ticked_by ticks state.old) }
-    ensures time { OnOk result (state.new.time ≡ state.old.time + ticks) }
+/// Makes `ticks` ticks, piece by piece. The switches of each piece are forgotten, so they take the
+/// room of one piece, however many ticks are made.
+fn advance(domain: &mut Repeating, ticks: u64) -> Reply
+    requires early { domain.old.time + ticks ≤ 2 ^ 42 }
+    ensures reply { result ≡ reply_to domain.old (Call.Advance ticks) }
+    ensures domain { domain.new ≡ without_switches (ticked_by ticks domain.old) }
+    ensures time { domain.new.time ≡ domain.old.time + ticks }
 {
-    let done = jump_run::advance(state, ticks);
-    if done.ticks < ticks {
-        return Err(NoMemory);
+    domain.forget_switches();
+    let mut left = ticks;
+    'pieces: while left > 0 {
+        left -= domain.advance(left);
+        domain.forget_switches();
     }
-    Ok(Reply::Done { ticks })
+    Reply::Done { ticks }
 }
 
-/// Makes a call. Want of memory for its ticks leaves the state where it came to.
-pub(crate) fn make(state: &mut State, call: Call) -> Result<Reply, NoMemory>
+/// Makes a call. The domain is that after the call, but its switches may be forgotten: no reply
+/// depends on them.
+pub(crate) fn make(domain: &mut Repeating, call: Call) -> Reply
     requires call { IsCall call }
-    requires early { state.old.time + 60000000 ≤ 2 ^ 42 }
-    ensures reply { IfOk result (λ r. r ≡ reply_to state.old call) }
-    ensures state { OnOk result (state.new ≡ after_call state.old call) }
-    ensures time { OnOk result (state.new.time ≤ state.old.time + 60000000) }
+    requires early { domain.old.time + 60000000 ≤ 2 ^ 42 }
+    ensures reply { result ≡ reply_to domain.old call }
+    ensures domain { without_switches domain.new
+        ≡ without_switches (after_call domain.old call) }
+    ensures time { domain.new.time ≤ domain.old.time + 60000000 }
 {
     match call {
         Call::Admit {
@@ -65,23 +72,23 @@ pub(crate) fn make(state: &mut State, call: Call) -> Result<Reply, NoMemory>
             params,
             delay,
             script,
-        } => Ok(admit(state, number, name, params, delay, script)),
-        Call::Advance { ticks } => advance(state, ticks),
+        } => admit(domain, number, name, params, delay, script),
+        Call::Advance { ticks } => advance(domain, ticks),
         Call::Regrade {
             number,
             params,
             word,
-        } => Ok(state.regrade(number, params, word)),
-        Call::Wake { number } => Ok(state.wake(number)),
-        Call::Leave { number } => Ok(state.leave(number)),
-        Call::Limit { limit, word } => Ok(state.set_limit(limit, word)),
-        Call::Depart { number } => Ok(state.depart(number)),
+        } => domain.regrade(number, params, word),
+        Call::Wake { number } => domain.wake(number),
+        Call::Leave { number } => domain.leave(number),
+        Call::Limit { limit, word } => domain.set_limit(limit, word),
+        Call::Depart { number } => domain.depart(number),
         // As an admission without a delay.
         Call::Arrive {
             number,
             name,
             params,
             script,
-        } => Ok(admit(state, number, name, params, 0, script)),
+        } => admit(domain, number, name, params, 0, script),
     }
 }

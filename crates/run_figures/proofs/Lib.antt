@@ -20,3 +20,4 @@ pub mod PeriodPreempted
 pub mod PeriodRan
 pub mod RowsBoth
 pub mod PeriodAgain
+pub mod Chosen

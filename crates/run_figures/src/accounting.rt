@@ -8,6 +8,7 @@ ghost use Rattle.run_figures.specs.Runs.{AreTasks, IsBoundedRun, run_view_of};
 ghost use Rattle.run_figures.specs.private.Keeping as keeping;
 
 mod again;
+mod choosing;
 mod opening;
 
 use crate::figures::Summary;

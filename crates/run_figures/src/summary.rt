@@ -38,7 +38,7 @@ fn all_counts(told: &Told, end: u64) -> Counts
 }
 
 /// The figures of a task, where the run ends at this time.
-fn figures_of(task: &Admitted, told: &Told, ran: &Ran, end: u64) -> TaskFigures
+pub(crate) fn figures_of(task: &Admitted, told: &Told, ran: &Ran, end: u64) -> TaskFigures
     requires room { telling.IsToldWithin (2 ^ 64 - 2) told.now }
     ensures { result ≡ putting.put_task end task.now told.now ran.now }
 {

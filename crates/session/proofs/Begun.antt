@@ -14,7 +14,7 @@ use Rattle.calls_text.specs.SectionView.{SectionView}
 use Rattle.calls_text.specs.Limits.{IsSection}
 use Rattle.call_book.specs.Book.{BookView, EntersAlone, IsBookHistory, IsMember, own_entries, state_of}
 use Rattle.call_book.specs.Ending.{EndingView}
-use Rattle.call_book.specs.Playing.{PlayingView, HasWholeRun, IsSweptBook}
+use Rattle.call_book.specs.Playing.{PlayingView, HasWholeRun}
 use Rattle.session.specs.SessionId.{SessionId, IsSession, IsDomainIndex, cpu_set_of}
 use Rattle.session.specs.Asks.{ClientView, client_pass_in}
 use Rattle.session.specs.Report.{IsHistoryOf, IsSessionReport}
@@ -224,12 +224,12 @@ push_first : (ending : List EndingView) (e : EndingView) (rest : List BookView) 
 push_first [] e rest = refl
 push_first (x ∷ ending) e rest = ap (λ (bs : List BookView). without_pieces x.book ∷ bs) (push_first ending e rest)
 
-pub finished_more : (ending after : List EndingView) (rest left : List PlayingView) (p : PlayingView) (e : EndingView) (total : List BookView) → after ≡ ending ++ e ∷ [] → rest ≡ p ∷ left → IsSweptBook p.book e.book
+pub finished_more : (ending after : List EndingView) (rest left : List PlayingView) (p : PlayingView) (e : EndingView) (total : List BookView) → after ≡ ending ++ e ∷ [] → rest ≡ p ∷ left → without_pieces e.book ≡ without_pieces p.book
     → map without_pieces (books_of ending) ++ map without_pieces (played_books rest) ≡ total → map without_pieces (books_of after) ++ map without_pieces (played_books left) ≡ total
 finished_more ending after rest left p e total after_is rest_is swept sum =
     let rests = map without_pieces (played_books left) in
     ap (λ (es : List EndingView). map without_pieces (books_of es) ++ rests) after_is ∙ push_first ending e rests
-    ∙ ap (λ (b : BookView). map without_pieces (books_of ending) ++ without_pieces b ∷ rests) swept.book
+    ∙ ap (λ (b : BookView). map without_pieces (books_of ending) ++ b ∷ rests) swept
     ∙ ap (λ (ps : List PlayingView). map without_pieces (books_of ending) ++ map without_pieces (played_books ps)) (sym rest_is) ∙ sum
 
 -- the histories that are left are those that were begun

@@ -200,9 +200,9 @@ fn agree_with_all<N: Names>(books: &mut Vec<PlayingBook>, clients: &mut Vec<Clie
 /// Takes each domain out of its lock, makes all room that the rest of the run needs, and lets
 /// client 1 enter an advance of the whole duration, in microseconds, as the last entry of each
 /// book; no call is made where the duration is 0. No tick is made yet. Each pass is compared with
-/// its book. From here on the histories are those of the whole run, and nothing is refused: the
-/// ticks are made by [`PlayingBook::fill`], and then [`finish_end`] ends the session; before they
-/// are made [`shut_end`] may.
+/// its book. From here on the histories are those of the whole run, and nothing is refused:
+/// [`PlayingBook::fill`] makes ticks whose switches are wanted, and [`finish_end`] makes those that
+/// are left and ends the session. [`shut_end`] ends it at any time, whatever is left.
 ///
 /// # Errors
 /// [`EndFault::Full`] where the history of a domain has no room for the advance.
@@ -256,10 +256,18 @@ pub fn begin_end<N: Names>(
     Ok(RunBegun { books, rest })
 }
 
-/// Ends books of which all ticks are made, in their order.
+/// Ends a book; what ticks are left of it are made first, and their switches are not kept.
+fn finish_book(gate: &Gate, mut book: PlayingBook) -> EndingBook
+    requires { book.book.gate ≡ gate.now }
+    ensures { without_pieces result.book ≡ without_pieces book.book }
+{
+    book.make_rest();
+    book.finish(gate)
+}
+
+/// Ends books in their order; what ticks are left of them are made first.
 fn finish_all(gate: &Gate, books: Vec<PlayingBook>, ending: &mut Vec<EndingBook>)
     requires gate { All (λ p. p.book.gate ≡ gate.now) books.items }
-    requires made { AreAllMade books.items }
     requires empty { ending.old.items ≡ [] }
     requires room { length books.items ≤ vec_capacity ending.old }
     ensures { map without_pieces (books_of ending.new.items)
@@ -267,16 +275,16 @@ fn finish_all(gate: &Gate, books: Vec<PlayingBook>, ending: &mut Vec<EndingBook>
 {
     let mut rest = books.into_iter();
     while let Some(book) = rest.next() {
-        ending.push_reserved(book.finish(gate));
+        ending.push_reserved(finish_book(gate, book));
     }
     rest.destroy_empty();
 }
 
-/// Ends a session of which all ticks are made: the tickets of tasks that went off the lists are
-/// given back, and then all books are closed and the pieces go home. It takes no memory.
+/// Ends a session. The ticks that are left of its books are made first, and their switches are not
+/// kept. The tickets of tasks that went off the lists are given back. Then all books are closed and
+/// the pieces go home. It takes no memory.
 pub fn finish_end<N: Names>(alloc: Global, books: Vec<PlayingBook>, rest: UnderWay<N>) -> Report
     requires same { played_books books.items ≡ rest.books }
-    requires made { AreAllMade books.items }
     ensures report { IsSessionReport N.id rest.clients result }
     ensures histories { result.histories.items ≡ map section_of rest.books }
 {

@@ -20,8 +20,8 @@
 //! end of a run" (`specs/RunEnd.antt`) and promises: client 1's advance is the last entry of each
 //! book, and nothing else was entered; or a book had no room for it. [`begin_end`] enters these
 //! advances before their ticks are made, and makes all room for them (`specs/Begun.antt`). After it
-//! nothing is refused: [`finish_end`] ends the session when all ticks are made, and leaves the
-//! histories that were begun.
+//! nothing is refused: [`finish_end`] makes the ticks that are left and ends the session, and
+//! leaves the histories that were begun.
 #![tactic(auto)]
 
 mod admitting;

@@ -11,12 +11,12 @@ loop-entry-preserved c =
     let left = c.pop_front.new.self.items in
     let first : c.loop-entry.left.items ≡ e ∷ left = c.in-Some.ensures.items in
     let long = ap length first in
-    let made = c.in_ok-put_made.ensures in
+    let made = c.put_made.ensures in
     record {
       text = λ whole.
           let put = made.text whole in
           let was = i.text put.0 in
-          (was.0, made_more c.loop-entry.state c.put_made.new.state e left c.loop-entry.left.items c.loop-entry.out.text c.put_made.new.out.text _ first made.state put.1 was.1);
+          (was.0, made_more c.loop-entry.domain c.put_made.new.domain e left c.loop-entry.left.items c.loop-entry.out.text c.put_made.new.out.text _ first made.domain put.1 was.1);
       entries = All-rest IsEntry e left c.loop-entry.left.items first i.entries;
       early = omega (arith, i.early, made.time, long);
     }

@@ -1,5 +1,4 @@
 use Rattle.std.proofs.Common.{ap, ◌∙◌}
-use Rattle.std.proofs.lemmas.Result.{on_ok_weaker}
 use Rattle.domain_run.specs.Domain.{empty_domain}
 use Rattle.calls_text.specs.SectionView.{SectionView}
 use Rattle.draft.proofs.CallerLemmas.{joined3, as_text}
@@ -10,9 +9,7 @@ pub returns : goal.returns
 returns c =
     let s = c.args.section in
     let old = c.args.out.now in
-    let new = c.put_all_made-done.new.out in
-    let domain = c.in_ok-state.ensures ∙ ap (λ (x : SectionView). empty_domain x.cpus x.limit) c.section.view_is in
+    let new = c.put_all_made.new.out in
+    let domain = c.in_ok-domain.ensures ∙ c.in_ok-state.ensures ∙ ap (λ (x : SectionView). empty_domain x.cpus x.limit) c.section.view_is in
     let all = ap (λ (x : SectionView). x.entries) c.section.view_is in
-    on_ok_weaker c.put_all_made-done.result
-    (λ made. as_text old new _ _ (headed s _ (lines_of s c.in_ok-state.state c.section.inside.entries.items domain all)) (joined3 old c.put_domain.new.out c.put.new.self new _ _ _ c.put_domain.ensures c.put.ensures made))
-    c.put_all_made-done.ensures
+    as_text old new _ _ (headed s _ (lines_of s c.in_ok-domain.domain c.section.inside.entries.items domain all)) (joined3 old c.put_domain.new.out c.put.new.self new _ _ _ c.put_domain.ensures c.put.ensures c.put_all_made.ensures)
