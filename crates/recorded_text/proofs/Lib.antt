@@ -1,3 +1,4 @@
+pub mod CallerLemmas
 mod Cutting
 mod Digits
 mod Ending

@@ -92,3 +92,12 @@ bad_line whole rest front left after count found a b h bad =
 pub no_line_from : (text : List ℕ) (r : Option ℕ) → IsFirstByte (is_byte 10) text r → ((i : ℕ) → r ≡ Some i → ⊥) → Lacks 10 text
 no_line_from text None h none = no_line text h
 no_line_from text (Some i) h none = absurd (none i refl)
+
+-- the first line of a text that has one that ends, and the only line of one that has none
+pub first_line : (text : List ℕ) (i : ℕ) → NoneBefore (Passes (is_byte 10) text) 0 (length text) i × Passes (is_byte 10) text i → split_lines text ≡ take i text ∷ split_lines (drop (i + 1) text)
+first_line text i found =
+    let cut = split_line text i found in
+    ap split_lines cut.0 ∙ lines_cut (take i text) (drop (i + 1) text) cut.1
+
+pub only_line : (text : List ℕ) (r : Option ℕ) → IsFirstByte (is_byte 10) text r → ((i : ℕ) → r ≡ Some i → ⊥) → split_lines text ≡ text ∷ []
+only_line text r h none = last_line text (no_line_from text r h none)

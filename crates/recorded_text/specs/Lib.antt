@@ -1,9 +1,12 @@
 pub mod Cuts
 pub mod Line
 pub mod Views
+pub mod Threads
+pub mod EventViews
 pub mod Names
 pub mod Steps
 pub mod Text
 pub mod Reads
 pub mod Examples
+pub mod ThreadExamples
 pub mod private

@@ -3,6 +3,7 @@
 ghost use Rattle.std.specs.Prelude.{◌≡◌, ◌<◌, length};
 ghost use Rattle.std.specs.Option.{option_map};
 ghost use Rattle.recorded_text.specs.Cuts.{first_cut, last_cut, end_trimmed, last_word, cut_front};
+ghost use Rattle.recorded_text.specs.Threads.{start_trimmed, front_word};
 
 use memchr::memmem;
 
@@ -58,5 +59,23 @@ pub(crate) fn rest_behind<'a>(text: &'a [u8], mark: &[u8]) -> Option<&'a [u8]>
         Some(&text[mark.len()..])
     } else {
         None
+    }
+}
+
+/// Without the white space at its start.
+pub(crate) fn trimmed_start(text: &[u8]) -> &[u8]
+    ensures { result.now ≡ start_trimmed text.now }
+{
+    text.trim_ascii_start()
+}
+
+/// What precedes the first space, or all.
+#[tactic(auto, unfolding(crate::specs::Threads::front_word))]
+pub(crate) fn word_at_start(text: &[u8]) -> &[u8]
+    ensures { result.now ≡ front_word text.now }
+{
+    match cut_first(text, b" ") {
+        Some((word, _)) => word,
+        None => trimmed(text),
     }
 }

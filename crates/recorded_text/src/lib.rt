@@ -6,6 +6,7 @@
 #![tactic(auto)]
 
 mod cut;
+mod event;
 mod fault;
 mod line;
 mod names;
@@ -14,6 +15,7 @@ mod reading;
 mod step;
 
 pub use counted_io::Counted;
+pub use event::{Event, Leaver, Thread, Threads, event_in};
 pub use fault::RecordedFault;
 pub use line::{Line, Switch, line_of};
 pub use names::Names;

@@ -53,7 +53,7 @@ fn micros(text: &[u8]) -> Option<u64>
 
 /// A time in microseconds.
 #[tactic(auto, unfolding(crate::specs::Line::time_at))]
-fn time_of(text: &[u8]) -> Option<u64>
+pub(crate) fn time_of(text: &[u8]) -> Option<u64>
     ensures value { result ≡ time_at text.now }
     ensures small { IfSome result (λ t. t < 2 ^ 61) }
 {
@@ -69,7 +69,7 @@ fn time_of(text: &[u8]) -> Option<u64>
 
 /// What stands in brackets.
 #[tactic(auto, unfolding(crate::specs::Line::bracketed_at))]
-fn bracketed(text: &[u8]) -> Option<&[u8]>
+pub(crate) fn bracketed(text: &[u8]) -> Option<&[u8]>
     ensures { option_map (λ r. r.now) result ≡ bracketed_at text.now }
 {
     if text.len() >= 2 && text[0] == b'[' && text[text.len() - 1] == b']' {
@@ -106,7 +106,7 @@ fn last_cpu(front: &[u8]) -> Option<u16>
 
 /// Whether a priority is below 0.
 #[tactic(auto, unfolding(crate::specs::Line::below_at))]
-fn is_below(text: &[u8]) -> Option<bool>
+pub(crate) fn is_below(text: &[u8]) -> Option<bool>
     ensures { result ≡ below_at text.now }
 {
     match rest_behind(text, b"-") {
@@ -169,7 +169,7 @@ fn next_of(tail: &[u8]) -> Option<Option<&[u8]>>
 
 /// What stands before the colon at the end.
 #[tactic(auto, unfolding(crate::specs::Line::without_colon))]
-fn up_to_colon(text: &[u8]) -> Option<&[u8]>
+pub(crate) fn up_to_colon(text: &[u8]) -> Option<&[u8]>
     ensures { option_map (λ r. r.now) result ≡ without_colon text.now }
 {
     let (head, rest) = cut_last(trimmed(text), b":")?;
@@ -179,7 +179,7 @@ fn up_to_colon(text: &[u8]) -> Option<&[u8]>
 /// What stands before the event, and its fields, by the mark of `perf script` or that of ftrace,
 /// whichever comes first.
 #[tactic(auto, unfolding(crate::specs::Line::event_and_rest, crate::specs::Line::by_first_mark))]
-fn event_of(line: &[u8]) -> Option<(&[u8], &[u8])>
+pub(crate) fn event_of(line: &[u8]) -> Option<(&[u8], &[u8])>
     ensures { option_map (λ p. (p.0.now, p.1.now)) result ≡ event_and_rest line.now }
 {
     let by_ftrace = cut_first(line, b": sched_switch: ");

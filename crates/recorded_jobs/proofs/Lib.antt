@@ -1,0 +1,5 @@
+mod Collecting
+mod Groups
+mod Latest
+mod Released
+mod Sums

@@ -1,0 +1,3 @@
+pub mod After
+pub mod Groups
+pub mod Splits

@@ -1,0 +1,3 @@
+mod InTime
+mod LineSteps
+mod Numbers

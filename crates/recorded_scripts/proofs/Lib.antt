@@ -1,0 +1,4 @@
+pub mod CallerLemmas
+mod Lawful
+mod Steps
+mod Within
