@@ -20,7 +20,7 @@ figured_is names d ts us cs es same_tasks same_cpus = ap (λ (xs : List TaskFigu
 
 -- ---- a run that was heard
 
-numbers_are : (given : ℕ → ParamsView) (ns : List ℕ) → map (λ t. t.number) (map (admitted_with_params given) ns) ≡ ns
+pub numbers_are : (given : ℕ → ParamsView) (ns : List ℕ) → map (λ t. t.number) (map (admitted_with_params given) ns) ≡ ns
 numbers_are given [] = refl
 numbers_are given (n ∷ ns) = ap (λ (ms : List ℕ). n ∷ ms) (numbers_are given ns)
 

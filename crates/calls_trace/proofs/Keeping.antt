@@ -83,7 +83,7 @@ names_kept d [] names n there = refl
 names_kept d (c ∷ cs) names n there = names_kept (after_call d c) cs (names_after d c names) n (used_after d c n there) ∙ kept_after d c names n there
 
 -- nor do names depend on the switches that were
-reply_behind : (past : List Switch) (d : Domain) (c : Call) → reply_to (with_past past d) c ≡ reply_to d c
+pub reply_behind : (past : List Switch) (d : Domain) (c : Call) → reply_to (with_past past d) c ≡ reply_to d c
 reply_behind past d (Admit number name params delay script) = refl
 reply_behind past d (Regrade number params word) = refl
 reply_behind past d (Wake number) = refl

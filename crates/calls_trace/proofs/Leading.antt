@@ -1,20 +1,20 @@
 -- The runs under way of the sections that were read so far, and what they lead to.
-use Rattle.std.proofs.Common.{◌≡◌, ℕ, ◌+◌, ◌*◌, ◌^◌, ◌≤◌, List, [], ◌∷◌, ◌++◌, length, map, refl, sym, ap, subst, ◌∙◌, length-append, arith}
-use Rattle.std.specs.Prelude.{All, sum_by}
+use Rattle.std.proofs.Common.{◌≡◌, ℕ, ◌+◌, ◌*◌, ◌^◌, ◌≤◌, List, [], ◌∷◌, ◌++◌, length, map, refl, sym, ap, ◌∙◌, length-append, arith}
+use Rattle.std.specs.Prelude.{sum_by}
 use Rattle.std.specs.List.{AllByRecursion}
 use Rattle.std.proofs.lemmas.List.{map-append, length_push, length-map}
 use Rattle.std.proofs.lemmas.List.Elements.{recursion_from_All}
 use Rattle.std.proofs.lemmas.List.Sums.{sum_by-cons, sum_by_push}
 use Rattle.calls_text.specs.SectionView.{SectionView}
-use Rattle.calls_text.specs.Limits.{IsSection, AreRead}
-use Rattle.switch_text.specs.SlicedTrace.{SlicedView, whole_of, wholes, all_entries}
+use Rattle.calls_text.specs.Limits.{IsSection}
+use Rattle.switch_text.specs.SlicedTrace.{whole_of, wholes, all_entries}
 use Rattle.switch_text.specs.Trace.{SwitchesView, entry_of, entries_of, trace_of}
 use Rattle.calls_trace.specs.declared.playing.Playing.{Playing}
 use Rattle.calls_trace.specs.declared.playing_so_far.PlayingSoFar.{PlayingSoFar}
 use Rattle.calls_trace.specs.Replay.{run_view, runs_from}
 use Rattle.calls_trace.specs.Told.{domain_of}
 use Rattle.calls_trace.specs.private.Playing.{sliced_of}
-use Rattle.calls_trace.specs.private.ReadText.{LeadTo, ArePlayingFor, ArePlaying}
+use Rattle.calls_trace.specs.private.ReadText.{ArePlayingFor, ArePlaying}
 use Rattle.run_options.specs.declared.replay_print.ReplayPrint.TheVariants as prints
 use Rattle.calls_trace.specs.declared.run_text.RunText.TheVariants.{Trace}
 use Rattle.calls_trace.specs.private.RunTexts.{text_of_all}

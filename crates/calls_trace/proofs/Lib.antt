@@ -16,4 +16,6 @@ mod Leading
 mod Replayed
 mod Figured
 mod Recorded
+mod Foretold
+mod HeardCalls
 pub mod CallerLemmas

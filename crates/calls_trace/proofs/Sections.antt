@@ -1,17 +1,11 @@
 -- The calls of a section that are left.
-use Rattle.std.proofs.Common.{◌≡◌, ℕ, Bool, true, false, cond, List, [], ◌∷◌, refl, sym, ap, subst, ◌∙◌}
-use Rattle.std.specs.Prelude.{IsTrue, All}
-use Rattle.std.proofs.lemmas.List.Elements.{All-map}
+use Rattle.std.proofs.Common.{◌≡◌, ℕ, Bool, true, false, cond, List, [], ◌∷◌, refl, sym, ap, ◌∙◌}
+use Rattle.std.specs.Prelude.{IsTrue}
 use Rattle.attr_check.specs.ParamsView.{ParamsView}
 use Rattle.domain_run.specs.declared.call.Call.{Call}
 use Rattle.domain_run.specs.Domain.{Domain}
 use Rattle.domain_run.specs.Calls.{after_call}
 use Rattle.domain_run.specs.Log.{LogView}
-use Rattle.calls_text.specs.declared.section.Entry.{Entry}
-use Rattle.calls_text.specs.SectionView.{SectionView}
-use Rattle.calls_text.specs.Limits.{IsCall, IsSection}
-use Rattle.calls_trace.specs.declared.kept_section.KeptSection.{KeptSection}
-use Rattle.calls_trace.specs.private.Kept.{IsKeptSection}
 use Rattle.calls_trace.specs.Replay.{names_of, names_after}
 use Rattle.calls_trace.specs.Told.{no_params}
 use Rattle.calls_trace.specs.private.Replaying.{heard}

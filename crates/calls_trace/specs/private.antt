@@ -10,3 +10,6 @@ pub mod Playing
 pub mod ReadRuns
 pub mod ReadText
 pub mod Replayed
+pub mod Foreseen
+pub mod Hearing
+pub mod Summed

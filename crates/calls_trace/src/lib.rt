@@ -12,18 +12,22 @@
 //! runs of the sections, each on a domain of its own, and nothing else; each fault means what it
 //! says, and where it is no fault of the writer, nothing was written. A trace goes out while the
 //! runs are made, so their switches are not kept. The calls of each section are kept, from its
-//! first advance on, until all sections are read. For the other texts each call is made as soon as
-//! it is read. [`names_of_history`] gives the names to a caller that makes the run of a history
-//! while it is written (`specs/HistoryNames.antt`). `proofs/CallerLemmas.antt` has laws for
-//! callers: the calls text of histories is read again, and its replay writes the same trace; and
-//! the switches of sections are few enough to be written.
+//! first advance on, until all sections are read. For the summary the calls of a section are read
+//! whole. An accounting hears their run while it is made, and its switches and what happens in it
+//! are not kept. For the other texts each call is made as soon as it is read. [`names_of_history`]
+//! gives the names to a caller that makes the run of a history while it is written
+//! (`specs/HistoryNames.antt`). `proofs/CallerLemmas.antt` has laws for callers: the calls text of
+//! histories is read again, and its replay writes the same trace; and the switches of sections are
+//! few enough to be written.
 #![tactic(auto)]
 
 mod charting;
 mod counted_run;
 mod fault;
 mod figures;
+mod foreseen;
 mod heard_summary;
+mod hearing;
 mod history_names;
 mod kept;
 mod kept_section;
@@ -37,6 +41,8 @@ mod read_text;
 mod replaying;
 mod run_text;
 mod runs_so_far;
+mod summed_run;
+mod summing;
 mod trace;
 mod writing;
 

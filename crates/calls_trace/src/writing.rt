@@ -19,6 +19,7 @@ use crate::figures::{write_jobs_of, write_summary_of, write_whole};
 use crate::placed_run::{PlacedRun, place_runs};
 use crate::read_text::{playing_of_text, runs_of_text};
 use crate::run_text::RunText;
+use crate::summing::{summed_of_text, write_summed};
 use crate::trace::{write_events_of, write_played, write_trace_of};
 use calls_text::{Section, read_calls};
 use domain_run::{Log, State};
@@ -85,6 +86,23 @@ fn write_read_trace<W: Write>(
     Ok(write_played(alloc, playing, writer)?)
 }
 
+/// Makes the calls of a text, and writes the figures of their runs, which are heard while they are
+/// made.
+fn write_read_summary<W: Write>(
+    alloc: Global,
+    text: &[u8],
+    writer: &mut Counted<W>,
+) -> Result<(), ReplayFault>
+    requires faults { faults_of writer.old < 2 ^ 63 }
+    ensures ok { OnOk result
+        (IsReplayed text.now (text_of_all texts.Summary) (side W.contents writer.old writer.new)) }
+    ensures err { IfErr result (IsUnreplayed text.now (text_of_all texts.Summary)
+        (side W.contents writer.old writer.new)) }
+{
+    let runs = summed_of_text(alloc, text)?;
+    Ok(write_summed(alloc, &runs, writer)?)
+}
+
 /// Makes the calls of a text, and writes a text of their runs.
 pub(crate) fn write_run_text<W: Write>(
     alloc: Global,
@@ -100,6 +118,7 @@ pub(crate) fn write_run_text<W: Write>(
 {
     match kind {
         RunText::Trace => write_read_trace(alloc, text, writer),
+        RunText::Summary => write_read_summary(alloc, text, writer),
         _ => write_read_runs(alloc, kind, text, writer),
     }
 }

@@ -4,6 +4,7 @@
 mod crowds;
 mod runs;
 mod sides;
+mod summed;
 
 const THROTTLED: &[u8] =
     b"dlcalls 1\ndomain 1 1048576\nadmit 1 1 a 2 5 5 - 0 1:1{r4}\nadvance 1 11\n";

@@ -4,8 +4,7 @@ use Rattle.domain_run.specs.declared.call.Call.{Call}
 use Rattle.domain_run.specs.declared.call.Call.TheVariants.{Admit, Regrade, Wake, Leave, Advance, Limit, Depart, Arrive}
 use Rattle.domain_run.specs.Run.{after_calls}
 use Rattle.calls_text.specs.SectionView.{SectionView}
-use Rattle.calls_text.specs.Spelling.{spelling}
-use Rattle.calls_text.specs.Limits.{IsCall, IsSection, AreRead}
+use Rattle.calls_text.specs.Limits.{IsCall, IsSection}
 use Rattle.calls_text.specs.Reader.{ReaderView, IsBehind, IsWithin}
 use Rattle.switch_text.specs.Names.{name_of_task}
 use Rattle.calls_trace.specs.Replay.{names_of}

@@ -1,6 +1,5 @@
-use Rattle.std.proofs.Common.{ℕ, List, [], refl, sym}
+use Rattle.std.proofs.Common.{refl, sym}
 use Rattle.std.proofs.lemmas.Result.{IfOk-weaker}
-use Rattle.calls_text.specs.SectionView.{SectionView}
 use Rattle.switch_text.specs.Names.{Names}
 use Rattle.calls_trace.specs.HistoryNames.{AreNamesOf}
 use Rattle.calls_trace.specs.Replay.{no_names}

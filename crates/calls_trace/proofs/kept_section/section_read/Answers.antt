@@ -1,8 +1,8 @@
-use Rattle.std.proofs.Common.{◌≡◌, ℕ, length, true, false, [], ◌∷◌, List, Option, Ok, refl, sym, ap, subst, ◌∙◌, arith, length-append}
+use Rattle.std.proofs.Common.{◌≡◌, length, true, false, [], ◌∷◌, List, Option, Ok, refl, sym, ap, subst, ◌∙◌, arith, length-append}
 use Rattle.std.specs.Prelude.{All, IfSome}
 use Rattle.std.proofs.lemmas.List.Elements.{All-nil}
 use Rattle.domain_run.specs.declared.call.Call.{Call}
-use Rattle.domain_run.specs.Domain.{Domain, empty_domain}
+use Rattle.domain_run.specs.Domain.{Domain}
 use Rattle.domain_run.specs.Run.{after_calls}
 use Rattle.domain_run.specs.Sound.{IsAdmitted}
 use Rattle.calls_text.specs.Limits.{IsCall}
@@ -11,8 +11,7 @@ use Rattle.calls_text.specs.KeptCall.{IsNextCall, IsNextKept, call_kept}
 use Rattle.calls_text.specs.declared.kept_call.Kept.{Kept}
 use Rattle.calls_text.proofs.CallerLemmas.{section_within}
 use Rattle.switch_text.specs.Names.{name_of_task}
-use Rattle.calls_trace.specs.declared.kept_section.KeptSection.{KeptSection}
-use Rattle.calls_trace.specs.Replay.{names_of, no_names}
+use Rattle.calls_trace.specs.Replay.{names_of}
 use Rattle.calls_trace.specs.private.Kept.{KeepsCalls, IsOneMore}
 use Rattle.calls_trace.proofs.Starting.{made_more}
 use Rattle.calls_trace.proofs.kept_section.section_read.Goals as goal
