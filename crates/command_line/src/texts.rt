@@ -104,9 +104,9 @@ How many clients admit the tasks, 1 to 64, each in a thread of its own: the
 tasks 1, 2, .. go round them. Who is refused may depend on who came first";
 
 pub(crate) const WORKERS_HELP: &str = "\
-How many worker threads may compute each domain, 1 to 8; the trace is the
-same for any number. One is started only where it pays, which takes thousands
-of tasks that run at once";
+How many domains are simulated side by side while a trace is written, each in
+a thread of its own, 1 to 8; the trace is the same for any number. The other
+texts are made in one thread";
 
 pub(crate) const RECLAIM_HELP: &str = "\
 Every task reclaims unused bandwidth (GRUB, SCHED_FLAG_RECLAIM); without it

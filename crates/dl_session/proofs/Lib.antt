@@ -15,5 +15,7 @@ pub mod Numbering
 pub mod OfTasks
 pub mod Rows
 pub mod KeptPromises
+pub mod Answering
+pub mod PlayedRuns
 pub mod Ran
 pub mod Endings

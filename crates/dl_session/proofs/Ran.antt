@@ -1,7 +1,6 @@
 -- What a run answers, from what its parts answered.
 use Rattle.std.proofs.Common.{◌≡◌, ◌≢◌, ℕ, ◌<◌, arith, List, [], Option, Some, None, length, map, get_or, refl, sym, ap, subst, ◌∙◌}
-use Rattle.std.proofs.lemmas.List.Elements.{All-nil}
-use Rattle.std.specs.Io.KnownBytes.{Appends, Keeps}
+use Rattle.std.specs.Io.KnownBytes.{Keeps}
 use Rattle.json_order.specs.Json.{Json}
 use Rattle.json_order.specs.Fault as json
 use Rattle.json_order.specs.declared.fault.JsonFault.{JsonFault}
@@ -12,19 +11,13 @@ use Rattle.rtapp_scenario.specs.Told as profile
 use Rattle.rtapp_scenario.specs.declared.fault.ScenarioFault.{ScenarioFault}
 use Rattle.rtapp_scenario.specs.declared.fault.ScenarioFault.TheVariants as scenario_faults
 use Rattle.calls_text.specs.SectionView.{SectionView}
-use Rattle.call_book.specs.Book.{own_entries}
 use Rattle.counted_io.specs.Sides.{HasNoFault}
-use Rattle.counted_io.specs.Faults.{TakesFront}
 use Rattle.dl_session.specs.declared.fault.SessionFault.{SessionFault}
 use Rattle.dl_session.specs.declared.fault.SessionFault.TheVariants as faults
 use Rattle.run_options.specs.declared.options.Options.{Options}
 use Rattle.session.specs.declared.refusal.Refusal.{Refusal}
 use Rattle.session.specs.declared.report.Report.{Report}
-use Rattle.session.specs.declared.report.Finished.{Finished}
-use Rattle.session.specs.declared.report.Wanted.{Wanted}
 use Rattle.session.specs.SessionId.{SessionId, IsDomainIndex}
-use Rattle.session.specs.Asks.{ClientView, client_pass_in}
-use Rattle.session.specs.Admissions.{AreNew, AllAsked}
 use Rattle.session.specs.Report.{IsHistoryOf}
 use Rattle.run_options.specs.Options.{AreOptions}
 use Rattle.session.specs.Options.{IsSessionOf}
@@ -35,19 +28,12 @@ use Rattle.run_options.specs.declared.options.Print.{Print}
 use Rattle.run_options.specs.declared.options.Print.TheVariants as prints
 use Rattle.deadline_promise.specs.Answer.{IsPromiseKept}
 use Rattle.dl_session.specs.RunAnswer.{IsJson, IsScenario, with_reclaim, advance_for, IsRun, IsTextOfRun, IsRunAnswer, IsRunFault}
-use Rattle.dl_session.specs.private.Printing.{IsMadeText, IsWrittenAs, IsUnwrittenAs}
-use Rattle.calls_trace.specs.declared.fault.TraceFault.{TraceFault}
-use Rattle.calls_trace.specs.declared.fault.TraceFault.TheVariants as traces
-use Rattle.session.specs.RunEnd.{FirstIsOne, IsFinished, IsFullWith, IsRunStopped}
-use Rattle.session.specs.declared.fault.EndFault.{EndFault}
-use Rattle.session.specs.declared.fault.EndFault.TheVariants as ends
-use Rattle.dl_session.specs.Upward.{of_end, from_trace}
-use Rattle.dl_session.specs.private.Running.{IsJsonTold, IsScenarioTold, IsRan, IsOrMemory, IsHalted}
-use Rattle.dl_session.proofs.ScenarioLaw.{answers_all, answers_tasks}
+use Rattle.dl_session.specs.private.Printing.{IsMadeText}
+use Rattle.dl_session.specs.private.Running.{IsJsonTold, IsScenarioTold, IsOrMemory}
+use Rattle.dl_session.specs.private.Asked.{AnswerTasks, IsRunWritten, IsRunUnwritten}
 use Rattle.dl_session.proofs.OrderLaw.{in_order}
 use Rattle.dl_session.proofs.Numbering.{AreFrom, scenario_from}
 use Rattle.dl_session.proofs.KeptPromises.{promised}
-use Rattle.dl_session.proofs.Logged.{left_as}
 use Rattle.calls_trace.proofs.CallerLemmas.{read_again, same_trace}
 use Rattle.session.proofs.CallerLemmas.{length_sets}
 
@@ -84,99 +70,37 @@ keeps_itself (Some xs) = refl
 
 -- ---- the run
 
--- a history, whoever asks for its entries
-by_nobody : (id : SessionId) (d : ℕ) (cs : List ClientView) (h : SectionView) → IsHistoryOf id d cs h → IsHistoryOf id d [] h
-by_nobody id d cs h is = record {
-  cpus = is.cpus;
-  limit = is.limit;
-  legal = is.legal;
-  numbered = is.numbered;
-  members = is.members;
-  spelled = is.spelled;
-  own = All-nil (λ (c : ClientView). client_pass_in c d ≡ own_entries c.number h.entries);
-}
+abbrev pub ran_answers : (o : Options) (scenario : ScenarioView) (duration advance : ℕ) (given tasks : List TaskSpecView) (id : SessionId) (hs : List SectionView) (refused : List (ℕ × Refusal))
+    → record { duration_us = duration; tasks = given } ≡ scenario → advance ≡ advance_for o.print duration → tasks ≡ map (with_reclaim o.reclaim) given → IsSessionOf o id → AnswerTasks id tasks advance hs refused
+    → AnswersScenario id o.clients (map (with_reclaim o.reclaim) scenario.tasks) (advance_for o.print scenario.duration_us) (map (λ h. h.entries) hs) refused
+ran_answers o scenario duration advance given tasks id histories refused view far same session ran =
+    let hs = map (λ h. h.entries) histories in
+    subst (λ (x : ScenarioView). AnswersScenario id o.clients (map (with_reclaim o.reclaim) x.tasks) (advance_for o.print x.duration_us) hs refused) view
+    (subst (λ (ts : List TaskSpecView). AnswersScenario id o.clients ts (advance_for o.print duration) hs refused) same
+    (subst (λ (n : ℕ). AnswersScenario id n tasks (advance_for o.print duration) hs refused) session.clients
+    (subst (λ (n : ℕ). AnswersScenario id id.clients tasks n hs refused) far ran.answers)))
 
--- the first client has the number 1
-pub first_is : (id : SessionId) (tasks : List TaskSpecView) (cs es : List ClientView) (refused : List (ℕ × Refusal))
-    → 0 < length cs → AreNew id cs → AllAsked id tasks cs es refused → FirstIsOne es
-first_is id tasks cs es refused some new asked x = (asked.each 0 x some).made.number ∙ (new.each 0 x some).numbered
-
--- what the parts of a run left, with the refusals in the report
-pub is_ran : (id : SessionId) (tasks : List TaskSpecView) (duration : ℕ) (wanted : Wanted) (cs es : List ClientView) (r s : Report) (f g : Finished)
-    → 0 < id.clients → AreNew id cs → AllAsked id tasks cs es s.refused.items → IsFinished id duration wanted es f
-    → r ≡ f.report → s.histories ≡ r.histories → s.words ≡ r.words → s.caps ≡ r.caps → s.home ≡ r.home → g.report ≡ s → g.states ≡ f.states → g.logs ≡ f.logs → g.heard ≡ f.heard
-    → IsRan id tasks duration wanted g
-is_ran id tasks duration wanted cs es r s f g some new asked finished is histories words caps home report states logs heard =
-    let left = finished.report.left in
-    let same_h : g.report.histories ≡ f.report.histories = ap (λ (x : Report). x.histories) report ∙ histories ∙ ap (λ (x : Report). x.histories) is in
-    let same_w : g.report.words ≡ f.report.words = ap (λ (x : Report). x.words) report ∙ words ∙ ap (λ (x : Report). x.words) is in
-    let same_c : g.report.caps ≡ f.report.caps = ap (λ (x : Report). x.caps) report ∙ caps ∙ ap (λ (x : Report). x.caps) is in
-    let same_o : g.report.home ≡ f.report.home = ap (λ (x : Report). x.home) report ∙ home ∙ ap (λ (x : Report). x.home) is in
-    let same_r : g.report.refused ≡ s.refused = ap (λ (x : Report). x.refused) report in
-    let anyone : (d : ℕ) (x : SectionView) → IsDomainIndex id d → IsHistoryOf id d [] (get_or f.report.histories.items d x) = λ d x place. by_nobody id d finished.after _ (left.histories d x place) in
-    let answers = answers_all id tasks duration cs es finished.after s.refused.items f.report.histories.items some new asked finished.advanced left.count left.histories finished.ends in
-    record {
-      left = record {
-        count = rw same_h left.count;
-        histories = rw same_h anyone;
-        words = rw same_w left.words;
-        room = rw (same_h, same_w) left.room;
-        caps = rw same_c left.caps;
-        a_cap = rw same_c left.a_cap;
-        capped = rw (same_w, same_c) left.capped;
-        exact = rw (same_h, same_w, same_o) left.exact;
-      };
-      answers = rw (same_h, same_r) answers;
-      count = rw (same_h, states) (finished.count ∙ sym left.count);
-      runs = rw (same_h, states, logs, heard) (left_as id id.clients tasks duration wanted f s.refused.items left.count anyone answers finished.left);
-    }
-
--- the domain that was full, once the tasks were asked
-pub full_domain : (id : SessionId) (tasks : List TaskSpecView) (duration : ℕ) (cs es : List ClientView) (refused : List (ℕ × Refusal))
-    → 0 < id.clients → AreNew id cs → AllAsked id tasks cs es refused → IsFullWith id duration es → (0 < duration) × IsFullDomain id id.clients tasks
-full_domain id tasks duration cs es refused some new asked met = (
-  met.advances,
-  record {
-    domain = met.domain;
-    place = met.place;
-    history = met.history;
-    legal = by_nobody id met.domain es met.history met.legal;
-    answers = answers_tasks id tasks cs es refused met.domain met.history some new asked met.place met.legal;
-    full = met.full;
-  },
-)
-
-abbrev pub ran_answers : (o : Options) (scenario : ScenarioView) (duration advance : ℕ) (wanted : Wanted) (given tasks : List TaskSpecView) (id : SessionId) (f : Finished)
-    → record { duration_us = duration; tasks = given } ≡ scenario → advance ≡ advance_for o.print duration → tasks ≡ map (with_reclaim o.reclaim) given → IsSessionOf o id → IsRan id tasks advance wanted f
-    → AnswersScenario id o.clients (map (with_reclaim o.reclaim) scenario.tasks) (advance_for o.print scenario.duration_us) (map (λ h. h.entries) f.report.histories.items) f.report.refused.items
-ran_answers o scenario duration advance wanted given tasks id f view far same session ran =
-    let hs = map (λ h. h.entries) f.report.histories.items in
-    subst (λ (x : ScenarioView). AnswersScenario id o.clients (map (with_reclaim o.reclaim) x.tasks) (advance_for o.print x.duration_us) hs f.report.refused.items) view
-    (subst (λ (ts : List TaskSpecView). AnswersScenario id o.clients ts (advance_for o.print duration) hs f.report.refused.items) same
-    (subst (λ (n : ℕ). AnswersScenario id n tasks (advance_for o.print duration) hs f.report.refused.items) session.clients
-    (subst (λ (n : ℕ). AnswersScenario id id.clients tasks n hs f.report.refused.items) far ran.answers)))
-
-abbrev pub is_run : (s : Streams) (o : Options) (scenario : ScenarioView) (duration advance : ℕ) (wanted : Wanted) (given tasks : List TaskSpecView) (id : SessionId) (f : Finished)
+abbrev pub is_run : (s : Streams) (o : Options) (scenario : ScenarioView) (duration advance : ℕ) (given tasks : List TaskSpecView) (id : SessionId) (hs : List SectionView) (refused : List (ℕ × Refusal))
     → AreOptions o → IsScenario s scenario → record { duration_us = duration; tasks = given } ≡ scenario → advance ≡ advance_for o.print duration → tasks ≡ map (with_reclaim o.reclaim) given → IsSessionOf o id
-    → IsRan id tasks advance wanted f
-    → IsRun s o f.report.histories.items f.report.refused.items
-is_run s o scenario duration advance wanted given tasks id f options input view far same session ran = record {
+    → AnswerTasks id tasks advance hs refused
+    → IsRun s o hs refused
+is_run s o scenario duration advance given tasks id hs refused options input view far same session ran = record {
   scenario = scenario;
   input = input;
   id = id;
   session = session;
-  count = ran.left.count;
-  legal = ran.left.histories;
+  count = ran.count;
+  legal = ran.legal;
   replayed = record {
     read =
-        let count = ran.left.count in
+        let count = ran.count in
         let domains = ap length session.cpu_sets ∙ length_sets 0 o.domains.items in
-        read_again f.report.histories.items (omega (arith, options.some_domains, domains, count)) (omega (arith, options.few_domains, domains, count)) (λ d x inside. (ran.left.histories d x (omega (arith, inside, count))).spelled);
-    same = same_trace f.report.histories.items;
+        read_again hs (omega (arith, options.some_domains, domains, count)) (omega (arith, options.few_domains, domains, count)) (λ d x inside. (ran.legal d x (omega (arith, inside, count))).spelled);
+    same = same_trace hs;
   };
-  answers = ran_answers o scenario duration advance wanted given tasks id f view far same session ran;
-  in_order = in_order id o.clients (map (with_reclaim o.reclaim) scenario.tasks) (advance_for o.print scenario.duration_us) f.report.histories.items f.report.refused.items options.a_client ran.left.count ran.left.histories
-      (ran_answers o scenario duration advance wanted given tasks id f view far same session ran);
+  answers = ran_answers o scenario duration advance given tasks id hs refused view far same session ran;
+  in_order = in_order id o.clients (map (with_reclaim o.reclaim) scenario.tasks) (advance_for o.print scenario.duration_us) hs refused options.a_client ran.count ran.legal
+      (ran_answers o scenario duration advance given tasks id hs refused view far same session ran);
 }
 
 -- ---- what is written of it
@@ -206,66 +130,55 @@ pub tasks_as : (o : Options) (scenario : ScenarioView) (duration : ℕ) (given t
 tasks_as o scenario duration given tasks view same = same ∙ ap (λ (x : ScenarioView). map (with_reclaim o.reclaim) x.tasks) view
 
 -- the text of the run was written
-pub run_answered : (s : Streams) (o : Options) (scenario : ScenarioView) (duration advance : ℕ) (wanted : Wanted) (given tasks : List TaskSpecView) (id : SessionId) (f : Finished) (histories : List SectionView)
+pub run_answered : (s : Streams) (o : Options) (scenario : ScenarioView) (duration advance : ℕ) (given tasks : List TaskSpecView) (id : SessionId) (r : Report)
     → IsPromiseKept → AreOptions o → IsScenario s scenario → record { duration_us = duration; tasks = given } ≡ scenario → advance ≡ advance_for o.print duration → tasks ≡ map (with_reclaim o.reclaim) given → IsSessionOf o id
-    → IsRan id tasks advance wanted f → histories ≡ f.report.histories.items → HasNoFault s.reader → IsWrittenAs (IsMadeText o.print tasks histories) s.writer → IsRunAnswer s o f.report
-run_answered s o scenario duration advance wanted given tasks id f histories kept options input view far same session ran written_are reads written =
-    let run = is_run s o scenario duration advance wanted given tasks id f options input view far same session ran in
+    → HasNoFault s.reader → IsRunWritten id tasks advance o.print s.writer r → IsRunAnswer s o r
+run_answered s o scenario duration advance given tasks id r kept options input view far same session reads ran =
+    let run = is_run s o scenario duration advance given tasks id r.histories.items r.refused.items options input view far same session ran.run in
     record {
       run = run;
       left = ran.left;
-      text = written.text;
-      printed = run_printed s o f.report.histories.items f.report.refused.items run tasks histories written.text kept (tasks_as o scenario duration given tasks view same) written_are written.said;
-      written = written.written.taken;
+      text = ran.written.text;
+      printed = run_printed s o r.histories.items r.refused.items run tasks r.histories.items ran.written.text kept (tasks_as o scenario duration given tasks view same) refl ran.written.said;
+      written = ran.written.written.taken;
       reads = reads;
-      writes = written.written.writes;
+      writes = ran.written.written.writes;
     }
 
--- the last step found a fault
-pub run_faulted : (s : Streams) (o : Options) (histories written : List SectionView) (refused : List (ℕ × Refusal)) (tasks : List TaskSpecView) (e : TraceFault) (run : IsRun s o histories refused)
-    → IsPromiseKept → tasks ≡ map (with_reclaim o.reclaim) run.scenario.tasks → written ≡ histories → HasNoFault s.reader → IsUnwrittenAs (IsMadeText o.print tasks written) s.writer e → IsRunFault s o (from_trace e)
-run_faulted s o histories written refused tasks (traces.Write n) run kept same_tasks same reads unwritten = record {
-  histories = histories;
-  refused = refused;
-  run = run;
-  text = unwritten.text;
-  printed = run_printed s o histories refused run tasks written unwritten.text kept same_tasks same unwritten.said;
-  taken = unwritten.cut.taken;
-  reads = reads;
-  writes = unwritten.cut.writes;
-}
-run_faulted s o histories written refused tasks traces.Memory run kept same_tasks same reads unwritten = record { unwritten = unwritten.kept; reads = reads; writes = unwritten.no_fault }
-
--- why the end was not made, as a run tells it
-pub halted : (P Q : Type 0) (e : EndFault) (f : SessionFault) → (P → Q) → IsRunStopped P e → f ≡ of_end e → IsHalted Q f
-halted P Q ends.Full f make met is = subst (IsHalted Q) (sym is) (make met)
-halted P Q ends.Memory f make met is = subst (IsHalted Q) (sym is) tt
-
--- a client's thread was not started, or a run had no room for an advance, or no memory
-pub run_halted : (s : Streams) (o : Options) (scenario : ScenarioView) (duration advance : ℕ) (given tasks : List TaskSpecView)
-    (id : SessionId) (e : SessionFault) → IsScenario s scenario → record { duration_us = duration; tasks = given } ≡ scenario
-    → advance ≡ advance_for o.print duration → tasks ≡ map (with_reclaim o.reclaim) given → IsSessionOf o id → NothingWritten s → HasNoFault s.reader → HasNoFault s.writer
-    → IsHalted ((0 < advance) × IsFullDomain id id.clients tasks) e → IsRunFault s o e
-run_halted s o scenario duration advance given tasks id faults.Start input view far same session unwritten reads writes met =
-    record { scenario = scenario; input = input; unwritten = unwritten; reads = reads; writes = writes }
-run_halted s o scenario duration advance given tasks id faults.Memory input view far same session unwritten reads writes met =
-    record { unwritten = unwritten; reads = reads; writes = writes }
-run_halted s o scenario duration advance given tasks id faults.Full input view far same session unwritten reads writes met = record {
+-- or it was not
+pub run_unanswered : (s : Streams) (o : Options) (scenario : ScenarioView) (duration advance : ℕ) (given tasks : List TaskSpecView) (id : SessionId) (e : SessionFault)
+    → IsPromiseKept → AreOptions o → IsScenario s scenario → record { duration_us = duration; tasks = given } ≡ scenario → advance ≡ advance_for o.print duration → tasks ≡ map (with_reclaim o.reclaim) given → IsSessionOf o id
+    → HasNoFault s.reader → IsRunUnwritten id tasks advance o.print s.writer e → IsRunFault s o e
+run_unanswered s o scenario duration advance given tasks id (faults.Write n) kept options input view far same session reads met =
+    let run = is_run s o scenario duration advance given tasks id met.histories met.refused options input view far same session met.run in
+    record {
+      histories = met.histories;
+      refused = met.refused;
+      run = run;
+      text = met.cut.text;
+      printed = run_printed s o met.histories met.refused run tasks met.histories met.cut.text kept (tasks_as o scenario duration given tasks view same) refl met.cut.said;
+      taken = met.cut.cut.taken;
+      reads = reads;
+      writes = met.cut.cut.writes;
+    }
+run_unanswered s o scenario duration advance given tasks id faults.Start kept options input view far same session reads met =
+    record { scenario = scenario; input = input; unwritten = met.kept; reads = reads; writes = met.no_fault }
+run_unanswered s o scenario duration advance given tasks id faults.Memory kept options input view far same session reads met = record { unwritten = met.kept; reads = reads; writes = met.no_fault }
+run_unanswered s o scenario duration advance given tasks id faults.Full kept options input view far same session reads met = record {
   scenario = scenario;
   input = input;
-  advances = subst (λ (x : ScenarioView). 0 < advance_for o.print x.duration_us) view (subst (λ (n : ℕ). 0 < n) far met.0);
+  advances = subst (λ (x : ScenarioView). 0 < advance_for o.print x.duration_us) view (subst (λ (n : ℕ). 0 < n) far met.1);
   id = id;
   session = session;
   full =
       subst (λ (x : ScenarioView). IsFullDomain id o.clients (map (with_reclaim o.reclaim) x.tasks)) view
       (subst (λ (ts : List TaskSpecView). IsFullDomain id o.clients ts) same
-      (subst (λ (n : ℕ). IsFullDomain id n tasks) session.clients met.1));
-  unwritten = unwritten;
+      (subst (λ (n : ℕ). IsFullDomain id n tasks) session.clients met.2));
+  unwritten = met.0.kept;
   reads = reads;
-  writes = writes;
+  writes = met.0.no_fault;
 }
-run_halted s o scenario duration advance given tasks id (faults.Json f) input view far same session unwritten reads writes met = absurd met
-run_halted s o scenario duration advance given tasks id (faults.Scenario f) input view far same session unwritten reads writes met = absurd met
-run_halted s o scenario duration advance given tasks id (faults.Calls n) input view far same session unwritten reads writes met = absurd met
-run_halted s o scenario duration advance given tasks id faults.Read input view far same session unwritten reads writes met = absurd met
-run_halted s o scenario duration advance given tasks id (faults.Write n) input view far same session unwritten reads writes met = absurd met
+run_unanswered s o scenario duration advance given tasks id (faults.Json f) kept options input view far same session reads met = absurd met
+run_unanswered s o scenario duration advance given tasks id (faults.Scenario f) kept options input view far same session reads met = absurd met
+run_unanswered s o scenario duration advance given tasks id (faults.Calls n) kept options input view far same session reads met = absurd met
+run_unanswered s o scenario duration advance given tasks id faults.Read kept options input view far same session reads met = absurd met

@@ -1,2 +1,6 @@
 pub mod Running
 pub mod Printing
+pub mod Named
+pub mod PlayedBooks
+pub mod Telling
+pub mod Asked

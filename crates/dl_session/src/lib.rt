@@ -25,14 +25,19 @@
 #![tactic(auto)]
 
 mod admitting;
+mod asked;
 mod comparing;
 mod ending;
 mod fault;
+mod played;
+mod played_books;
 mod printing;
 mod promising;
 mod putting;
 mod replaying;
 mod running;
+mod streaming;
+mod telling;
 
 pub use admitting::admit_all;
 pub use calls_trace::{ReplayPrint, Span};

@@ -2,15 +2,14 @@
 
 ghost use Rattle.std.specs.Prelude.{◌≡◌, ◌<◌, ◌≤◌, ◌^◌, All, OnOk, IfErr, length};
 ghost use Rattle.calls_text.specs.Limits.{IsSection};
-ghost use Rattle.calls_text.specs.Spelling.{spelling};
 ghost use Rattle.calls_text.specs.Histories.{AreLegal};
 ghost use Rattle.counted_io.specs.Sides.{faults_of, side};
-ghost use Rattle.calls_trace.specs.Written.{IsWritten, IsUnwritten};
 ghost use Rattle.dl_session.specs.private.Printing as printing;
 ghost use Rattle.dl_session.specs.private.Running.{AreLeftAs};
 
 use crate::promising::write_promises;
-use call_book::{Section, write_calls};
+use crate::telling::{Telling, write_histories};
+use call_book::Section;
 use calls_trace::{ReplayPrint, TraceFault, write_heard_summary, write_run_as};
 use domain_run::{Log, State};
 use rtapp_scenario::TaskSpec;
@@ -18,7 +17,7 @@ use run_figures::Accounting;
 use session::{Print, Wanted};
 use std::alloc::Global;
 use std::io::Write;
-use switch_text::{Counted, write_text};
+use switch_text::Counted;
 
 /// What is wanted of a run whose text is this.
 pub(crate) fn wanted_for(print: Print) -> Wanted
@@ -59,29 +58,6 @@ fn source_of(print: Print) -> Source
     }
 }
 
-/// Writes the calls text of histories, in one piece.
-fn write_histories<W: Write>(
-    alloc: Global,
-    histories: &[Section],
-    writer: &mut Counted<W>,
-) -> Result<(), TraceFault>
-    requires { faults_of writer.old < 2 ^ 63 }
-    ensures ok { OnOk result
-        (IsWritten (side W.contents writer.old writer.new) (spelling histories.now)) }
-    ensures err { IfErr result
-        (IsUnwritten (side W.contents writer.old writer.new) (spelling histories.now)) }
-{
-    let Ok(text) = write_calls(alloc, histories) else {
-        return Err(TraceFault::Memory);
-    };
-    match write_text(&text, writer) {
-        Ok(()) => Ok(()),
-        Err(fault) => Err(TraceFault::Write {
-            written: fault.written,
-        }),
-    }
-}
-
 /// Writes the text of histories that led to these states, with what happened in them as these logs
 /// have it, where that is printed; where their figures are, as they were heard, and the states may
 /// have forgotten their switches; or what is promised of the tasks in these states. Nothing is run
@@ -115,7 +91,7 @@ pub(crate) fn write_run<W: Write>(
         (side W.contents writer.old writer.new)) }
 {
     match source_of(print) {
-        Source::Histories => write_histories(alloc, histories, writer),
+        Source::Histories => write_histories(alloc, Telling::Calls, histories, writer),
         Source::Heard => write_heard_summary(alloc, histories, &states, heard, writer),
         Source::Tasks => write_promises(alloc, &states, tasks, writer),
         Source::Logs(text) => write_run_as(alloc, text, histories, states, logs, writer),

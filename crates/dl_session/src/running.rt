@@ -1,26 +1,24 @@
 //! From bytes to bytes: a scenario in, a text of its run out.
 
-ghost use Rattle.std.specs.Prelude.{◌≡◌, ◌<◌, ◌≤◌, ◌^◌, true, map, replicate, IfOk, IfErr, OnOk};
+ghost use Rattle.std.specs.Prelude.{◌≡◌, ◌<◌, ◌≤◌, ◌^◌, map, IfOk, IfErr, OnOk};
 ghost use Rattle.counted_io.specs.Sides.{Side, HasNoFault, faults_of, side};
 ghost use Rattle.run_options.specs.declared.options.Options.{Options as OptionsView};
 ghost use Rattle.run_options.specs.Options.{AreOptions};
-ghost use Rattle.session.specs.Admissions.{AreNew};
 ghost use Rattle.calls_trace.specs.Answer.{streams, NothingWritten};
-ghost use Rattle.dl_session.specs.FullBook.{IsFullDomain};
 ghost use Rattle.dl_session.specs.RunAnswer as answers;
 ghost use Rattle.dl_session.specs.RunAnswer.{with_reclaim, IsScenario, IsRunAnswer, IsRunFault};
-ghost use Rattle.dl_session.specs.private.Running.{IsJsonTold, IsScenarioTold, IsRan, IsHalted};
+ghost use Rattle.dl_session.specs.private.Asked.{HaveAsked, IsRunWritten, IsRunUnwritten};
+ghost use Rattle.dl_session.specs.private.Running.{IsJsonTold, IsScenarioTold};
 
-use crate::admitting::admit_all;
+use crate::asked::{Asked, ask_in};
 use crate::fault::SessionFault;
 use crate::printing::{wanted_for, write_run};
-use call_book::NoMemory;
+use crate::streaming::write_traced;
+use crate::telling::{Telling, write_told};
 use deadline_promise::budgets_isolate;
 use json_order::{JsonFault, JsonKind, read_lent};
 use rtapp_scenario::{Scenario, ScenarioFault, TaskSpec, parse_lent};
-use session::{
-    Client, Finished, Names, Options, Parts, Print, Report, Session, Turnstile, Wanted, end_run,
-};
+use session::{Finished, Names, Options, Parts, Print, Report, Turnstile, end_run};
 use std::alloc::Global;
 use std::io::{Read, Write};
 use std::marker::Brand;
@@ -105,60 +103,74 @@ fn advance_for(print: Print, duration: u64) -> u64
     }
 }
 
-/// The clients of a session, as they wait.
-fn take_clients<N: Names>(
+/// Lets client 1 advance each domain by the whole duration, in microseconds, closes the session,
+/// and writes a text of what it left: of states, of what happened, or of figures.
+fn write_kept<N: Names + Send + Sync, W: Write, X: Threads + Wait + Sync>(
+    rt: &X,
     alloc: Global,
-    session: &mut Session<N>,
-    many: u32,
-) -> Result<Vec<Client<N>>, NoMemory>
-    requires many { many ≡ N.id.clients }
-    requires waiting { session.old ≡ replicate N.id.clients true }
-    ensures { IfOk result (λ v. AreNew N.id v.items) }
+    print: Print,
+    asked: Asked<'_, N>,
+    duration: u64,
+    writer: &mut Counted<W>,
+) -> Result<Report, SessionFault>
+    requires asked { HaveAsked N.id asked.tasks.now asked.clients.items asked.refused.items }
+    requires duration { duration ≤ 60000000 }
+    requires faults { faults_of writer.old < 2 ^ 63 }
+    ensures ok { IfOk result (IsRunWritten N.id asked.entry.tasks.now duration print
+        (side W.contents writer.old writer.new)) }
+    ensures err { IfErr result (IsRunUnwritten N.id asked.entry.tasks.now duration print
+        (side W.contents writer.old writer.new)) }
 {
-    let mut clients = Vec::with_capacity(alloc, many as usize)?;
-    for place in 0..many {
-        if let Some(client) = session.client(place + 1) {
-            clients.push_reserved(client);
-        }
+    let Asked {
+        session,
+        clients,
+        tasks,
+        refused,
+    } = asked;
+    let Finished {
+        mut report,
+        states,
+        logs,
+        heard,
+    } = end_run(rt, alloc, session, clients, duration, wanted_for(print))?;
+    report.refused = refused;
+    let histories = &report.histories;
+    match write_run(alloc, print, tasks, histories, states, logs, &heard, writer) {
+        Ok(()) => Ok(report),
+        Err(fault) => Err(SessionFault::from(fault)),
     }
-    Ok(clients)
 }
 
 /// Runs tasks in a session of these parts: the admissions, then the advance of each domain by the
-/// whole duration, in microseconds, and the end. What is wanted beside that is left too.
-fn run_in<N: Names + Send + Sync, T: Turnstile, X: Threads + Wait + Sync>(
+/// whole duration, in microseconds, and the end; and writes the text that is asked for. The trace
+/// goes out while its ticks are made, by up to `workers` threads.
+fn run_in<N: Names + Send + Sync, W: Write, T: Turnstile, X: Threads + Wait + Sync>(
     rt: &X,
     alloc: Global,
     parts: Parts,
-    many: u32,
+    options: &Options,
     tasks: &[TaskSpec],
     duration: u64,
-    wanted: Wanted,
     turnstile: &T,
-) -> Result<Finished, SessionFault>
+    writer: &mut Counted<W>,
+) -> Result<Report, SessionFault>
     requires parts { N.id ≡ parts }
-    requires many { many ≡ parts.clients }
-    requires some { 0 < many }
+    requires many { options.now.clients ≡ parts.clients }
+    requires some { 0 < options.now.clients }
+    requires workers { 0 < options.now.workers }
     requires duration { duration ≤ 60000000 }
-    ensures ok { IfOk result (IsRan N.id tasks.now duration wanted) }
-    ensures err { IfErr result (IsHalted
-        ((0 < duration) × IsFullDomain N.id N.id.clients tasks.now)) }
+    requires faults { faults_of writer.old < 2 ^ 63 }
+    ensures ok { IfOk result (IsRunWritten N.id tasks.now duration options.now.print
+        (side W.contents writer.old writer.new)) }
+    ensures err { IfErr result (IsRunUnwritten N.id tasks.now duration options.now.print
+        (side W.contents writer.old writer.new)) }
 {
-    let mut session: Session<N> = Session::open(parts);
-    let Ok(clients) = take_clients(alloc, &mut session, many) else {
-        session.shut(alloc);
-        return Err(SessionFault::Memory);
-    };
-    match admit_all(rt, alloc, &session, clients, tasks, turnstile) {
-        Ok((clients, refused)) => {
-            let mut finished = end_run(rt, alloc, session, clients, duration, wanted)?;
-            finished.report.refused = refused;
-            Ok(finished)
-        }
-        Err(fault) => {
-            session.shut(alloc);
-            Err(fault)
-        }
+    let asked = ask_in::<N, T, X>(rt, alloc, parts, options.clients, tasks, turnstile)?;
+    match options.print {
+        Print::Trace => write_traced(rt, alloc, options.workers, asked, duration, writer),
+        Print::Calls => write_told(alloc, Telling::Calls, asked, duration, writer),
+        Print::Replies => write_told(alloc, Telling::Replies, asked, duration, writer),
+        print => write_kept(rt, alloc, print, asked, duration, writer),
     }
 }
 
@@ -212,36 +224,16 @@ pub fn run<R: Read, W: Write, T: Turnstile, X: Threads + Wait + Sync>(
     let Ok(parts) = Parts::open(alloc, options) else {
         return Err(SessionFault::Memory);
     };
-    let many = options.clients;
     // For the prover alone: that promises are kept.
     budgets_isolate();
-    let Finished {
-        report,
-        states,
-        logs,
-        heard,
-    } = run_in::<Brand, T, X>(
+    run_in::<Brand, W, T, X>(
         rt,
         alloc,
         parts,
-        many,
+        options,
         &tasks,
         advance_for(options.print, duration_us),
-        wanted_for(options.print),
         turnstile,
-    )?;
-    let histories = &report.histories;
-    match write_run(
-        alloc,
-        options.print,
-        &tasks,
-        histories,
-        states,
-        logs,
-        &heard,
         writer,
-    ) {
-        Ok(()) => Ok(report),
-        Err(fault) => Err(SessionFault::from(fault)),
-    }
+    )
 }

@@ -28,8 +28,8 @@ const PIECE: usize = 4096;
 
 /// A domain whose switches wait in a buffer, of which the room is made once. Only
 /// [`Buffered::repeat`] takes memory, and it may do without. So no call can be refused for want of
-/// memory: an advance stops if the buffer is full, and goes on after the waiting switches were taken
-/// and forgotten. In contracts it is its domain, whose switches are those that wait.
+/// memory: an advance stops if the buffer is full, and goes on after the waiting switches were
+/// taken and forgotten. In contracts it is its domain, whose switches are those that wait.
 #[derive(Drop)]
 pub struct Buffered {
     state: State,

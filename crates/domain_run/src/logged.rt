@@ -26,7 +26,7 @@ use std::marker::Model;
 use task_script::{Name, Script};
 
 /// The least number of switches, and of entries of the log, that wait before an advance stops. A
-/// switch takes 16 bytes and an entry 32, so both buffers have some 200 kB.
+/// switch takes 16 bytes and an entry 32, so both buffers have some 280 kB.
 const PIECE: usize = 4096;
 
 /// For how many entries of the log there is room before an event is made: 9 for each of 256 tasks,

@@ -107,7 +107,8 @@ impl State {
     }
 
     /// The number of switches that there is room for, those so far among them. Only
-    /// [`State::tick`], [`State::begin`] and [`Buffered::repeat`](crate::Buffered::repeat) change it.
+    /// [`State::tick`], [`State::begin`] and [`Buffered::repeat`](crate::Buffered::repeat) change
+    /// it.
     pub fn room(&self) -> usize
         ensures { length self.now.switches ≤ result }
     {

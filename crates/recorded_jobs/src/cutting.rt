@@ -1,8 +1,7 @@
 //! The jobs of a task, by its stretches.
 
-ghost use Rattle.std.specs.Prelude.{◌≡◌, ◌≤◌, ◌<◌, ◌++◌, ◌^◌, ◌*◌, length, find, All, IfOk, OnOk, [], ◌∷◌};
-ghost use Rattle.std.specs.Option.{option_map};
-ghost use Rattle.recorded_jobs.specs.Jobs.{is_left_open, is_end_of_task, is_closed, group_start, work_of, job_of, jobs_cut};
+ghost use Rattle.std.specs.Prelude.{◌≡◌, ◌≤◌, ◌++◌, length, find, IfOk, OnOk, [], ◌∷◌};
+ghost use Rattle.recorded_jobs.specs.Jobs.{is_end_of_task, is_closed, group_start, work_of, job_of, jobs_cut};
 ghost use Rattle.recorded_jobs.specs.private.Groups.{group_len, with_work};
 
 use crate::job::Job;

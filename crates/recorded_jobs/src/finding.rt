@@ -1,6 +1,6 @@
 //! The jobs of all tasks of a recording.
 
-ghost use Rattle.std.specs.Prelude.{◌≡◌, ◌<◌, ℕ, length, slice_index_or, IfOk, OnOk};
+ghost use Rattle.std.specs.Prelude.{◌≡◌, IfOk, OnOk};
 ghost use Rattle.std.specs.List.Sorted.{IsNonDecreasingBy};
 ghost use Rattle.recorded_jobs.specs.Stretches.{all_stretches};
 ghost use Rattle.recorded_jobs.specs.CpusUsed.{with_new_cpu, cpus_run_on};

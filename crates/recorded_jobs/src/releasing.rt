@@ -1,6 +1,6 @@
 //! The releases of a task's jobs, by the times at which it was woken.
 
-ghost use Rattle.std.specs.Prelude.{◌≡◌, ◌≤◌, ◌<◌, ◌++◌, length, IfOk};
+ghost use Rattle.std.specs.Prelude.{◌≡◌, IfOk};
 ghost use Rattle.std.specs.List.Sorted.{IsNonDecreasing};
 ghost use Rattle.recorded_jobs.specs.Releases.{is_wake_of, wakes_of, latest_between, release_by, releases_after};
 ghost use Rattle.recorded_jobs.specs.private.Splits.{IsSplitAt};

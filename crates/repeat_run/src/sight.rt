@@ -1,6 +1,6 @@
 //! A domain that is written down, to be found again some time later.
 
-ghost use Rattle.std.specs.Prelude.{◌≡◌, ◌*◌, ◌<◌, ◌≤◌, IfSome, IsTrue, map};
+ghost use Rattle.std.specs.Prelude.{◌≡◌, ◌<◌, ◌≤◌, IfSome, IsTrue, map};
 ghost use Rattle.domain_run.specs.Domain.{Domain};
 ghost use Rattle.domain_run.specs.Passing.{without_switches};
 ghost use Rattle.domain_run.specs.Sound.{IsDomain};

@@ -1,6 +1,5 @@
--- The steps of a run: the input is told, tasks are run in a session, and the text of their run is
--- written.
-use Rattle.std.specs.Prelude.{◌≡◌, ◌≢◌, ℕ, Bool, true, false, List, [], length, map}
+-- The steps of a run: the input is told, and of the runs there is what is wanted.
+use Rattle.std.specs.Prelude.{◌≡◌, ◌≢◌, Bool, true, false, List, length}
 use Rattle.domain_run.specs.Domain.{Domain}
 use Rattle.domain_run.specs.Log.{LogView}
 use Rattle.json_order.specs.declared.fault.JsonFault.{JsonFault}
@@ -12,14 +11,10 @@ use Rattle.run_figures.specs.Accounting.{AccountingView}
 use Rattle.calls_text.specs.SectionView.{SectionView}
 use Rattle.calls_text.specs.Histories.{AreRuns, AreTold}
 use Rattle.calls_trace.specs.Heard.{AreAccountings, AreRunsButSwitches}
-use Rattle.session.specs.declared.report.Finished.{Finished}
 use Rattle.session.specs.declared.report.Wanted.{Wanted}
 use Rattle.session.specs.declared.report.Wanted.TheVariants.{Switches, Happened, Figures}
-use Rattle.session.specs.SessionId.{SessionId}
-use Rattle.session.specs.Report.{IsLeft}
 use Rattle.dl_session.specs.declared.fault.SessionFault.{SessionFault}
-use Rattle.dl_session.specs.declared.fault.SessionFault.TheVariants.{Json, Scenario, Start, Full, Memory}
-use Rattle.dl_session.specs.ScenarioAnswers.{AnswersScenario}
+use Rattle.dl_session.specs.declared.fault.SessionFault.TheVariants.{Json, Scenario, Memory}
 
 -- a fault is this one, of which something is said; or memory was refused
 abbrev pub IsOrMemory : (SessionFault → Type 0) → SessionFault → Type 0
@@ -55,23 +50,3 @@ abbrev pub AreLeftAs : Wanted → List SectionView → List Domain → List LogV
 AreLeftAs Switches histories states logs heard = AreRunLogs false histories states logs
 AreLeftAs Happened histories states logs heard = AreRunLogs true histories states logs
 AreLeftAs Figures histories states logs heard = AreFigured histories states heard
-
--- what a run of tasks leaves: the histories and the refusals answer them, and of the runs there is
--- what is wanted
-pub record IsRan (id : SessionId) (tasks : List TaskSpecView) (duration : ℕ) (wanted : Wanted)
-    (f : Finished) : Type 0 where
-  pub left : IsLeft id [] f.report
-  pub answers : AnswersScenario id id.clients tasks duration
-      (map (λ h. h.entries) f.report.histories.items) f.report.refused.items
-  pub count : length f.states.items ≡ length f.report.histories.items
-  pub runs : AreLeftAs wanted f.report.histories.items f.states.items f.logs.items f.heard.items
-
--- ---- why it did not come to its end
-
--- a client's thread was not started; or a book was full, of which this is said; or memory was
--- refused
-abbrev pub IsHalted : Type 0 → SessionFault → Type 0
-IsHalted full Start = Unit {0}
-IsHalted full Full = full
-IsHalted full Memory = Unit {0}
-IsHalted full _ = ⊥

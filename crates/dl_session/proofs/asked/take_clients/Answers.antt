@@ -4,8 +4,8 @@ use Rattle.std.proofs.lemmas.Option.{slice_get_read}
 use Rattle.std.specs.Prelude.{List, slice_get, Some}
 use Rattle.session.specs.Clients.{IsNew}
 use Rattle.session.proofs.CallerLemmas.{by_place_more}
-use Rattle.dl_session.proofs.running.take_clients.Goals.{in-Some, in_default}
-use Rattle.dl_session.proofs.running.take_clients.Goals as goal
+use Rattle.dl_session.proofs.asked.take_clients.Goals.{in-Some, in_default}
+use Rattle.dl_session.proofs.asked.take_clients.Goals as goal
 
 pub loop-place-init : goal.loop-place-init
 loop-place-init g c =

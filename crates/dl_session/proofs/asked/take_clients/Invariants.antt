@@ -2,7 +2,7 @@ use Rattle.std.proofs.Common.{◌≡◌, ◌≤◌, ◌<◌, ◌+◌, ℕ, lengt
 use Rattle.std.specs.Prelude.{true, false, slice_index_or, vec_capacity}
 use Rattle.session.specs.Asks.{ClientView}
 use Rattle.session.specs.Clients.{IsNew}
-use Rattle.dl_session.proofs.running.take_clients.Given as goal
+use Rattle.dl_session.proofs.asked.take_clients.Given as goal
 
 abbrev pub invariant-loop-place : goal.invariant-loop-place
 invariant-loop-place g l = record {
