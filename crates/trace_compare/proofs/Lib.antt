@@ -1,4 +1,5 @@
 mod Choosing
+mod FewMatch
 mod Gathered
 mod Gathering
 mod Joining

@@ -1,6 +1,6 @@
 //! Which runs match.
 
-ghost use Rattle.std.specs.Prelude.{◌≡◌, ◌<◌, ◌≤◌, ◌^◌, length, All, IfOk};
+ghost use Rattle.std.specs.Prelude.{◌≡◌, ◌<◌, ◌≤◌, ◌^◌, length, All, IfOk, IfSome, IfNone};
 ghost use Rattle.trace_compare.specs.Runs.{IsShort, InTurn};
 ghost use Rattle.trace_compare.specs.private.Meetings.{IsMeeting};
 ghost use Rattle.trace_compare.specs.Matched.{IsSoundMatching};
@@ -50,17 +50,32 @@ fn how_they_meet(within: u64, shift: u64, m: &Run, r: &Run) -> Meeting
     }
 }
 
-/// How many runs of the model match, each with a recorded run of its own.
-pub(crate) fn matched_count(within: u64, shift: u64, ms: &[Run], rs: &[Run]) -> usize
+/// How many runs of the model match, each with a recorded run of its own; none if fewer than
+/// `needed` do. It ends as soon as too many do not match.
+pub(crate) fn matched_if(
+    within: u64,
+    shift: u64,
+    ms: &[Run],
+    rs: &[Run],
+    needed: usize,
+) -> Option<usize>
     requires within { within < 2 ^ 61 }
     requires shift { shift < 2 ^ 62 }
     requires model { All IsShort ms.now }
     requires recorded { All IsShort rs.now }
     requires model_turn { InTurn ms.now }
     requires recorded_turn { InTurn rs.now }
-    ensures value { result ≡ count_matched (partners (fits within shift) ms.now rs.now) }
-    ensures few { result ≤ length ms.now }
+    ensures some { IfSome result
+        (λ n. n ≡ count_matched (partners (fits within shift) ms.now rs.now)) }
+    ensures few { IfSome result (λ n. n ≤ length ms.now) }
+    ensures none { IfNone result
+        (count_matched (partners (fits within shift) ms.now rs.now) < needed) }
 {
+    let len = ms.len();
+    if len < needed {
+        return None;
+    }
+    let most_missed = len - needed;
     let mut count = 0;
     let mut i = 0;
     let mut j = 0;
@@ -72,10 +87,15 @@ pub(crate) fn matched_count(within: u64, shift: u64, ms: &[Run], rs: &[Run]) -> 
                 j += 1;
             }
             Meeting::Early => j += 1,
-            Meeting::Late => i += 1,
+            Meeting::Late => {
+                i += 1;
+                if i - count > most_missed {
+                    return None;
+                }
+            }
         }
     }
-    count
+    Some(count)
 }
 
 /// Which recorded run each run of the model is matched with, and the recorded runs that are left.

@@ -1,14 +1,14 @@
 //! The shift of the recording's clock.
 
-ghost use Rattle.std.specs.Prelude.{◌≡◌, ◌+◌, ◌-◌, ◌<◌, ◌≤◌, ◌^◌, ◌++◌, length, take, map, sum_by, All, IfOk, OnOk};
+ghost use Rattle.std.specs.Prelude.{◌≡◌, ◌+◌, ◌-◌, ◌*◌, ◌<◌, ◌≤◌, ◌^◌, ◌++◌, length, take, map, sum_by, All, IfOk, IfSome, IfNone, OnOk};
 ghost use Rattle.std.specs.List.{flat_map};
 ghost use Rattle.trace_compare.specs.Runs.{IsShort};
 ghost use Rattle.trace_compare.specs.Tasks.{AreSoundRuns};
 ghost use Rattle.trace_compare.specs.Pairs.{no_shift};
 ghost use Rattle.trace_compare.specs.Shift.{shifts_of, task_score, IsBestOf, IsShift};
-ghost use Rattle.trace_compare.specs.private.Choices.{IsBetter};
+ghost use Rattle.trace_compare.specs.private.Choices.{IsBetter, most_of};
 
-use crate::pairs::{NO_SHIFT, matched_count};
+use crate::pairs::{NO_SHIFT, matched_if};
 use crate::run::Run;
 use crate::task::TaskRuns;
 use std::alloc::{AllocError, Global};
@@ -31,34 +31,76 @@ fn front(runs: &[Run], most: usize) -> &[Run]
     }
 }
 
-/// How many of the first runs of a task match under a shift.
-fn score_of_task(within: u64, share: usize, shift: u64, task: &TaskRuns) -> usize
+/// How many of the first runs of a task match under a shift; none if fewer than `needed` do.
+fn score_of_task(
+    within: u64,
+    share: usize,
+    shift: u64,
+    task: &TaskRuns,
+    needed: usize,
+) -> Option<usize>
     requires within { within < 2 ^ 61 }
     requires share { share ≤ 4096 }
     requires shift { shift < 2 ^ 62 }
     requires task { AreSoundRuns task.now }
-    ensures value { result ≡ task_score within share shift task.now }
-    ensures small { result ≤ 4096 }
+    ensures some { IfSome result (λ n. n ≡ task_score within share shift task.now) }
+    ensures few { IfSome result (λ n. n ≤ most_of share task.now) }
+    ensures none { IfNone result (task_score within share shift task.now < needed) }
 {
     let ms = front(task.model.as_slice(), share);
     let rs = front(task.recorded.as_slice(), 4 * share + STARTS);
-    matched_count(within, shift, ms, rs)
+    matched_if(within, shift, ms, rs, needed)
 }
 
-/// How many of the first runs of the tasks match under a shift.
-fn score_of(within: u64, share: usize, shift: u64, tasks: &[TaskRuns]) -> usize
+/// How many of the first runs of a task can match at most.
+fn most_of_task(share: usize, task: &TaskRuns) -> usize
+    ensures { result ≡ most_of share task.now }
+{
+    task.model.len().min(share)
+}
+
+/// How many of the first runs of the tasks can match at most.
+fn most_of_tasks(share: usize, tasks: &[TaskRuns]) -> usize
+    requires share { share ≤ 4096 }
+    requires few { length tasks.now ≤ 256 }
+    ensures value { result ≡ sum_by (most_of share) tasks.now }
+    ensures small { result ≤ 4096 * 256 }
+{
+    let mut most = 0;
+    for task in tasks {
+        most += most_of_task(share, task);
+    }
+    most
+}
+
+/// How many of the first runs of the tasks match under a shift; none if fewer than `needed` do. It
+/// ends as soon as the runs that are left are too few.
+fn score_if(
+    within: u64,
+    share: usize,
+    shift: u64,
+    tasks: &[TaskRuns],
+    needed: usize,
+) -> Option<usize>
     requires within { within < 2 ^ 61 }
     requires share { share ≤ 4096 }
     requires shift { shift < 2 ^ 62 }
     requires few { length tasks.now ≤ 256 }
     requires tasks { All AreSoundRuns tasks.now }
-    ensures { result ≡ sum_by (task_score within share shift) tasks.now }
+    ensures some { IfSome result (λ n. n ≡ sum_by (task_score within share shift) tasks.now) }
+    ensures none { IfNone result (sum_by (task_score within share shift) tasks.now < needed) }
 {
+    let mut left = most_of_tasks(share, tasks);
     let mut total = 0;
     for task in tasks {
-        total += score_of_task(within, share, shift, task);
+        left -= most_of_task(share, task);
+        let wanted = needed.saturating_sub(total + left);
+        match score_of_task(within, share, shift, task, wanted) {
+            Some(score) => total += score,
+            None => return None,
+        }
     }
-    total
+    if total < needed { None } else { Some(total) }
 }
 
 /// The shift from a start of the model to a recorded one.
@@ -142,7 +184,24 @@ fn better(a: Choice, b: Choice) -> Choice
     }
 }
 
-/// The best of several shifts.
+/// The better of the best so far and one shift more, which is given up early if it is worse.
+fn next_best(within: u64, share: usize, shift: u64, tasks: &[TaskRuns], best: Choice) -> Choice
+    requires within { within < 2 ^ 61 }
+    requires share { share ≤ 4096 }
+    requires shift { shift < 2 ^ 62 }
+    requires few { length tasks.now ≤ 256 }
+    requires tasks { All AreSoundRuns tasks.now }
+    ensures { IsBetter best
+        (record { shift = shift; score = sum_by (task_score within share shift) tasks.now })
+        result }
+{
+    match score_if(within, share, shift, tasks, best.score) {
+        Some(score) => better(best, Choice { shift, score }),
+        None => best,
+    }
+}
+
+/// The best of several shifts, at least one.
 fn best_of(within: u64, share: usize, shifts: &[u64], tasks: &[TaskRuns]) -> u64
     requires within { within < 2 ^ 61 }
     requires share { share ≤ 4096 }
@@ -155,14 +214,10 @@ fn best_of(within: u64, share: usize, shifts: &[u64], tasks: &[TaskRuns]) -> u64
 {
     let mut best = Choice {
         shift: shifts[0],
-        score: score_of(within, share, shifts[0], tasks),
+        score: score_if(within, share, shifts[0], tasks, 0).unwrap_or(0),
     };
     for shift in shifts {
-        let next = Choice {
-            shift: *shift,
-            score: score_of(within, share, *shift, tasks),
-        };
-        best = better(best, next);
+        best = next_best(within, share, *shift, tasks, best);
     }
     best.shift
 }

@@ -1,6 +1,11 @@
 -- The better of two shifts. No public clause names it.
-use Rattle.std.specs.Prelude.{◌≡◌, ℕ, ◌<◌, ◌≤◌, ◌⊎◌, List, slice_index, Contains}
+use Rattle.std.specs.Prelude.{◌≡◌, ℕ, ◌<◌, ◌≤◌, ◌⊎◌, List, slice_index, Contains, length, min}
 use Rattle.trace_compare.specs.declared.shift.Choice.{Choice}
+use Rattle.trace_compare.specs.declared.task.TaskRuns.{TaskRuns}
+
+-- how many of the first runs of a task can match at most
+abbrev pub most_of : ℕ → TaskRuns → ℕ
+most_of share t = min (length t.model.items) share
 
 pub record IsBetter (a b r : Choice) : Type 0 where
   pub one : (r ≡ a) ⊎ (r ≡ b)

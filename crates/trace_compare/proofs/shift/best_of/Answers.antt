@@ -1,5 +1,5 @@
 use Rattle.std.specs.Prelude.{sum_by}
-use Rattle.std.proofs.Common.{get_or, refl}
+use Rattle.std.proofs.Common.{ℕ, get_or, refl}
 use Rattle.trace_compare.specs.declared.shift.Choice.{Choice}
 use Rattle.trace_compare.specs.Shift.{task_score}
 use Rattle.trace_compare.proofs.Choosing.{better_step, better_small, best_in_all}
@@ -13,10 +13,11 @@ loop-shift-preserved c =
     let v = c.loop-shift.invariant in
     let xs = c.args.shifts.now in
     let i = c.loop-shift.shift-index in
-    let next : Choice = record { shift = get_or xs i 0; score = c.score_of-in-loop-shift.result } in
+    let f : ℕ → ℕ = λ s. sum_by (task_score c.args.within c.args.share s) c.args.tasks.now in
+    let next : Choice = record { shift = get_or xs i 0; score = f (get_or xs i 0) } in
     record {
-      best = better_step (λ s. sum_by (task_score c.args.within c.args.share s) c.args.tasks.now) xs i c.loop-shift.best next c.better-best.result c.loop-shift-test.true v.best refl c.score_of-in-loop-shift.ensures c.better-best.ensures;
-      small = better_small c.loop-shift.best next c.better-best.result c.better-best.ensures v.small (c.requires.small i 0 c.loop-shift-test.true);
+      best = better_step f xs i c.loop-shift.best next c.next_best-best.result c.loop-shift-test.true v.best refl refl c.next_best-best.ensures;
+      small = better_small c.loop-shift.best next c.next_best-best.result c.next_best-best.ensures v.small (c.requires.small i 0 c.loop-shift-test.true);
     }
 
 pub returns-clause-small : goal.returns-clause-small

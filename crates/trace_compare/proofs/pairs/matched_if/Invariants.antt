@@ -1,7 +1,7 @@
 use Rattle.std.proofs.Common.{◌≡◌, ◌+◌, ◌-◌, ◌≤◌, length, drop}
 use Rattle.trace_compare.specs.Runs.{InTurn}
 use Rattle.trace_compare.specs.Pairs.{fits, partners, count_matched}
-use Rattle.trace_compare.proofs.pairs.matched_count.Given as goal
+use Rattle.trace_compare.proofs.pairs.matched_if.Given as goal
 
 abbrev pub invariant-loop-i : goal.invariant-loop-i
 invariant-loop-i l = record {
