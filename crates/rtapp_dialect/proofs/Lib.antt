@@ -1,0 +1,12 @@
+mod Characters
+mod Figures
+mod Kept
+mod KeptNumbers
+mod Numbering
+mod Order
+mod Sameness
+mod Scanning
+mod Spelling
+mod Strictness
+mod Unrepeated
+mod Within
