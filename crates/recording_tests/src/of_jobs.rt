@@ -7,7 +7,7 @@ use std::alloc::Global;
 use std::test::Fail;
 use task_script::Event;
 
-const RECORDED: &[u8] = b"# tracer: nop
+pub(crate) const RECORDED: &[u8] = b"# tracer: nop
       a-11      [000] d..2.     5.000000: sched_wakeup: comm=a pid=11 prio=-1 target_cpu=000
  <idle>-0      [000] d..2.     5.000002: sched_switch: prev_comm=swapper/0 prev_pid=0 prev_prio=120 prev_state=R ==> next_comm=a next_pid=11 next_prio=-1
       a-11      [000] d..2.     5.000042: sched_switch: prev_comm=a prev_pid=11 prev_prio=-1 prev_state=R ==> next_comm=b next_pid=12 next_prio=-1

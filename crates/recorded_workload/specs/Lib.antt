@@ -1,0 +1,4 @@
+pub mod Workload
+pub mod Refusals
+pub mod WorkloadLaws
+pub mod WorkloadExamples

@@ -1,0 +1,5 @@
+pub mod Import
+pub mod Answer
+pub mod Ending
+pub mod Jobs
+pub mod private

@@ -1,0 +1,4 @@
+mod Lacking
+mod Spelled
+mod Admitted
+mod Stops

@@ -1,0 +1,4 @@
+pub mod Tasks
+pub mod BadLine
+pub mod TaskExamples
+pub mod private
