@@ -1,14 +1,17 @@
 -- A book whose last advance is entered first, and made piece by piece then.
-use Rattle.std.proofs.Common.{◌≡◌, ℕ, ◌+◌, ◌-◌, ◌<◌, ◌≤◌, ◌^◌, Bool, true, false, cond, Option, List, [], ◌∷◌, ◌++◌, length, refl, sym, ap, subst, ◌∙◌, arith}
-use Rattle.std.specs.Prelude.{filter}
+use Rattle.std.proofs.Common.{◌≡◌, ℕ, ◌+◌, ◌-◌, ◌<◌, ◌≤◌, ◌^◌, Bool, true, false, cond, Option, List, [], ◌∷◌, ◌++◌, length, refl, sym, ap, subst, ◌∙◌, arith, inl, inr}
+use Rattle.std.specs.Prelude.{All, filter}
+use Rattle.std.proofs.lemmas.Bool.{cases_lt}
 use Rattle.std.proofs.lemmas.List.{append-nil}
 use Rattle.pass_seats.specs.Lists.{PassView}
 use Rattle.bw_gate.specs.Pieces.{BlankView}
 use Rattle.domain_run.specs.declared.call.Call.TheVariants as Call
 use Rattle.domain_run.specs.declared.call.Reply.TheVariants as Reply
 use Rattle.domain_run.specs.Coming.{switches_to_come}
+use Rattle.domain_run.specs.declared.happened.Happened.{Happened}
 use Rattle.domain_run.specs.Domain.{Domain}
 use Rattle.domain_run.specs.Keys.{AreKept}
+use Rattle.domain_run.specs.Logged.{IsToldUntil}
 use Rattle.domain_run.specs.Passing.{with_past, without_switches}
 use Rattle.domain_run.specs.Sound.{IsDomain}
 use Rattle.domain_run.specs.Switch.{Switch}
@@ -25,7 +28,7 @@ use Rattle.call_book.specs.private.Ledger.{LedgerView}
 use Rattle.call_book.specs.private.Stock.{StockView}
 use Rattle.call_book.specs.private.Kept.{book_of, IsBook}
 use Rattle.call_book.specs.private.Ended.{IsEnding}
-use Rattle.call_book.specs.private.Played.{IsPlaying, sifted_by}
+use Rattle.call_book.specs.private.Played.{LeadsOn, sifted_by}
 use Rattle.call_book.proofs.Sifting.{sifted_holds, advance_grows}
 use Rattle.call_book.proofs.Ended.{swept_alike, given_alike}
 
@@ -93,7 +96,18 @@ other_blanks b d blanks is = record {
 
 -- ---- before the advance, and from its entry on
 
-pub playing_from : (b : BookView) (heard : Bool) (state : Domain) → IsEnding b heard state → IsDomain state → IsPlaying (record { book = b; at = state; left = 0 })
+-- a book whose log is empty
+abbrev pub play_of : BookView → Domain → ℕ → PlayingView
+play_of b at left = record { book = b; at = at; left = left; logs = false; told = [] }
+
+-- if nothing is left and no switch is forgotten, the domain is the run of the history
+pub at_run : (b : BookView) (at : Domain) → LeadsOn b at 0 → HasWholeRun (play_of b at 0) → at ≡ state_of b
+at_run b at is whole =
+    let d = state_of b in
+    let switches : at.switches ≡ d.switches = sym (append-nil at.switches) ∙ whole in
+    ap (λ (x : Domain). record x { switches = at.switches }) is.leads ∙ ap (λ (ss : List Switch). record d { switches = ss }) switches
+
+pub playing_from : (b : BookView) (heard : Bool) (state : Domain) → IsEnding b heard state → IsDomain state → LeadsOn b state 0
 playing_from b heard state is domain = record {
   will_be = sifted_book b (state_of b) is.kept;
   leads = ap without_switches is.left ∙ bare_left heard (state_of b);
@@ -102,7 +116,7 @@ playing_from b heard state is domain = record {
 
 -- the run of the history with the advance
 entered_run : (cpus limit workers : ℕ) (left : Option ℕ) (l grown : LedgerView) (s : StockView) (at : Domain) (n : ℕ) (p : PassView Entry)
-    → IsPlaying (record { book = book_of cpus limit workers left l s; at = at; left = 0 }) → IsDomain at
+    → LeadsOn (book_of cpus limit workers left l s) at 0 → IsDomain at
     → grown ≡ record l { history = l.history ++ entry_by p (Call.Advance n) (Reply.Done n) ∷ [] } → n ≤ 60000000
     → let d = state_of (book_of cpus limit workers left l s) in IsBook (sifted_by (ticks n d) (book_of cpus limit workers left grown s)) (ticks n d)
 entered_run cpus limit workers left l grown s at n p is domain more few =
@@ -117,9 +131,9 @@ entered_run cpus limit workers left l grown s at n p is domain more few =
     advance_grows cpus limit workers left l grown now then d next n p is.will_be more refl kept swept few
 
 pub playing_begun : (cpus limit workers : ℕ) (left : Option ℕ) (l grown : LedgerView) (s : StockView) (at : Domain) (n : ℕ) (p : PassView Entry)
-    → IsPlaying (record { book = book_of cpus limit workers left l s; at = at; left = 0 }) → IsDomain at
+    → LeadsOn (book_of cpus limit workers left l s) at 0 → IsDomain at
     → grown ≡ record l { history = l.history ++ entry_by p (Call.Advance n) (Reply.Done n) ∷ [] } → n ≤ 60000000 → length grown.history ≤ 65536
-    → IsPlaying (record { book = book_of cpus limit workers left grown s; at = at; left = n })
+    → LeadsOn (book_of cpus limit workers left grown s) at n
 playing_begun cpus limit workers left l grown s at n p is domain more few short =
     let d = state_of (book_of cpus limit workers left l s) in
     let book = book_of cpus limit workers left grown s in
@@ -133,21 +147,20 @@ playing_begun cpus limit workers left l grown s at n p is domain more few short 
 
 -- and the switches of the whole run are those that are at hand, and those to come
 pub whole_begun : (cpus limit workers : ℕ) (left : Option ℕ) (l grown : LedgerView) (s : StockView) (at : Domain) (n : ℕ) (p : PassView Entry)
-    → IsPlaying (record { book = book_of cpus limit workers left l s; at = at; left = 0 }) → IsDomain at
+    → LeadsOn (book_of cpus limit workers left l s) at 0 → IsDomain at
     → grown ≡ record l { history = l.history ++ entry_by p (Call.Advance n) (Reply.Done n) ∷ [] } → n ≤ 60000000
-    → HasWholeRun (record { book = book_of cpus limit workers left l s; at = at; left = 0 })
-    → HasWholeRun (record { book = book_of cpus limit workers left grown s; at = at; left = n })
+    → HasWholeRun (play_of (book_of cpus limit workers left l s) at 0)
+    → HasWholeRun (play_of (book_of cpus limit workers left grown s) at n)
 whole_begun cpus limit workers left l grown s at n p is domain more few whole =
     let d = state_of (book_of cpus limit workers left l s) in
     let grows = entered_run cpus limit workers left l grown s at n p is domain more few in
-    let switches : at.switches ≡ d.switches = sym (append-nil at.switches) ∙ whole in
-    let same : at ≡ d = ap (λ (x : Domain). record x { switches = at.switches }) is.leads ∙ ap (λ (ss : List Switch). record d { switches = ss }) switches in
+    let same : at ≡ d = at_run (book_of cpus limit workers left l s) at is whole in
     sym (to_come_after n at) ∙ ap (λ (x : Domain). (ticks n x).switches) same ∙ ap (λ (x : Domain). x.switches) grows.run
 
 -- ---- some ticks more
 
-pub playing_on : (b : BookView) (at further : Domain) (left after : ℕ) → IsPlaying (record { book = b; at = at; left = left })
-    → further ≡ ticks (left - after) at → after ≤ left → IsPlaying (record { book = b; at = further; left = after })
+pub playing_on : (b : BookView) (at further : Domain) (left after : ℕ) → LeadsOn b at left
+    → further ≡ ticks (left - after) at → after ≤ left → LeadsOn b further after
 playing_on b at further left after is made most =
     let sum : (left - after) + after ≡ left = omega (arith, most) in
     let time : further.time ≡ at.time + (left - after) = ap (λ (d : Domain). d.time) made ∙ ticks_time (left - after) at in
@@ -158,9 +171,29 @@ playing_on b at further left after is made most =
       early = omega (arith, time, most, is.early);
     }
 
+-- what is made and what is to come is the whole
+pub to_come_more : (n made left : ℕ) (d e : Domain) → e ≡ ticks made d → made + left ≡ n → e.switches ++ switches_to_come left e ≡ d.switches ++ switches_to_come n d
+to_come_more n made left d e is sum =
+    sym (to_come_after left e) ∙ ap (λ (x : Domain). (ticks left x).switches) is ∙ ap (λ (x : Domain). x.switches) (ticks_then made left d)
+    ∙ ap (λ (k : ℕ). (ticks k d).switches) sum ∙ to_come_after n d
+
+-- if no switch waited, a tick is made before the buffer is full
+pub some_made : (n left : ℕ) (d e : Domain) → e ≡ ticks (n - left) d → (0 < left → 0 < length e.switches) → d.switches ≡ [] → 0 < n → left < n
+some_made n left d e is full none some = elim (cases_lt left n) [ inl less ↦ less | inr most ↦ absurd (nobody most) ]
+  where
+    nobody : n ≤ left → ⊥
+    nobody most =
+        let made : n - left ≡ 0 = omega (arith, most) in
+        let empty : e.switches ≡ [] = ap (λ (x : Domain). x.switches) (is ∙ ap (λ (k : ℕ). ticks k d) made) ∙ none in
+        omega (arith, full (omega (arith, some, most)), ap (λ (ss : List Switch). length ss) empty)
+
+-- what waits in the log, of another domain at the same time
+pub until_same : (d e : Domain) (hs gs : List Happened) → e.time ≡ d.time → gs ≡ hs → All (IsToldUntil d.time) hs → All (IsToldUntil e.time) gs
+until_same d e hs gs time same all = subst (λ (t : ℕ). All (IsToldUntil t) gs) (sym time) (subst (All (IsToldUntil d.time)) (sym same) all)
+
 -- and some switches fewer
-pub playing_after : (b : BookView) (at other : Domain) (left : ℕ) → IsPlaying (record { book = b; at = at; left = left })
-    → without_switches other ≡ without_switches at → IsPlaying (record { book = b; at = other; left = left })
+pub playing_after : (b : BookView) (at other : Domain) (left : ℕ) → LeadsOn b at left
+    → without_switches other ≡ without_switches at → LeadsOn b other left
 playing_after b at other left is alike = record {
   will_be = is.will_be;
   leads = alike_ticks left other at alike ∙ is.leads;
@@ -170,10 +203,10 @@ playing_after b at other left is alike = record {
 -- ---- the end
 
 -- what a sweep needs: the tickets of the tasks that are listed are those of the list
-pub played_listed : (b : BookView) (state at : Domain) → IsPlaying (record { book = b; at = at; left = 0 }) → state ≡ without_switches at → state ≡ without_switches (state_of b)
+pub played_listed : (b : BookView) (state at : Domain) → LeadsOn b at 0 → state ≡ without_switches at → state ≡ without_switches (state_of b)
 played_listed b state at is bare = bare ∙ is.leads
 
-pub finished_book : (cpus limit workers : ℕ) (left : Option ℕ) (l : LedgerView) (s t : StockView) (at state : Domain) → IsPlaying (record { book = book_of cpus limit workers left l s; at = at; left = 0 })
+pub finished_book : (cpus limit workers : ℕ) (left : Option ℕ) (l : LedgerView) (s t : StockView) (at state : Domain) → LeadsOn (book_of cpus limit workers left l s) at 0
     → state ≡ without_switches at → t ≡ record s { tickets = filter (is_kept state) s.tickets; blanks = t.blanks }
     → IsEnding (book_of cpus limit workers left l t) true state
 finished_book cpus limit workers left l s t at state is bare swept =
@@ -187,7 +220,7 @@ finished_book cpus limit workers left l s t at state is bare swept =
     }
 
 pub swept_book : (b : BookView) (cpus limit workers : ℕ) (left : Option ℕ) (l : LedgerView) (s t : StockView) (at state : Domain) → book_of cpus limit workers left l s ≡ b
-    → IsPlaying (record { book = book_of cpus limit workers left l s; at = at; left = 0 }) → state ≡ without_switches at
+    → LeadsOn (book_of cpus limit workers left l s) at 0 → state ≡ without_switches at
     → t ≡ record s { tickets = filter (is_kept state) s.tickets; blanks = t.blanks }
     → ((given : List BlankView) × (t.blanks ≡ s.blanks ++ given) × AreGiven (filter (is_gone state) s.tickets) given)
     → IsSweptBook b (book_of cpus limit workers left l t)

@@ -4,4 +4,5 @@ pub mod Listing
 pub mod Kept
 pub mod Ended
 pub mod Played
+pub mod Ticking
 pub mod Moving

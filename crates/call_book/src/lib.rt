@@ -8,7 +8,8 @@
 //! that it holds a ticket for each listed task, of its bandwidth, and gives it back when the task
 //! has gone; that an [`EndingBook`] hears its last advance while it makes it, and enters it as the
 //! domain would; and that a [`PlayingBook`] enters its last advance before the ticks, makes exactly
-//! these piece by piece without memory, and is the same book at its end.
+//! these piece by piece without memory, with a log of what happens if it is asked for, and is the
+//! same book at its end.
 //!
 //! A history as text is the crate `calls_text`'s; its public names are given out here too.
 #![tactic(auto)]

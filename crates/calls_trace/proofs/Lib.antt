@@ -9,13 +9,18 @@ mod Pieces
 mod Written
 mod ReadRuns
 mod Starting
-mod ReadPlaced
 mod Charts
 mod Texts
 mod Leading
+mod ToldSoFar
+mod ToldCount
+mod EventPieces
+mod EventsLeading
 mod Replayed
 mod Figured
 mod Recorded
 mod Foretold
 mod HeardCalls
+mod HeardJobs
+mod Sketches
 pub mod CallerLemmas

@@ -20,7 +20,7 @@ use Rattle.calls_trace.proofs.Keeping.{names_behind, names_kept, rest_advanced, 
 
 -- ---- the switches at hand, and those that are left
 
-restored : (d : Domain) → with_past d.switches (without_switches d) ≡ d
+pub restored : (d : Domain) → with_past d.switches (without_switches d) ≡ d
 restored d = ap (λ (ss : List Switch). record d { switches = ss }) (append-nil d.switches)
 
 -- the calls that are left make the same of a domain that forgot its switches

@@ -25,7 +25,7 @@ call_ready (Limit limit word) h = record { numbered = (omega arith, omega arith)
 call_ready (Depart number) h = record { numbered = (omega arith, omega arith); soon = omega arith; limited = (omega arith, omega arith); short = omega arith }
 call_ready (Arrive number name params script) h = record { numbered = h.numbered; soon = omega arith; limited = (omega arith, omega arith); short = omega arith }
 
-same_ticks : (c : Call) → ticks_of c ≡ ticks_given c
+pub same_ticks : (c : Call) → ticks_of c ≡ ticks_given c
 same_ticks (Admit number name params delay script) = refl
 same_ticks (Regrade number params word) = refl
 same_ticks (Wake number) = refl

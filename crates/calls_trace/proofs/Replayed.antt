@@ -19,7 +19,6 @@ use Rattle.calls_trace.specs.declared.run_text.RunText.TheVariants.{Trace}
 use Rattle.calls_trace.specs.Replay.{trace_of_sections}
 use Rattle.calls_trace.specs.Upward.{of_trace, of_calls}
 use Rattle.calls_trace.specs.Written.{IsUnwritten, IsWritten}
-use Rattle.calls_trace.specs.private.ReadRuns.{AreReadRuns}
 use Rattle.calls_trace.specs.private.Replayed.{IsReplayed, IsUnreplayed}
 use Rattle.calls_trace.specs.private.Replaying.{text_of_runs}
 use Rattle.calls_trace.specs.private.RunTexts.{is_told_text, text_of_all}
@@ -48,13 +47,3 @@ unread text wanted w calls.Memory bad kept = kept
 pub unwritten : (text : List ℕ) (wanted : List SectionView → List ℕ) (w : Side) (sections : List SectionView) (fault : TraceFault) → AreRead sections → text ≡ spelling sections → IsUnwritten w (wanted sections) fault → IsUnreplayed text wanted w (of_trace fault)
 unwritten text wanted w sections (traces.Write written) read spelled cut = record { spells = record { sections = sections; read = read; spelled = spelled }; cut = cut }
 unwritten text wanted w sections traces.Memory read spelled kept = kept
-
--- ---- runs that were read off a text
-
-pub runs_replayed : (kind : RunText) (text : List ℕ) (runs placed : List PlacedRun) (w : Side) → (r : AreReadRuns text (is_told_text kind) runs) → placed ≡ runs → IsWritten w (text_of_runs kind placed) → IsReplayed text (text_of_all kind) w
-runs_replayed kind text runs placed w r same written =
-    record { spells = record { sections = r.sections; read = r.read; spelled = r.spelled }; written = subst (IsWritten w) (of_all kind r.sections runs placed same r.views) written }
-
-pub runs_unreplayed : (kind : RunText) (text : List ℕ) (runs placed : List PlacedRun) (w : Side) (fault : TraceFault) → (r : AreReadRuns text (is_told_text kind) runs) → placed ≡ runs → IsUnwritten w (text_of_runs kind placed) fault → IsUnreplayed text (text_of_all kind) w (of_trace fault)
-runs_unreplayed kind text runs placed w fault r same cut =
-    unwritten text (text_of_all kind) w r.sections fault r.read r.spelled (subst (λ (t : List ℕ). IsUnwritten w t fault) (of_all kind r.sections runs placed same r.views) cut)

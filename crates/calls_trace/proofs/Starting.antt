@@ -1,5 +1,6 @@
 -- The calls of a section before its first advance.
-use Rattle.std.proofs.Common.{◌≡◌, ℕ, Bool, true, false, cond, List, [], ◌∷◌, ◌++◌, refl, sym, ap, ◌∙◌, arith}
+use Rattle.std.proofs.Common.{◌≡◌, ℕ, Bool, true, false, cond, List, [], ◌∷◌, ◌++◌, refl, sym, ap, ◌∙◌, append_assoc, arith}
+use Rattle.std.proofs.lemmas.List.Elements.{All-append}
 use Rattle.attr_check.specs.ParamsView.{ParamsView}
 use Rattle.domain_run.specs.declared.call.Call.{Call}
 use Rattle.domain_run.specs.declared.call.Call.TheVariants.{Admit, Regrade, Wake, Leave, Advance, Limit, Depart, Arrive}
@@ -17,7 +18,7 @@ use Rattle.calls_trace.specs.declared.kept_section.KeptSection.{KeptSection}
 use Rattle.calls_trace.specs.Replay.{calls_in_section, names_of, names_after, no_names}
 use Rattle.calls_trace.specs.Told.{domain_of, names_in}
 use Rattle.calls_trace.specs.private.Calls.{ticks_given}
-use Rattle.calls_trace.specs.private.Kept.{IsMadeUpTo, IsOneMore}
+use Rattle.calls_trace.specs.private.Kept.{IsMadeUpTo, IsOneMore, IsMadeOrKept, IsBegunBy}
 use Rattle.calls_trace.proofs.ReadRuns.{calls_push, after_push, names_push}
 use Rattle.calls_trace.proofs.Ready.{call_left_time}
 
@@ -76,6 +77,25 @@ made_more s e was is made more =
           ∙ ap (λ (f : ℕ → List ℕ). names_after (domain_of s) e.call f n) before
           ∙ sym (ap (λ (f : ℕ → List ℕ). f n) (names_push start calls e.call no_names))
           ∙ ap (λ (cs : List Call). names_of start cs no_names n) (sym (calls_push s e));
+    }
+
+after_append : (d : Domain) (xs ys : List Call) → after_calls d (xs ++ ys) ≡ after_calls (after_calls d xs) ys
+after_append d [] ys = refl
+after_append d (x ∷ xs) ys = after_append (after_call d x) xs ys
+
+-- and the calls of it that are made
+pub begun_more : (s : SectionView) (e : Entry) (was is : KeptSection) → IsBegunBy s was.calls was.run.state → IsMadeOrKept was e.call is → IsBegunBy (section_with_entries s (e ∷ [])) is.calls is.run.state
+begun_more s e was is begun taken =
+    let start = empty_domain s.cpus s.limit in
+    record {
+      made = begun.made ++ taken.made;
+      calls = calls_push s e
+          ∙ ap (λ (cs : List Call). cs ++ e.call ∷ []) begun.calls
+          ∙ append_assoc begun.made was.calls (e.call ∷ [])
+          ∙ ap (λ (cs : List Call). begun.made ++ cs) taken.order
+          ∙ sym (append_assoc begun.made taken.made is.calls);
+      still = All-append (λ (c : Call). ticks_given c ≡ 0) begun.made taken.made begun.still taken.still;
+      domain = taken.domain ∙ ap (λ (d : Domain). after_calls d taken.made) begun.domain ∙ sym (after_append start begun.made taken.made);
     }
 
 -- ---- a refused call

@@ -64,7 +64,7 @@ sooner : (a b : Happened) → IsSooner a b → is_sooner a b ≡ true
 sooner a b (inl less) = or_left (ltb a.time b.time) (eqb a.time b.time && is_first a b) (lt-ltb a.time b.time less)
 sooner a b (inr is) = or_right (ltb a.time b.time) (eqb a.time b.time && is_first a b) (and_from (eqb a.time b.time) (is_first a b) (eq-eqb a.time b.time is.0) is.1)
 
-unless_cut : (a b : Happened) → IsSoonerUnlessCut a b → IsTrue (is_sooner_unless_cut a b)
+pub unless_cut : (a b : Happened) → IsSoonerUnlessCut a b → IsTrue (is_sooner_unless_cut a b)
 unless_cut a b is = by_lines (has_line a.what) (has_line b.what) refl refl
   where
     by_lines : (x y : Bool) → has_line a.what ≡ x → has_line b.what ≡ y → (not x || not y || is_sooner a b) ≡ true

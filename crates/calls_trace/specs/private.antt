@@ -7,9 +7,13 @@ pub mod NameGiven
 pub mod LittleRoom
 pub mod Kept
 pub mod Playing
+pub mod ToldSoFar
+pub mod PlayingEvents
 pub mod ReadRuns
 pub mod ReadText
+pub mod ReadEvents
 pub mod Replayed
 pub mod Foreseen
 pub mod Hearing
 pub mod Summed
+pub mod Sketched

@@ -95,7 +95,7 @@ fn all_drawn(
 }
 
 /// The name of a number; empty where it has none.
-fn name_of(names: &IndexMap<u32, String>, number: u32) -> &[u8]
+pub(crate) fn name_of(names: &IndexMap<u32, String>, number: u32) -> &[u8]
     ensures { result.now ≡ name_of_task names.now number }
 {
     match names.get(&number) {

@@ -18,9 +18,9 @@ use crate::trace::heard_by;
 use attr_check::Params;
 use domain_run::{NoMemory, State};
 use draft::Draft;
-use figure_text::{DomainJobs, DomainSummary, put_jobs, put_summary};
+use figure_text::{DomainJobs, DomainSummary, is_countable, put_summary, write_jobs};
 use indexmap::IndexMap;
-use run_figures::{Admitted, Run, TaskJobs, jobs_of, summary_of};
+use run_figures::{Admitted, KeptJobs, Run, jobs_of, summary_of};
 use std::alloc::Global;
 use std::io::Write;
 use switch_text::{Counted, write_text};
@@ -84,7 +84,7 @@ pub(crate) fn as_counted<'a>(placed: &'a PlacedRun, tasks: &'a [Admitted]) -> Ru
 #[derive(Drop)]
 struct CountedJobs<'a> {
     placed: &'a PlacedRun,
-    jobs: Vec<TaskJobs>,
+    jobs: Vec<KeptJobs>,
     ghost are: { jobs.items ≡ (jobs_in (placed_view_of placed.now)).tasks },
 }
 
@@ -131,23 +131,26 @@ fn all_as_jobs<'a>(
     Ok(written)
 }
 
-/// The text of jobs.
-fn counted_text(alloc: Global, counted: &[CountedJobs<'_>]) -> Result<Vec<u8>, NoMemory>
-    ensures { IfOk result (λ v. v.items
-        ≡ jobs.jobs_text (map (λ c. jobs_in (placed_view_of c.placed.now)) counted.now)) }
+/// Writes jobs. Takes no memory. A text of 2^64 bytes or more is refused as if for want of memory.
+pub(crate) fn write_all_jobs<W: Write>(
+    domains: &[DomainJobs<'_>],
+    writer: &mut Counted<W>,
+) -> Result<(), TraceFault>
+    requires faults { faults_of writer.old < 2 ^ 63 }
+    ensures ok { OnOk result (IsWritten (side W.contents writer.old writer.new)
+        (jobs.jobs_text (map jobs.jobs_view_of domains.now))) }
+    ensures err { IfErr result (IsUnwritten (side W.contents writer.old writer.new)
+        (jobs.jobs_text (map jobs.jobs_view_of domains.now))) }
 {
-    let domains = all_as_jobs(alloc, counted)?;
-    let mut text = Draft::new(alloc);
-    put_jobs(&mut text, &domains);
-    text.into_text()
-}
-
-/// The text of the jobs of runs.
-fn jobs_text(alloc: Global, placed: &[PlacedRun]) -> Result<Vec<u8>, NoMemory>
-    ensures { IfOk result (λ v. v.items ≡ text_of_runs texts.Jobs placed.now) }
-{
-    let counted = all_jobs(alloc, placed)?;
-    counted_text(alloc, &counted)
+    if !is_countable(domains) {
+        return Err(TraceFault::Memory);
+    }
+    match write_jobs(domains, writer) {
+        Ok(()) => Ok(()),
+        Err(fault) => Err(TraceFault::Write {
+            written: fault.written,
+        }),
+    }
 }
 
 // ---- the summary
@@ -239,8 +242,9 @@ pub(crate) fn write_jobs_of<W: Write>(
     ensures err { IfErr result
         (IsUnwritten (side W.contents writer.old writer.new) (text_of_runs texts.Jobs placed.now)) }
 {
-    let text = jobs_text(alloc, placed)?;
-    write_whole(&text, writer)
+    let counted = all_jobs(alloc, placed)?;
+    let domains = all_as_jobs(alloc, &counted)?;
+    write_all_jobs(&domains, writer)
 }
 
 /// Writes the figures of the runs of 1 to 8 domains.

@@ -37,7 +37,11 @@ fn all_names(alloc: Global, histories: &[Section]) -> Result<Vec<IndexMap<u32, S
 }
 
 /// The tasks of the run of a history, with the parameters that its replies tell.
-fn tasks_heard(alloc: Global, history: &Section, state: &State) -> Result<Vec<Admitted>, NoMemory>
+pub(crate) fn tasks_heard(
+    alloc: Global,
+    history: &Section,
+    state: &State,
+) -> Result<Vec<Admitted>, NoMemory>
     requires { IsLegal history.now.cpus history.now.limit history.now.entries }
     ensures tasks { IfOk result (λ v. v.items
         ≡ map (admitted_with_params (params_in history.now)) state.now.used) }

@@ -1,31 +1,33 @@
 //! The run of a section that an accounting hears while it is made. The switches and what happens
 //! are heard piece by piece, and forgotten.
 
-ghost use Rattle.std.specs.Prelude.{◌≡◌, ◌<◌, ◌≤◌, ◌^◌, ◌∷◌, [], true, false, length, map, All, Contains, IfOk, IfNone, IfSome, OnOk};
+ghost use Rattle.std.specs.Prelude.{◌≡◌, ◌<◌, ◌≤◌, ◌^◌, ◌∷◌, [], true, false, length, map, All, Contains, IfOk, IfNone, IfSome, IsTrue, OnOk};
 ghost use Rattle.domain_run.specs.Domain.{IsLimit, empty_domain};
 ghost use Rattle.domain_run.specs.declared.call.Call.TheVariants as Call;
 ghost use Rattle.domain_run.specs.Happened.{told_by_calls};
 ghost use Rattle.domain_run.specs.Run.{run_of};
 ghost use Rattle.run_figures.specs.Accounting.{heard_run};
 ghost use Rattle.run_figures.specs.Figures.{task_figures, cpu_figures};
+ghost use Rattle.run_figures.specs.Jobs.{task_jobs};
 ghost use Rattle.run_figures.specs.Laws.{AreShort};
 ghost use Rattle.run_figures.specs.Runs.{AreTasks};
 ghost use Rattle.calls_trace.specs.Replay.{names_of, no_names};
 ghost use Rattle.calls_trace.specs.Told.{no_params, params_by_calls};
 ghost use Rattle.calls_trace.specs.private.Calls.{ticks_given};
 ghost use Rattle.calls_trace.specs.private.Foreseen.{IsForeseen};
-ghost use Rattle.calls_trace.specs.private.Hearing.{IsHeardBefore, led_by, led_to, summary_led, tasks_led};
-ghost use Rattle.calls_trace.specs.private.Summed.{summed_as};
+ghost use Rattle.calls_trace.specs.private.Hearing.{IsHeardBefore, jobs_led, led_by, led_to, summary_led, tasks_led};
+ghost use Rattle.calls_trace.specs.private.Summed.{jobs_as, summed_as};
 
 use crate::figures::tasks_of;
 use crate::foreseen::Foreseen;
 use crate::kept::CallsLeft;
 use crate::named_run::RunWithNames;
 use crate::summed_run::SummedRun;
-use domain_run::{Call, NoMemory};
+use attr_check::Params;
+use domain_run::{Call, NoMemory, State};
 use heard_run::{advance_heard_in_periods, advance_heard_on};
-use indexmap::IndexSet;
-use run_figures::{Accounting, Admitted, Summary};
+use indexmap::{IndexMap, IndexSet};
+use run_figures::{Accounting, Admitted, KeptJobs, Summary};
 use std::alloc::Global;
 
 /// A run, the accounting that hears it, and the calls that are left of its section.
@@ -37,7 +39,7 @@ pub(crate) struct Hearing {
 }
 
 /// Tasks by their numbers. An accounting hears of their parameters only at its end.
-fn by_numbers(alloc: Global, numbers: &IndexSet<u32>) -> Result<Vec<Admitted>, NoMemory>
+pub(crate) fn by_numbers(alloc: Global, numbers: &IndexSet<u32>) -> Result<Vec<Admitted>, NoMemory>
     requires small { All (λ n. n < 65536) numbers.now.keys }
     ensures tasks { IfOk result (λ v. map (λ t. t.number) v.items ≡ numbers.now.keys) }
     ensures apart { IfOk result (λ v. AreTasks v.items) }
@@ -54,12 +56,14 @@ fn by_numbers(alloc: Global, numbers: &IndexSet<u32>) -> Result<Vec<Admitted>, N
     Ok(tasks)
 }
 
-/// An accounting of tasks with these numbers that has heard nothing yet.
+/// An accounting of tasks with these numbers that has heard nothing yet. It keeps their jobs, if
+/// `jobs` asks for them.
 fn accounting_of(
     alloc: Global,
     cpus: u32,
     end: u64,
     numbers: &IndexSet<u32>,
+    jobs: bool,
 ) -> Result<Accounting, NoMemory>
     requires cpus { cpus ≤ 64 }
     requires early { end ≤ 2 ^ 42 }
@@ -73,11 +77,33 @@ fn accounting_of(
     }) }
 {
     let tasks = by_numbers(alloc, numbers)?;
+    if jobs {
+        return Accounting::open_with_jobs(alloc, cpus, end, &tasks);
+    }
     Accounting::open(alloc, cpus, end, &tasks)
 }
 
+/// The jobs of what was heard, of the tasks that were admitted. None, if they are not wanted.
+fn jobs_if(
+    alloc: Global,
+    wanted: bool,
+    mut accounting: Accounting,
+    state: &State,
+    given: &IndexMap<u32, Params>,
+) -> Result<Vec<KeptJobs>, NoMemory>
+    requires among { All (Contains accounting.tasks) state.now.used }
+    ensures { IsTrue wanted → IfOk result
+        (λ v. v.items ≡ map (task_jobs accounting.happened) state.now.used) }
+{
+    if !wanted {
+        return Ok(Vec::new(alloc));
+    }
+    let tasks = tasks_of(alloc, state, given)?;
+    accounting.take_jobs(alloc, &tasks)
+}
+
 /// How many ticks an advance makes; none for another call.
-fn ticks_if_advance(call: &Call) -> Option<u64>
+pub(crate) fn ticks_if_advance(call: &Call) -> Option<u64>
     ensures some { IfSome result (λ n. call.now ≡ Call.Advance n) }
     ensures none { IfNone result (ticks_given call.now ≡ 0) }
 {
@@ -88,12 +114,13 @@ fn ticks_if_advance(call: &Call) -> Option<u64>
 }
 
 impl Hearing {
-    /// A run of which no call is made yet.
+    /// A run of which no call is made yet. Its jobs are kept, if `jobs` asks for them.
     pub(crate) fn open(
         alloc: Global,
         cpus: u32,
         limit: u64,
         foreseen: Foreseen,
+        jobs: bool,
     ) -> Result<Hearing, NoMemory>
         requires cpus { (0 < cpus) × (cpus ≤ 64) }
         requires limit { IsLimit limit }
@@ -113,7 +140,7 @@ impl Hearing {
             numbers,
         } = foreseen;
         // What is dropped goes by one call: its parts would be written out on each way.
-        let accounting = match accounting_of(alloc, cpus, ticks, &numbers) {
+        let accounting = match accounting_of(alloc, cpus, ticks, &numbers, jobs) {
             Ok(accounting) => accounting,
             Err(error) => {
                 drop(numbers);
@@ -251,15 +278,16 @@ impl Hearing {
         self.accounting.summary_of_some(alloc, &tasks)
     }
 
-    /// The figures of a run that was heard to its end.
-    fn summed(self, alloc: Global) -> Result<SummedRun, NoMemory>
+    /// The figures of a run that was heard to its end, and its jobs, if they are wanted.
+    fn summed(self, alloc: Global, jobs: bool) -> Result<SummedRun, NoMemory>
         requires calls { self.calls ≡ [] }
         requires log { self.run.log.happened ≡ [] }
         requires bare { self.run.state.switches ≡ [] }
         requires time { self.accounting.time ≡ self.run.state.time }
         requires cpus { self.accounting.cpus ≡ self.run.state.cpus }
         requires among { All (Contains self.accounting.tasks) self.run.state.used }
-        ensures { IfOk result (λ r. summed_as r ≡ summary_led (led_to self)) }
+        ensures figures { IfOk result (λ r. summed_as r ≡ summary_led (led_to self)) }
+        ensures jobs { IsTrue jobs → IfOk result (λ r. jobs_as r ≡ jobs_led (led_to self)) }
     {
         // What is dropped goes by one call: its parts would be written out on each way.
         let summary = match self.figures(alloc) {
@@ -275,7 +303,6 @@ impl Hearing {
             calls,
         } = self;
         drop(calls);
-        drop(accounting);
         let RunWithNames {
             state,
             names,
@@ -283,35 +310,53 @@ impl Hearing {
             log,
         } = run;
         drop(log);
+        let jobs = match jobs_if(alloc, jobs, accounting, &state, &given) {
+            Ok(jobs) => jobs,
+            Err(error) => {
+                drop(given);
+                drop(names);
+                drop(state);
+                drop(summary);
+                return Err(error);
+            }
+        };
         drop(given);
-        Ok(SummedRun::of(names, state, summary))
+        Ok(SummedRun::of(names, state, summary, jobs))
     }
 }
 
-/// Makes the calls of a section on a domain of its own: the figures of its run.
+/// Makes the calls of a section on a domain of its own: the figures of its run, and its jobs, if
+/// they are wanted.
 pub(crate) fn sum_up(
     alloc: Global,
     cpus: u32,
     limit: u64,
     foreseen: Foreseen,
+    jobs: bool,
 ) -> Result<SummedRun, NoMemory>
     requires cpus { (0 < cpus) × (cpus ≤ 64) }
     requires limit { IsLimit limit }
     requires foreseen { IsForeseen foreseen }
     requires few { length foreseen.calls ≤ 65536 }
-    ensures { IfOk result (λ r. summed_as r ≡ summary_led (record {
+    ensures figures { IfOk result (λ r. summed_as r ≡ summary_led (record {
+      domain = run_of cpus limit foreseen.calls;
+      names = names_of (empty_domain cpus limit) foreseen.calls no_names;
+      given = params_by_calls (empty_domain cpus limit) foreseen.calls no_params;
+      happened = told_by_calls (empty_domain cpus limit) foreseen.calls;
+    })) }
+    ensures jobs { IsTrue jobs → IfOk result (λ r. jobs_as r ≡ jobs_led (record {
       domain = run_of cpus limit foreseen.calls;
       names = names_of (empty_domain cpus limit) foreseen.calls no_names;
       given = params_by_calls (empty_domain cpus limit) foreseen.calls no_params;
       happened = told_by_calls (empty_domain cpus limit) foreseen.calls;
     })) }
 {
-    let mut hearing = Hearing::open(alloc, cpus, limit, foreseen)?;
+    let mut hearing = Hearing::open(alloc, cpus, limit, foreseen, jobs)?;
     // Dropped by one call: its parts would be written out.
     if let Err(error) = hearing.make_all(alloc) {
         drop(hearing);
         return Err(error);
     }
     hearing.hear_rest();
-    hearing.summed(alloc)
+    hearing.summed(alloc, jobs)
 }

@@ -7,7 +7,7 @@ ghost use Rattle.calls_text.specs.Limits.{IsCall};
 ghost use Rattle.calls_text.specs.KeptCall.{call_kept};
 ghost use Rattle.calls_text.specs.Reader.{IsWithin, empty_section, bytes_left};
 ghost use Rattle.calls_trace.specs.private.Calls.{ticks_given};
-ghost use Rattle.calls_trace.specs.private.Kept.{IsReadSection, KeepsCalls, IsOneMore};
+ghost use Rattle.calls_trace.specs.private.Kept.{IsReadSection, KeepsCalls, IsOneMore, IsMadeOrKept};
 ghost use Rattle.calls_trace.specs.private.ReadRuns.{IsBegun};
 
 use crate::kept::KeptCalls;
@@ -44,7 +44,8 @@ impl KeptSection {
     fn take(&mut self, alloc: Global, kept: Kept, reused: &mut Reused<'_>) -> Result<(), NoMemory>
         requires call { IsCall (call_kept kept) }
         requires kept { KeepsCalls self.old }
-        ensures { OnOk result (IsOneMore self.old (call_kept kept) self.new) }
+        ensures one { OnOk result (IsOneMore self.old (call_kept kept) self.new) }
+        ensures taken { OnOk result (IsMadeOrKept self.old (call_kept kept) self.new) }
     {
         if self.calls.is_empty() && !is_advance(&kept) {
             self.run.make_kept(alloc, kept, reused)?;

@@ -6,26 +6,31 @@
 //! answers (`specs/Answer.antt`), over the trace of the sections that a calls text spells
 //! (`specs/Replay.antt`), what happens in them (`specs/Told.antt`), and their chart
 //! (`specs/Charted.antt`). [`write_run_as`] writes the same of histories whose states and logs are
-//! at hand (`specs/Written.antt`), and [`write_heard_summary`] the summary of histories whose runs
-//! were heard as they were made, while their switches were let go (`specs/Heard.antt`); nothing is
-//! run again. To the crate above they promise: `Ok` means that what was written is that text of the
-//! runs of the sections, each on a domain of its own, and nothing else; each fault means what it
-//! says, and where it is no fault of the writer, nothing was written. A trace goes out while the
-//! runs are made, so their switches are not kept. The calls of each section are kept, from its
-//! first advance on, until all sections are read. For the summary the calls of a section are read
-//! whole. An accounting hears their run while it is made, and its switches and what happens in it
-//! are not kept. For the other texts each call is made as soon as it is read. [`names_of_history`]
-//! gives the names to a caller that makes the run of a history while it is written
-//! (`specs/HistoryNames.antt`). `proofs/CallerLemmas.antt` has laws for callers: the calls text of
-//! histories is read again, and its replay writes the same trace; and the switches of sections are
-//! few enough to be written.
+//! at hand (`specs/Written.antt`). [`write_heard_summary`] and [`write_heard_jobs`] write the
+//! summary and the jobs of histories whose runs were heard as they were made, while their switches
+//! were forgotten (`specs/Heard.antt`). Nothing is run again. To the crate above they promise: `Ok`
+//! means that what was written is that text of the runs of the sections, each on a domain of its
+//! own, and nothing else; each fault means what it says, and where it is no fault of the writer,
+//! nothing was written. A trace goes out while the runs are made, alone or with what happens, so
+//! their switches and what happens are not kept. The calls of each section are kept, from its first
+//! advance on, until all sections are read. For the summary and the jobs the calls of a section are
+//! read whole. An accounting hears their run while it is made, and its switches and what happens in
+//! it are not kept: of the jobs only a few bytes each. For a chart all sections are read first,
+//! since it may end where the last of the runs does. Then each run is drawn while it is made, and
+//! only what is in the window is kept. [`names_of_history`] gives the names to a caller that makes
+//! the run of a history while it is written (`specs/HistoryNames.antt`). `proofs/CallerLemmas.antt`
+//! has laws for callers: the calls text of histories is read again, and its replay writes the same
+//! trace; and the switches of sections are few enough to be written.
 #![tactic(auto)]
 
 mod charting;
 mod counted_run;
+mod events_so_far;
 mod fault;
 mod figures;
 mod foreseen;
+mod foreseen_text;
+mod heard_jobs;
 mod heard_summary;
 mod hearing;
 mod history_names;
@@ -35,12 +40,15 @@ mod laid_out;
 mod named_run;
 mod placed_run;
 mod playing;
+mod playing_events;
 mod playing_so_far;
 mod read_runs;
 mod read_text;
 mod replaying;
 mod run_text;
-mod runs_so_far;
+mod sketch;
+mod sketched_text;
+mod sketching;
 mod summed_run;
 mod summing;
 mod trace;
@@ -48,6 +56,7 @@ mod writing;
 
 pub use chart_pieces::Span;
 pub use fault::{ReplayFault, TraceFault};
+pub use heard_jobs::write_heard_jobs;
 pub use heard_summary::write_heard_summary;
 pub use history_names::names_of_history;
 pub use replaying::{replay, replay_as};

@@ -378,7 +378,7 @@ impl Slices for Playing {
 }
 
 /// Room for so many names more.
-fn make_room(names: &mut IndexMap<u32, String>, n: usize) -> Result<(), NoMemory>
+pub(crate) fn make_room(names: &mut IndexMap<u32, String>, n: usize) -> Result<(), NoMemory>
     ensures names { MapGives names.new (name_of_task names.old) }
     ensures room { OnOk result (n ≤ spare names.new) }
 {

@@ -1,13 +1,11 @@
-//! The run of a section of a calls text, of which each call is made as soon as it is read.
+//! The calls of a section of a calls text, one after the other.
 
 ghost use Rattle.std.specs.Prelude.{◌<◌, ◌≤◌, ℕ, List, Ok, IfOk, IfSome};
 ghost use Rattle.calls_text.specs.SectionView.{SectionView};
 ghost use Rattle.calls_text.specs.Limits.{IsCall};
 ghost use Rattle.calls_text.specs.KeptCall.{IsNextKept, call_kept};
-ghost use Rattle.calls_text.specs.Reader.{IsWithin, empty_section, bytes_left};
-ghost use Rattle.calls_trace.specs.private.ReadRuns.{IsBegun, IsReadRun};
+ghost use Rattle.calls_text.specs.Reader.{IsWithin, bytes_left};
 
-use crate::named_run::RunWithNames;
 use calls_text::{CallsReader, Kept, Reused};
 use domain_run::NoMemory;
 use std::alloc::Global;
@@ -31,39 +29,4 @@ pub(crate) fn next_of<'t>(
         Ok(found) => Ok(found),
         Err(_) => Err(NoMemory),
     }
-}
-
-/// The run of the section that a reader has begun, of which it has read no call yet.
-pub(crate) fn run_read(
-    alloc: Global,
-    cpus: u32,
-    limit: u64,
-    reader: &mut CallsReader<'_>,
-    wanted: bool,
-) -> Result<RunWithNames, NoMemory>
-    requires begun { IsBegun cpus limit reader.old }
-    ensures run { (text : List ℕ) (before : List SectionView)
-        → IsWithin text before (empty_section cpus limit) reader.old
-        → IfOk result (IsReadRun text before cpus wanted reader.new) }
-    ensures never_more { bytes_left reader.new ≤ bytes_left reader.old }
-{
-    // Both are let go of by one call: their parts would be written out on each way.
-    let mut run = RunWithNames::open(alloc, cpus, limit, wanted)?;
-    let mut reused = Reused::none();
-    'calls: while let Some(kept) = match next_of(alloc, reader, &mut reused) {
-        Ok(found) => found,
-        Err(error) => {
-            drop(reused);
-            drop(run);
-            return Err(error);
-        }
-    } {
-        if let Err(error) = run.make_kept(alloc, kept, &mut reused) {
-            drop(reused);
-            drop(run);
-            return Err(error);
-        }
-    }
-    drop(reused);
-    Ok(run)
 }

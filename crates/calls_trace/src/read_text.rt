@@ -1,15 +1,15 @@
-//! The runs of the sections of a calls text. They are made as its calls are read, or, for its
-//! trace, while they are written.
+//! The runs of the sections of a calls text, which are made while its trace is written, alone or
+//! with what happens.
 
 ghost use Rattle.std.specs.Prelude.{IfErr, IfOk};
 ghost use Rattle.calls_text.specs.BadLine.{IsReadFault};
-ghost use Rattle.calls_trace.specs.private.ReadRuns.{AreReadRuns};
 ghost use Rattle.calls_trace.specs.private.ReadText.{ArePlaying};
+ghost use Rattle.calls_trace.specs.private.ReadEvents.{AreEventsOf};
 
-use crate::placed_run::PlacedRun;
+use crate::events_so_far::EventsSoFar;
 use crate::playing::Playing;
+use crate::playing_events::PlayingEvents;
 use crate::playing_so_far::PlayingSoFar;
-use crate::runs_so_far::RunsSoFar;
 use calls_text::{CallsFault, CallsReader};
 use std::alloc::Global;
 
@@ -27,20 +27,14 @@ pub(crate) fn playing_of_text(alloc: Global, text: &[u8]) -> Result<Vec<Playing>
     none.read_on(alloc, &mut reader)
 }
 
-/// The runs of the sections of a text, each on a domain of its own: the first has the first CPUs of
-/// the machine, the second the next ones, and so on. What happens in them is told where that is
-/// wanted.
-pub(crate) fn runs_of_text(
-    alloc: Global,
-    text: &[u8],
-    wanted: bool,
-) -> Result<Vec<PlacedRun>, CallsFault>
-    ensures runs { IfOk result (λ v. AreReadRuns text.now wanted v.items) }
+/// As [`playing_of_text`], with what happens.
+pub(crate) fn events_of_text(alloc: Global, text: &[u8]) -> Result<Vec<PlayingEvents>, CallsFault>
+    ensures runs { IfOk result (λ v. AreEventsOf text.now v.items) }
     ensures fault { IfErr result (IsReadFault text.now) }
 {
     let mut reader = CallsReader::open(text)?;
-    let Ok(none) = RunsSoFar::open(alloc) else {
+    let Ok(none) = EventsSoFar::open(alloc) else {
         return Err(CallsFault::Memory);
     };
-    none.read_on(alloc, &mut reader, wanted)
+    none.read_on(alloc, &mut reader)
 }

@@ -1,24 +1,26 @@
-//! The figures of the sections of a calls text, whose runs are heard while they are made.
+//! The figures and the jobs of the sections of a calls text, whose runs are heard while they are
+//! made.
 
 ghost use Rattle.std.specs.Prelude.{◌≡◌, ◌<◌, ◌≤◌, ◌^◌, ℕ, List, All, IfErr, IfOk, OnOk, length, map};
 ghost use Rattle.calls_text.specs.SectionView.{SectionView};
 ghost use Rattle.calls_text.specs.BadLine.{IsReadFault};
 ghost use Rattle.calls_text.specs.Reader.{IsWithin, empty_section, bytes_left};
 ghost use Rattle.counted_io.specs.Sides.{faults_of, side};
+ghost use Rattle.figure_text.specs.Jobs as jobs;
 ghost use Rattle.figure_text.specs.Summary as summaries;
 ghost use Rattle.calls_trace.specs.Written.{IsWritten, IsUnwritten};
 ghost use Rattle.calls_trace.specs.private.ReadRuns.{IsBegun};
-ghost use Rattle.calls_trace.specs.private.Summed.{summed_as, AreSummed, IsSummedSection};
+ghost use Rattle.calls_trace.specs.private.Summed.{jobs_as, summed_as, AreSummed, IsSummedSection};
 
 use crate::fault::TraceFault;
-use crate::figures::write_whole;
+use crate::figures::{write_all_jobs, write_whole};
 use crate::foreseen::foreseen_read;
 use crate::hearing::sum_up;
 use crate::summed_run::SummedRun;
 use calls_text::{CallsFault, CallsReader};
 use domain_run::NoMemory;
 use draft::Draft;
-use figure_text::{DomainSummary, put_summary};
+use figure_text::{DomainJobs, DomainSummary, put_summary};
 use std::alloc::Global;
 use std::io::Write;
 use switch_text::Counted;
@@ -26,28 +28,33 @@ use switch_text::Counted;
 /// The most sections of a text.
 const MOST_SECTIONS: usize = 8;
 
-/// The figures of the section that a reader has begun, of which it has read no call yet. Its calls
-/// are kept until they are made.
+/// The figures of the section that a reader has begun, of which it has read no call yet, and its
+/// jobs, if they are wanted. Its calls are kept until they are made.
 fn summed_read(
     alloc: Global,
     cpus: u32,
     limit: u64,
+    jobs: bool,
     reader: &mut CallsReader<'_>,
 ) -> Result<SummedRun, NoMemory>
     requires begun { IsBegun cpus limit reader.old }
     ensures read { (text : List ℕ) (before : List SectionView)
         → IsWithin text before (empty_section cpus limit) reader.old
-        → IfOk result (IsSummedSection text before reader.new) }
+        → IfOk result (IsSummedSection text before jobs reader.new) }
     ensures never_more { bytes_left reader.new ≤ bytes_left reader.old }
 {
     let foreseen = foreseen_read(alloc, cpus, limit, reader)?;
-    sum_up(alloc, cpus, limit, foreseen)
+    sum_up(alloc, cpus, limit, foreseen, jobs)
 }
 
-/// The figures of the sections of a text, each on a domain of its own. The run of each is made and
-/// heard once its calls are read, and it is not kept.
-pub(crate) fn summed_of_text(alloc: Global, text: &[u8]) -> Result<Vec<SummedRun>, CallsFault>
-    ensures runs { IfOk result (λ v. AreSummed text.now v.items) }
+/// The figures of the sections of a text, each on a domain of its own, and their jobs, if they are
+/// wanted. The run of each is made and heard once its calls are read, and it is not kept.
+pub(crate) fn summed_of_text(
+    alloc: Global,
+    jobs: bool,
+    text: &[u8],
+) -> Result<Vec<SummedRun>, CallsFault>
+    ensures runs { IfOk result (λ v. AreSummed text.now jobs v.items) }
     ensures fault { IfErr result (IsReadFault text.now) }
 {
     let mut reader = CallsReader::open(text)?;
@@ -55,7 +62,7 @@ pub(crate) fn summed_of_text(alloc: Global, text: &[u8]) -> Result<Vec<SummedRun
         return Err(CallsFault::Memory);
     };
     'sections: while let Some((cpus, limit)) = reader.next_domain()? {
-        match summed_read(alloc, cpus, limit, &mut reader) {
+        match summed_read(alloc, cpus, limit, jobs, &mut reader) {
             Ok(run) => runs.push_reserved(run),
             Err(NoMemory) => return Err(CallsFault::Memory),
         }
@@ -104,4 +111,31 @@ pub(crate) fn write_summed<W: Write>(
 {
     let text = summed_text(alloc, runs)?;
     write_whole(&text, writer)
+}
+
+/// The jobs of runs as they are written.
+fn all_as_jobs(alloc: Global, runs: &[SummedRun]) -> Result<Vec<DomainJobs<'_>>, NoMemory>
+    ensures { IfOk result (λ v. map jobs.jobs_view_of v.items ≡ map jobs_as runs.now) }
+{
+    let mut written = Vec::with_capacity(alloc, runs.len())?;
+    for run in runs {
+        written.push_reserved(run.as_jobs());
+    }
+    Ok(written)
+}
+
+/// Writes the jobs of runs. No memory is taken once the first byte is written.
+pub(crate) fn write_summed_jobs<W: Write>(
+    alloc: Global,
+    runs: &[SummedRun],
+    writer: &mut Counted<W>,
+) -> Result<(), TraceFault>
+    requires faults { faults_of writer.old < 2 ^ 63 }
+    ensures ok { OnOk result (IsWritten (side W.contents writer.old writer.new)
+        (jobs.jobs_text (map jobs_as runs.now))) }
+    ensures err { IfErr result (IsUnwritten (side W.contents writer.old writer.new)
+        (jobs.jobs_text (map jobs_as runs.now))) }
+{
+    let domains = all_as_jobs(alloc, runs)?;
+    write_all_jobs(&domains, writer)
 }

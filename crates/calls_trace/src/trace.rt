@@ -4,20 +4,26 @@ ghost use Rattle.std.specs.Prelude.{◌≡◌, ◌<◌, ◌≤◌, ◌^◌, All,
 ghost use Rattle.switch_text.specs.Runs as runs;
 ghost use Rattle.switch_text.specs.Telling.{told_view, told_views, IsTold};
 ghost use Rattle.counted_io.specs.Sides.{faults_of, side};
+ghost use Rattle.switch_text.specs.SlicedEvents.{told_runs, events_in, told_runs_text};
 ghost use Rattle.switch_text.specs.SlicedTrace.{wholes, all_entries};
 ghost use Rattle.switch_text.specs.Trace.{trace_of};
 ghost use Rattle.calls_trace.specs.Written.{IsWritten, IsUnwritten};
 ghost use Rattle.calls_trace.specs.declared.run_text.RunText.TheVariants as texts;
 ghost use Rattle.calls_trace.specs.private.Playing.{sliced_of};
+ghost use Rattle.calls_trace.specs.private.PlayingEvents.{sliced_events_of};
 ghost use Rattle.calls_trace.specs.private.Replaying.{IsPlaced, placed_view_of, placed_run_view, told_in, heard, text_of_runs};
 
 use crate::fault::TraceFault;
 use crate::placed_run::PlacedRun;
 use crate::playing::Playing;
+use crate::playing_events::PlayingEvents;
 use domain_run::{Happened, Log, NoMemory};
 use std::alloc::Global;
 use std::io::Write;
-use switch_text::{Counted, Run, Told, TraceRoom, write_events_in, write_slices, write_trace_in};
+use switch_text::{
+    Counted, Run, Told, TraceRoom, write_event_slices, write_events_in, write_slices,
+    write_trace_in,
+};
 
 /// A run as it is written.
 fn as_written(placed: &PlacedRun) -> Run<'_>
@@ -139,6 +145,39 @@ pub(crate) fn write_played<W: Write>(
         }
     };
     let written = write_slices(playing.as_mut_slice(), room, writer);
+    drop(playing);
+    match written {
+        Ok(()) => Ok(()),
+        Err(fault) => Err(TraceFault::Write {
+            written: fault.written,
+        }),
+    }
+}
+
+/// Writes the trace of runs under way, and between its lines those of what happens, while they are
+/// made. What needs memory is made before the first byte.
+pub(crate) fn write_played_events<W: Write>(
+    alloc: Global,
+    mut playing: Vec<PlayingEvents>,
+    writer: &mut Counted<W>,
+) -> Result<(), TraceFault>
+    requires few { length playing.items ≤ 8 }
+    requires countable { length (events_in (told_runs (map sliced_events_of playing.items)))
+        < 2 ^ 55 }
+    requires faults { faults_of writer.old < 2 ^ 63 }
+    ensures ok { OnOk result (IsWritten (side W.contents writer.old writer.new)
+        (told_runs_text (told_runs (map sliced_events_of playing.items)))) }
+    ensures err { IfErr result (IsUnwritten (side W.contents writer.old writer.new)
+        (told_runs_text (told_runs (map sliced_events_of playing.items)))) }
+{
+    let room = match room_in(alloc) {
+        Ok(room) => room,
+        Err(error) => {
+            drop(playing);
+            return Err(error.into());
+        }
+    };
+    let written = write_event_slices(playing.as_mut_slice(), room, writer);
     drop(playing);
     match written {
         Ok(()) => Ok(()),

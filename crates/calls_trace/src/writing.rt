@@ -16,12 +16,15 @@ ghost use Rattle.calls_trace.specs.private.RunTexts.{is_told_text, text_of_all};
 use crate::charting::write_chart_of;
 use crate::fault::{ReplayFault, TraceFault};
 use crate::figures::{write_jobs_of, write_summary_of, write_whole};
+use crate::foreseen_text::foreseen_of_text;
 use crate::placed_run::{PlacedRun, place_runs};
-use crate::read_text::{playing_of_text, runs_of_text};
+use crate::read_text::{events_of_text, playing_of_text};
 use crate::run_text::RunText;
-use crate::summing::{summed_of_text, write_summed};
-use crate::trace::{write_events_of, write_played, write_trace_of};
+use crate::sketched_text::write_sketched;
+use crate::summing::{summed_of_text, write_summed, write_summed_jobs};
+use crate::trace::{write_events_of, write_played, write_played_events, write_trace_of};
 use calls_text::{Section, read_calls};
+use chart_pieces::Span;
 use domain_run::{Log, State};
 use reply_text::{write_recorded, write_replies};
 use run_options::ReplayPrint;
@@ -53,23 +56,6 @@ fn write_runs<W: Write>(
     }
 }
 
-/// Makes the calls of a text, each as soon as it is read, and writes a text of their runs.
-fn write_read_runs<W: Write>(
-    alloc: Global,
-    kind: RunText,
-    text: &[u8],
-    writer: &mut Counted<W>,
-) -> Result<(), ReplayFault>
-    requires faults { faults_of writer.old < 2 ^ 63 }
-    ensures ok { OnOk result
-        (IsReplayed text.now (text_of_all kind) (side W.contents writer.old writer.new)) }
-    ensures err { IfErr result
-        (IsUnreplayed text.now (text_of_all kind) (side W.contents writer.old writer.new)) }
-{
-    let runs = runs_of_text(alloc, text, kind.tells())?;
-    Ok(write_runs(alloc, kind, &runs, writer)?)
-}
-
 /// Makes the calls of a text, and writes the trace of their runs while they are made.
 fn write_read_trace<W: Write>(
     alloc: Global,
@@ -86,6 +72,23 @@ fn write_read_trace<W: Write>(
     Ok(write_played(alloc, playing, writer)?)
 }
 
+/// Makes the calls of a text, and writes the trace of their runs, and between its lines those of
+/// what happens, while they are made.
+fn write_read_events<W: Write>(
+    alloc: Global,
+    text: &[u8],
+    writer: &mut Counted<W>,
+) -> Result<(), ReplayFault>
+    requires faults { faults_of writer.old < 2 ^ 63 }
+    ensures ok { OnOk result
+        (IsReplayed text.now (text_of_all texts.Events) (side W.contents writer.old writer.new)) }
+    ensures err { IfErr result (IsUnreplayed text.now (text_of_all texts.Events)
+        (side W.contents writer.old writer.new)) }
+{
+    let playing = events_of_text(alloc, text)?;
+    Ok(write_played_events(alloc, playing, writer)?)
+}
+
 /// Makes the calls of a text, and writes the figures of their runs, which are heard while they are
 /// made.
 fn write_read_summary<W: Write>(
@@ -99,8 +102,43 @@ fn write_read_summary<W: Write>(
     ensures err { IfErr result (IsUnreplayed text.now (text_of_all texts.Summary)
         (side W.contents writer.old writer.new)) }
 {
-    let runs = summed_of_text(alloc, text)?;
+    let runs = summed_of_text(alloc, false, text)?;
     Ok(write_summed(alloc, &runs, writer)?)
+}
+
+/// Makes the calls of a text, and writes the jobs of their runs, which are heard while they are
+/// made.
+fn write_read_jobs<W: Write>(
+    alloc: Global,
+    text: &[u8],
+    writer: &mut Counted<W>,
+) -> Result<(), ReplayFault>
+    requires faults { faults_of writer.old < 2 ^ 63 }
+    ensures ok { OnOk result
+        (IsReplayed text.now (text_of_all texts.Jobs) (side W.contents writer.old writer.new)) }
+    ensures err { IfErr result
+        (IsUnreplayed text.now (text_of_all texts.Jobs) (side W.contents writer.old writer.new)) }
+{
+    let runs = summed_of_text(alloc, true, text)?;
+    Ok(write_summed_jobs(alloc, &runs, writer)?)
+}
+
+/// Makes the calls of a text, and writes the chart of a part of their runs, which are drawn while
+/// they are made. All sections are read before: the chart may end where the last run does.
+fn write_read_chart<W: Write>(
+    alloc: Global,
+    span: Span,
+    text: &[u8],
+    writer: &mut Counted<W>,
+) -> Result<(), ReplayFault>
+    requires faults { faults_of writer.old < 2 ^ 63 }
+    ensures ok { OnOk result (IsReplayed text.now (text_of_all (texts.Chart span))
+        (side W.contents writer.old writer.new)) }
+    ensures err { IfErr result (IsUnreplayed text.now (text_of_all (texts.Chart span))
+        (side W.contents writer.old writer.new)) }
+{
+    let sections = foreseen_of_text(alloc, text)?;
+    Ok(write_sketched(alloc, span, sections, writer)?)
 }
 
 /// Makes the calls of a text, and writes a text of their runs.
@@ -118,8 +156,10 @@ pub(crate) fn write_run_text<W: Write>(
 {
     match kind {
         RunText::Trace => write_read_trace(alloc, text, writer),
+        RunText::Events => write_read_events(alloc, text, writer),
         RunText::Summary => write_read_summary(alloc, text, writer),
-        _ => write_read_runs(alloc, kind, text, writer),
+        RunText::Jobs => write_read_jobs(alloc, text, writer),
+        RunText::Chart(span) => write_read_chart(alloc, span, text, writer),
     }
 }
 

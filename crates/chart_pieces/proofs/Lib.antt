@@ -1,6 +1,9 @@
 pub mod Turning
 pub mod Moments
-pub mod Staying
-pub mod Closing
 pub mod Seen
+pub mod Stopping
+pub mod Holding
+pub mod Joining
+pub mod Hearing
 pub mod Full
+pub mod Closing

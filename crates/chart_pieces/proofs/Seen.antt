@@ -24,7 +24,7 @@ use Rattle.chart_pieces.specs.Standing.{at_rest, after_turn, is_shown}
 use Rattle.chart_pieces.specs.Rows.{gap_by, gaps_from, mark_in, job_marks, marks_by_told, is_dead, end_marks, marks_by, marks_from, row_of}
 use Rattle.chart_pieces.specs.Laws.{IsSeen, AreSeen}
 
-touches_seen : (w : Window) (a b : ℕ) → touches w a b ≡ true → IsSeen w a b
+pub touches_seen : (w : Window) (a b : ℕ) → touches w a b ≡ true → IsSeen w a b
 touches_seen w a b h =
     let p = and_parts (nat_lt a b) (nat_lt a w.to && nat_lt w.from b) h in
     let q = and_parts (nat_lt a w.to) (nat_lt w.from b) p.1 in

@@ -1,6 +1,6 @@
 -- A change of the element of one number, as a map.
 use Rattle.std.proofs.Common.{◌≡◌, ◌≢◌, ℕ, zero, suc, ◌<◌, cond, List, [], ◌∷◌, length, get_or, set, map, refl, sym, ap, ◌∙◌, arith, eq-eqb, subst}
-use Rattle.std.specs.Prelude.{AllPairs, OnOk, Result, Ok, Err}
+use Rattle.std.specs.Prelude.{AllPairs, IfOk, OnOk, Result, Ok, Err}
 use Rattle.std.proofs.lemmas.List.{length-map}
 use Rattle.std.proofs.lemmas.Bool.{ne_eqb}
 use Rattle.run_figures.specs.Places.{IsAt, IsAbsent, if_number}
@@ -50,3 +50,7 @@ place_inside number n xs numbers p keyed at = let l : p < length numbers = at.wi
 pub on_ok : {T E : Type 0} (r : Result T E) (P Q : Type 0) → (P → Q) → OnOk r P → OnOk r Q
 on_ok (Ok x) P Q f h = f h
 on_ok (Err e) P Q f h = tt
+
+pub if_ok : {T E : Type 0} (r : Result T E) (P Q : T → Type 0) → ((x : T) → P x → Q x) → IfOk r P → IfOk r Q
+if_ok (Ok x) P Q f h = f x h
+if_ok (Err e) P Q f h = tt

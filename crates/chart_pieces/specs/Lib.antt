@@ -5,5 +5,6 @@ pub mod Moments
 pub mod Standing
 pub mod Rows
 pub mod Laws
+pub mod Drawing
 pub mod Examples
 pub mod private

@@ -1,2 +1,4 @@
 pub mod LineView
 pub mod Lines
+pub mod Past
+pub mod Keeping

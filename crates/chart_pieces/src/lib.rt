@@ -3,14 +3,16 @@
 //!
 //! Meets the definitions of bars (`specs/Bars.antt`), of how a task stands (`specs/Standing.antt`)
 //! and of rows (`specs/Rows.antt`), of the part of the run that a window (`specs/Window.antt`)
-//! shows. To the crate above it promises that each row is the definition's, of the list of what
-//! happened and the switches that it was given; that all that is drawn has a part in the window;
-//! and that over a whole run the bars of a task sum to its CPU time in the summary.
+//! shows. The run is given whole, or heard piece by piece (`specs/Drawing.antt`). To the crate
+//! above it promises that each row is the definition's, of the list of what happened and the
+//! switches that it was given; that all that is drawn has a part in the window; and that over a
+//! whole run the bars of a task sum to its CPU time in the summary.
 #![tactic(auto)]
 
 mod drawing;
 mod lines;
 mod marks;
+mod past;
 mod row;
 mod standing;
 mod stays;
@@ -18,7 +20,7 @@ mod telling;
 mod window;
 
 pub use domain_run::NoMemory;
-pub use drawing::rows_of;
+pub use drawing::{Drawing, rows_of};
 pub use row::{Bar, Gap, Mark, Row, Sign};
 pub use standing::{Moment, Standing, Turn};
 pub use window::{Span, Window};

@@ -1,6 +1,6 @@
 //! A task while its switches and its moments go by.
 
-ghost use Rattle.std.specs.Prelude.{◌≡◌, IfOk, OnOk, map};
+ghost use Rattle.std.specs.Prelude.{◌≡◌, ◌≢◌, IfOk, OnOk, IfSome, IfNone, All, map};
 ghost use Rattle.chart_pieces.specs.private.Lines as lines;
 
 use crate::marks::{push_gap, push_marks};
@@ -16,7 +16,7 @@ use std::marker::Model;
 #[derive(Drop)]
 pub(crate) struct Line {
     number: u32,
-    /// Its bars, the last one first.
+    /// Its bars so far. One that goes on lasts to the end of the run.
     bars: Vec<Bar>,
     standing: Standing,
     /// Since when it stands so.
@@ -60,38 +60,98 @@ pub(crate) fn no_lines(alloc: Global, tasks: &[Admitted]) -> Result<Vec<Line>, N
 
 // ---- bars
 
-/// A stay that begins by a switch and ends at a time.
-fn push_bar(line: &mut Line, window: &Window, switch: &Switch, next: u64) -> Result<(), NoMemory>
-    ensures { OnOk result (line.new ≡ lines.with_bar window.now switch.now next line.old) }
+/// One more bar, from a switch to the end of the run.
+fn push_bar(line: &mut Line, window: &Window, switch: &Switch, end: u64) -> Result<(), NoMemory>
+    ensures { OnOk result (line.new ≡ lines.with_bar window.now switch.now end line.old) }
 {
-    if window.touches(switch.time(), next) {
+    if window.touches(switch.time(), end) {
         line.bars.push(Bar {
             cpu: switch.cpu(),
             start: switch.time(),
-            stop: next,
+            stop: end,
         })?;
     }
     Ok(())
 }
 
-/// The stay of the task that comes by a switch, where the CPU switches next at this time.
+/// One more bar of the task that comes by a switch, to the end of the run.
 pub(crate) fn put_bar(
     table: &mut Vec<Line>,
     places: &Places,
     window: &Window,
     switch: &Switch,
-    next: u64,
+    end: u64,
 ) -> Result<(), NoMemory>
     requires keyed { map (λ l. l.number) table.old.items ≡ places.now }
     ensures { OnOk result (table.new.items ≡ map
-        (lines.with_bar_of switch.now.next window.now switch.now next) table.old.items) }
+        (lines.with_bar_of switch.now.next window.now switch.now end) table.old.items) }
 {
     let Some(number) = switch.next() else {
         return Ok(());
     };
     match places.find(number) {
         None => Ok(()),
-        Some(place) => push_bar(&mut table[place], window, switch, next),
+        Some(place) => push_bar(&mut table[place], window, switch, end),
+    }
+}
+
+/// The place of the last bar on a CPU.
+fn last_on(bars: &[Bar], cpu: u16) -> Option<usize>
+    ensures found { IfSome result (lines.IsLastOn bars.now cpu) }
+    ensures absent { IfNone result (All (λ b. b.cpu ≢ cpu) bars.now) }
+{
+    let mut left = bars.len();
+    while left > 0 {
+        left -= 1;
+        if bars[left].cpu == cpu {
+            return Some(left);
+        }
+    }
+    None
+}
+
+/// Stops the last bar on the CPU of a switch, and takes it out if it has no part in the window.
+fn stop_bar(bars: &mut Vec<Bar>, window: &Window, switch: &Switch)
+    requires drawn { lines.AreDrawn window.now switch.now.time bars.old.items }
+    ensures { bars.new.items ≡ lines.bars_stopped window.now switch.now bars.old.items }
+{
+    let Some(place) = last_on(bars, switch.cpu()) else {
+        return;
+    };
+    let bar = bars[place];
+    let stop = bar.stop.min(switch.time());
+    if window.touches(bar.start, stop) {
+        bars[place] = Bar { stop, ..bar };
+    } else {
+        bars.remove(place);
+    }
+}
+
+fn stop_line(line: &mut Line, window: &Window, switch: &Switch)
+    requires drawn { lines.AreDrawn window.now switch.now.time line.old.bars }
+    ensures { line.new ≡ lines.with_stop window.now switch.now line.old }
+{
+    stop_bar(&mut line.bars, window, switch);
+}
+
+/// Stops the bar of the task that had the CPU up to a switch.
+pub(crate) fn put_stop(
+    table: &mut Vec<Line>,
+    places: &Places,
+    window: &Window,
+    switch: &Switch,
+    holder: Option<u32>,
+)
+    requires keyed { map (λ l. l.number) table.old.items ≡ places.now }
+    requires drawn { All (λ l. lines.AreDrawn window.now switch.now.time l.bars) table.old.items }
+    ensures { table.new.items
+        ≡ map (lines.with_stop_of holder window.now switch.now) table.old.items }
+{
+    let Some(number) = holder else {
+        return;
+    };
+    if let Some(place) = places.find(number) {
+        stop_line(&mut table[place], window, switch);
     }
 }
 
@@ -145,13 +205,12 @@ pub(crate) fn closed(line: Line, window: &Window, time: u64) -> Result<Row, NoMe
 {
     let Line {
         number,
-        mut bars,
+        bars,
         standing,
         since,
         mut gaps,
         marks,
     } = line;
-    bars.reverse();
     push_gap(&mut gaps, window, &standing, since, time)?;
     Ok(Row {
         number,

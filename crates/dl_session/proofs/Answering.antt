@@ -1,5 +1,5 @@
 -- What a run leaves answers the tasks, once all clients have asked for them.
-use Rattle.std.proofs.Common.{◌≡◌, ℕ, ◌<◌, ◌≤◌, arith, List, [], None, length, map, get_or, All, refl, sym, ap, subst, ◌∙◌}
+use Rattle.std.proofs.Common.{◌≡◌, ℕ, ◌<◌, ◌≤◌, arith, Bool, List, [], None, length, map, get_or, All, refl, sym, ap, subst, ◌∙◌}
 use Rattle.std.proofs.lemmas.List.{length-map, get_or-map}
 use Rattle.std.proofs.lemmas.List.Elements.{All-nil, All-from_get_or}
 use Rattle.counted_io.specs.Sides.{Side, IsUntouched}
@@ -12,6 +12,7 @@ use Rattle.call_book.specs.Book.{BookView, own_entries}
 use Rattle.call_book.specs.Playing.{PlayingView}
 use Rattle.calls_trace.specs.declared.fault.TraceFault.{TraceFault}
 use Rattle.calls_trace.specs.declared.fault.TraceFault.TheVariants as traces
+use Rattle.calls_trace.specs.Told.{told_of}
 use Rattle.calls_trace.specs.Written.{IsWritten, IsUnwritten}
 use Rattle.session.specs.declared.refusal.Refusal.{Refusal}
 use Rattle.session.specs.declared.report.Report.{Report}
@@ -21,22 +22,26 @@ use Rattle.session.specs.declared.fault.EndFault.{EndFault}
 use Rattle.session.specs.declared.fault.EndFault.TheVariants as ends
 use Rattle.session.specs.SessionId.{SessionId, IsDomainIndex}
 use Rattle.session.specs.Asks.{ClientView, client_pass_in}
-use Rattle.session.specs.Begun.{UnderWayView, played_books, section_of, IsRunBegun}
-use Rattle.session.specs.Report.{IsHistoryOf, IsLeft, IsSessionReport}
-use Rattle.session.specs.RunEnd.{FirstIsOne, EndsWith, IsFinished, IsFullWith, IsRunStopped}
+use Rattle.session.specs.Begun.{UnderWayView, section_of, IsRunBegun}
+use Rattle.session.specs.Report.{IsHistoryOf, IsLeft}
+use Rattle.session.specs.RunEnd.{FirstIsOne, EndsWith, IsFinished, IsFullWith, IsRunStopped, told_at_end}
 use Rattle.dl_session.specs.declared.fault.SessionFault.{SessionFault}
 use Rattle.dl_session.specs.declared.fault.SessionFault.TheVariants as faults
 use Rattle.dl_session.specs.Upward.{of_end, from_trace, IsUnasked}
 use Rattle.dl_session.specs.FullBook.{IsFullDomain}
 use Rattle.dl_session.specs.private.Asked.{HaveAsked, AnswerTasks, IsRunWritten, IsRunUnwritten}
-use Rattle.dl_session.specs.private.PlayedBooks.{played_histories, AreReady}
+use Rattle.dl_session.specs.private.PlayedBooks.{played_histories, AreLogging, AreReady, TellsAll}
 use Rattle.dl_session.specs.private.Printing.{IsMadeText, IsWrittenAs, IsUnwrittenAs}
 use Rattle.dl_session.specs.private.Running.{AreLeftAs}
 use Rattle.dl_session.specs.private.Telling.{told_text, print_of}
 use Rattle.dl_session.specs.declared.telling.Telling.{Telling}
 use Rattle.dl_session.specs.declared.telling.Telling.TheVariants as tellings
 use Rattle.dl_session.proofs.ScenarioLaw.{answers_all, answers_tasks}
-use Rattle.dl_session.proofs.Logged.{left_as}
+use Rattle.dl_session.specs.private.Streaming.{streamed_print, streamed_text}
+use Rattle.dl_session.specs.declared.streaming.Streaming.{Streaming}
+use Rattle.dl_session.specs.declared.streaming.Streaming.TheVariants as streams
+use Rattle.dl_session.proofs.Logged.{left_as, section_tells}
+use Rattle.dl_session.proofs.PlayedRuns.{history_at}
 
 -- ---- the clients
 
@@ -98,52 +103,74 @@ nobody id = record {
   left = None;
 }
 
-begun_count : (id : SessionId) (duration : ℕ) (es : List ClientView) (books : List PlayingView) (rest : UnderWayView) → IsRunBegun id duration es books rest → length (map section_of rest.books) ≡ length id.cpu_sets
-begun_count id duration es books rest begun = length-map rest.books section_of ∙ begun.count
+begun_count : (id : SessionId) (duration : ℕ) (logs : Bool) (es : List ClientView) (books : List PlayingView) (rest : UnderWayView) → IsRunBegun id duration logs es books rest → length (map section_of rest.books) ≡ length id.cpu_sets
+begun_count id duration logs es books rest begun = length-map rest.books section_of ∙ begun.count
 
 -- the history of a domain
-begun_at : (id : SessionId) (duration : ℕ) (es : List ClientView) (books : List PlayingView) (rest : UnderWayView) → IsRunBegun id duration es books rest → (P : SectionView → Type 0) (d : ℕ) (x : SectionView) → d < length id.cpu_sets
+begun_at : (id : SessionId) (duration : ℕ) (logs : Bool) (es : List ClientView) (books : List PlayingView) (rest : UnderWayView) → IsRunBegun id duration logs es books rest → (P : SectionView → Type 0) (d : ℕ) (x : SectionView) → d < length id.cpu_sets
     → (d < length rest.books → P (section_of (get_or rest.books d (nobody id)))) → P (get_or (map section_of rest.books) d x)
-begun_at id duration es books rest begun P d x place has =
+begun_at id duration logs es books rest begun P d x place has =
     let there : d < length rest.books = omega (arith, place, begun.count) in
     subst P (sym (get_or-map section_of rest.books d (nobody id) x there)) (has there)
 
-begun_histories : (id : SessionId) (duration : ℕ) (es : List ClientView) (books : List PlayingView) (rest : UnderWayView) → IsRunBegun id duration es books rest
+begun_histories : (id : SessionId) (duration : ℕ) (logs : Bool) (es : List ClientView) (books : List PlayingView) (rest : UnderWayView) → IsRunBegun id duration logs es books rest
     → (d : ℕ) (x : SectionView) → IsDomainIndex id d → IsHistoryOf id d rest.clients (get_or (map section_of rest.books) d x)
-begun_histories id duration es books rest begun d x place = begun_at id duration es books rest begun (IsHistoryOf id d rest.clients) d x place (begun.histories d (nobody id))
+begun_histories id duration logs es books rest begun d x place = begun_at id duration logs es books rest begun (IsHistoryOf id d rest.clients) d x place (begun.histories d (nobody id))
 
-pub begun_answers : (id : SessionId) (tasks : List TaskSpecView) (duration : ℕ) (es : List ClientView) (refused : List (ℕ × Refusal)) (books : List PlayingView) (rest : UnderWayView)
-    → HaveAsked id tasks es refused → IsRunBegun id duration es books rest → AnswerTasks id tasks duration (map section_of rest.books) refused
-begun_answers id tasks duration es refused books rest asked begun =
-    let count = begun_count id duration es books rest begun in
-    let legal = begun_histories id duration es books rest begun in
+pub begun_answers : (id : SessionId) (tasks : List TaskSpecView) (duration : ℕ) (logs : Bool) (es : List ClientView) (refused : List (ℕ × Refusal)) (books : List PlayingView) (rest : UnderWayView)
+    → HaveAsked id tasks es refused → IsRunBegun id duration logs es books rest → AnswerTasks id tasks duration (map section_of rest.books) refused
+begun_answers id tasks duration logs es refused books rest asked begun =
+    let count = begun_count id duration logs es books rest begun in
+    let legal = begun_histories id duration logs es books rest begun in
     record {
       count = count;
       legal = λ d x place. by_nobody id d rest.clients _ (legal d x place);
       answers = answers_all id tasks duration asked.before es rest.clients refused (map section_of rest.books) asked.some asked.new asked.asked begun.advanced count legal
-          (λ d x place. begun_at id duration es books rest begun (λ (s : SectionView). EndsWith duration s.entries) d x place (begun.ends d (nobody id)));
+          (λ d x place. begun_at id duration logs es books rest begun (λ (s : SectionView). EndsWith duration s.entries) d x place (begun.ends d (nobody id)));
     }
 
 -- its books can be written
-pub begun_ready : (id : SessionId) (duration : ℕ) (es : List ClientView) (books : List PlayingView) (rest : UnderWayView) → length id.cpu_sets ≤ 8 → IsRunBegun id duration es books rest → AreReady books
-begun_ready id duration es books rest few begun =
-    let legal = begun_histories id duration es books rest begun in
-    let count = begun_count id duration es books rest begun in
+pub begun_ready : (id : SessionId) (tasks : List TaskSpecView) (duration : ℕ) (logs : Bool) (es : List ClientView) (refused : List (ℕ × Refusal)) (books : List PlayingView) (rest : UnderWayView)
+    → length id.cpu_sets ≤ 8 → duration ≤ 60000000 → HaveAsked id tasks es refused → IsRunBegun id duration logs es books rest → AreReady books
+begun_ready id tasks duration logs es refused books rest few short asked begun =
+    let legal = begun_histories id duration logs es books rest begun in
+    let count = begun_count id duration logs es books rest begun in
     let same : map section_of rest.books ≡ played_histories books = ap (λ (bs : List BookView). map section_of bs) (sym begun.same) in
     let x = section_of (nobody id) in
     let sections : All IsSection (map section_of rest.books) = All-from_get_or IsSection (map section_of rest.books) x (λ d inside. (legal d x (omega (arith, inside, count))).spelled) in
     let lawful : AreLegal (map section_of rest.books) = All-from_get_or (λ (h : SectionView). IsLegal h.cpus h.limit h.entries) (map section_of rest.books) x (λ d inside. (legal d x (omega (arith, inside, count))).legal) in
+    let are = begun_answers id tasks duration logs es refused books rest asked begun in
+    let many = ap (λ (bs : List BookView). length bs) begun.same in
+    let long = length-map books (λ (p : PlayingView). p.book) in
+    let tells : (d : ℕ) (p : PlayingView) → d < length books → TellsAll (get_or books d p) = λ d p inside.
+    let q = get_or books d p in
+    let h = section_of q.book in
+    let there : d < length id.cpu_sets = omega (arith, inside, begun.count, many, long) in
+    let place : d < length (map section_of rest.books) = omega (arith, there, count) in
+    let at : get_or (map section_of rest.books) d h ≡ h = ap (λ (hs : List SectionView). get_or hs d h) same ∙ history_at books d p h inside in
+    let ends = begun.tell d p inside in
     record {
-      few = let many = ap (λ (bs : List BookView). length bs) begun.same in omega (arith, few, begun.count, many, length-map books (λ (p : PlayingView). p.book));
+      few = omega (arith, ends.most, short);
+      all = ends.tells ∙ sym (subst (λ (s : SectionView). told_of s ≡ told_at_end duration s.cpus s.limit s.entries) at
+          (section_tells id id.clients tasks duration (map section_of rest.books) refused are.count are.legal are.answers d h there));
+    } in
+    record {
+      few = omega (arith, few, begun.count, many, long);
       sections = subst (All IsSection) same sections;
       legal = subst AreLegal same lawful;
       whole = begun.whole;
+      untold = λ d p inside. (begun.untold d p inside).told;
+      tell = tells;
     }
 
-pub begun_legal : (id : SessionId) (duration : ℕ) (es : List ClientView) (books : List PlayingView) (rest : UnderWayView) → IsRunBegun id duration es books rest → AreLegal (map section_of rest.books)
-begun_legal id duration es books rest begun =
-    let legal = begun_histories id duration es books rest begun in
-    let count = begun_count id duration es books rest begun in
+-- what happens in them is logged where it is wanted
+pub begun_logged : (id : SessionId) (duration : ℕ) (logs : Bool) (es : List ClientView) (books : List PlayingView) (rest : UnderWayView) → IsRunBegun id duration logs es books rest → AreLogging logs books
+begun_logged id duration logs es books rest begun d p inside = (begun.untold d p inside).logs
+
+pub begun_legal : (id : SessionId) (duration : ℕ) (logs : Bool) (es : List ClientView) (books : List PlayingView) (rest : UnderWayView) → IsRunBegun id duration logs es books rest → AreLegal (map section_of rest.books)
+begun_legal id duration logs es books rest begun =
+    let legal = begun_histories id duration logs es books rest begun in
+    let count = begun_count id duration logs es books rest begun in
     let x = section_of (nobody id) in
     All-from_get_or (λ (h : SectionView). IsLegal h.cpus h.limit h.entries) (map section_of rest.books) x (λ d inside. (legal d x (omega (arith, inside, count))).legal)
 
@@ -214,6 +241,11 @@ is_unwritten id tasks duration print refused hs w text traces.Memory f are said 
 pub told_as : (telling : Telling) (tasks : List TaskSpecView) (hs : List SectionView) → IsMadeText (print_of telling) tasks hs (told_text telling hs)
 told_as tellings.Calls tasks hs = refl
 told_as tellings.Replies tasks hs = refl
+
+-- the text that is written while the run is made is what is printed
+pub streamed_as : (streaming : Streaming) (tasks : List TaskSpecView) (hs : List SectionView) → IsMadeText (streamed_print streaming) tasks hs (streamed_text streaming hs)
+streamed_as streams.Trace tasks hs = refl
+streamed_as streams.Events tasks hs = refl
 
 -- ---- why there is no run
 

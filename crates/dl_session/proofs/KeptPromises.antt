@@ -1,11 +1,10 @@
 -- A task of a scenario that is said to be never late is never late.
-use Rattle.std.proofs.Common.{◌≡◌, ℕ, zero, suc, ◌+◌, ◌<◌, Bool, true, false, cond, eqb, Option, Some, None, Ok, List, [], ◌∷◌, ◌++◌, length, map, get_or, refl, sym, ap, ◌∙◌, subst, arith, inl, inr}
-use Rattle.std.specs.Prelude.{All, find, slice_get, is_some}
+use Rattle.std.proofs.Common.{◌≡◌, ℕ, suc, ◌+◌, ◌<◌, Bool, true, false, cond, eqb, Option, Some, None, List, [], ◌∷◌, length, map, get_or, refl, sym, ap, ◌∙◌, subst, arith, inl, inr}
+use Rattle.std.specs.Prelude.{All, find, slice_get}
 use Rattle.std.proofs.lemmas.Bool.{cases_Bool, eqb-true}
-use Rattle.std.proofs.lemmas.Option.{same_Some, slice_get_within, get_or_from_slice_get, slice_get-get_or}
+use Rattle.std.proofs.lemmas.Option.{same_Some, slice_get_within, get_or_from_slice_get}
 use Rattle.std.proofs.lemmas.List.{length-map, get_or-map}
 use Rattle.domain_run.specs.declared.call.Call.{Call}
-use Rattle.domain_run.specs.declared.call.Call.TheVariants.{Admit}
 use Rattle.domain_run.specs.declared.task.Task.{Task}
 use Rattle.domain_run.specs.Domain.{Domain}
 use Rattle.domain_run.specs.Run.{run_of}
@@ -23,7 +22,6 @@ use Rattle.calls_text.specs.Histories.{calls_of}
 use Rattle.calls_text.specs.Limits.{IsCall, IsEntry}
 use Rattle.session.specs.declared.refusal.Refusal.{Refusal}
 use Rattle.session.specs.SessionId.{SessionId, IsDomainIndex}
-use Rattle.session.specs.Asks.{admit_call}
 use Rattle.session.specs.RunEnd.{run_in}
 use Rattle.session.specs.Report.{IsHistoryOf}
 use Rattle.dl_session.specs.ScenarioAnswers.{AnswersScenario}

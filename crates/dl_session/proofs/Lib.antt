@@ -17,5 +17,6 @@ pub mod Rows
 pub mod KeptPromises
 pub mod Answering
 pub mod PlayedRuns
+pub mod ToldRuns
 pub mod Ran
 pub mod Endings

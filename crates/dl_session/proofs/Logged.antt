@@ -22,7 +22,7 @@ use Rattle.calls_text.specs.SectionView.{SectionView}
 use Rattle.calls_text.specs.Histories.{calls_of}
 use Rattle.calls_text.specs.Histories.{AreTold}
 use Rattle.run_figures.specs.Accounting.{AccountingView}
-use Rattle.calls_trace.specs.Told.{domain_of}
+use Rattle.calls_trace.specs.Told.{domain_of, told_of}
 use Rattle.calls_trace.specs.Heard.{AreAccountings}
 use Rattle.session.specs.declared.refusal.Refusal.{Refusal}
 use Rattle.session.specs.SessionId.{SessionId, IsDomainIndex}
@@ -119,7 +119,7 @@ end_tells false duration cpus limit entries parts none =
     ap (told_by_calls d) (last_if false duration none)
     ∙ ap (λ (n : ℕ). told_at_end n cpus limit entries) (sym zero_is)
 
--- the calls of a history tell what so many ticks at its end tell
+-- the calls of a history tell what the ticks at its end tell
 pub history_tells : (duration cpus limit : ℕ) (entries : List Entry) → IsSplit (empty_domain cpus limit) duration entries
     → told_by_calls (empty_domain cpus limit) (calls_of entries) ≡ told_at_end duration cpus limit entries
 history_tells duration cpus limit entries parts =
@@ -132,6 +132,16 @@ history_tells duration cpus limit entries parts =
     ∙ end_tells (ltb 0 duration) duration cpus limit entries parts refl
 
 -- ---- all domains
+
+-- the calls of the history of a domain tell what the ticks at its end tell
+pub section_tells : (id : SessionId) (clients : ℕ) (tasks : List TaskSpecView) (duration : ℕ) (histories : List SectionView) (refused : List (ℕ × Refusal))
+    → length histories ≡ length id.cpu_sets
+    → ((d : ℕ) (x : SectionView) → IsDomainIndex id d → IsHistoryOf id d [] (get_or histories d x))
+    → AnswersScenario id clients tasks duration (map (λ h. h.entries) histories) refused
+    → (d : ℕ) (s : SectionView) → IsDomainIndex id d → let h = get_or histories d s in told_of h ≡ told_at_end duration h.cpus h.limit h.entries
+section_tells id clients tasks duration histories refused count legal answers d s place =
+    let h = get_or histories d s in
+    history_tells duration h.cpus h.limit h.entries (split_of id clients tasks duration histories refused count legal answers d s place)
 
 pub are_told : (id : SessionId) (clients : ℕ) (tasks : List TaskSpecView) (duration : ℕ) (wanted : Bool) (histories : List SectionView) (refused : List (ℕ × Refusal)) (logs : List LogView)
     → length histories ≡ length id.cpu_sets
@@ -190,6 +200,11 @@ left_as id clients tasks duration wants.Happened f refused count legal answers l
   told = are_told id clients tasks duration true f.report.histories.items refused f.logs.items count legal answers left.logs;
 }
 left_as id clients tasks duration wants.Figures f refused count legal answers left = record {
+  as_many = left.heard_count;
+  runs = λ d s x inside. ap without_switches (left.runs d s x inside);
+  all = are_heard id clients tasks duration f.report.histories.items refused f.heard.items count legal answers left.heard;
+}
+left_as id clients tasks duration wants.Jobs f refused count legal answers left = record {
   as_many = left.heard_count;
   runs = λ d s x inside. ap without_switches (left.runs d s x inside);
   all = are_heard id clients tasks duration f.report.histories.items refused f.heard.items count legal answers left.heard;

@@ -1,12 +1,11 @@
 -- Books whose advance is made while their switches are written.
-use Rattle.std.proofs.Common.{◌≡◌, ℕ, zero, suc, ◌+◌, ◌*◌, ◌^◌, ◌≤◌, ◌<◌, arith, Option, Some, None, List, [], ◌∷◌, ◌++◌, length, map, get_or, All, refl, sym, ap, subst, ◌∙◌, append-nil}
+use Rattle.std.proofs.Common.{◌≡◌, ℕ, zero, suc, ◌+◌, ◌^◌, ◌≤◌, ◌<◌, arith, Option, Some, None, List, [], ◌∷◌, ◌++◌, length, map, get_or, All, refl, sym, ap, subst, ◌∙◌}
 use Rattle.std.specs.Prelude.{IfSome}
 use Rattle.std.specs.List.{AllZip}
 use Rattle.std.proofs.lemmas.List.{length-map, get_or-map}
 use Rattle.std.proofs.lemmas.List.Elements.{All-weaker, All-head, All-tail, recursion_from_All}
 use Rattle.domain_run.specs.Domain.{Domain}
 use Rattle.domain_run.specs.Coming.{switches_to_come}
-use Rattle.domain_run.specs.Passing.{without_switches}
 use Rattle.domain_run.specs.Sound.{IsDomain, IsSwitch, IsAdmitted}
 use Rattle.domain_run.specs.Switch.{Switch}
 use Rattle.domain_run.specs.Tick.{ticks}
@@ -19,12 +18,15 @@ use Rattle.switch_text.specs.SlicedTrace.{SlicedView, whole_of, wholes, all_entr
 use Rattle.switch_text.specs.Trace.{SwitchesView}
 use Rattle.call_book.specs.Book.{BookView, state_of}
 use Rattle.call_book.specs.Playing.{PlayingView, switches_ahead, all_switches, HasWholeRun, LeadsToRun, IsFurther}
-use Rattle.calls_trace.specs.HistoryNames.{AreNamesOf}
 use Rattle.calls_trace.specs.Replay.{run_view, runs_from}
 use Rattle.calls_trace.proofs.CallerLemmas.{all_few}
 use Rattle.session.specs.Begun.{section_of, played_books}
 use Rattle.dl_session.specs.declared.played.PlayedRun.{PlayedRun}
+use Rattle.dl_session.specs.declared.streaming.Streaming.{Streaming}
+use Rattle.dl_session.specs.declared.streaming.Streaming.TheVariants as streams
 use Rattle.dl_session.specs.private.Named.{AreAllNamed}
+use Rattle.dl_session.specs.private.Streaming.{AreCountable}
+use Rattle.dl_session.proofs.ToldRuns.{events_few}
 use Rattle.dl_session.specs.private.PlayedBooks.{played_slices, played_book, played_histories, IsNamedBook, AreReady}
 
 -- ---- a book
@@ -162,8 +164,9 @@ books_few runs books ready is =
     let all = all_few 0 (played_histories books) (recursion_from_All IsSection (played_histories books) ready.sections) in
     omega (arith, ap (λ (vs : List SwitchesView). length (all_entries vs)) is, all, few, long, more)
 
-twice : (books : List PlayingView) (i : ℕ) (p : PlayingView) (s : SectionView) → i < length books → get_or (played_histories books) i s ≡ section_of (get_or books i p).book
-twice books i p s inside =
+-- the history of a book at a place, from the list of histories
+pub history_at : (books : List PlayingView) (i : ℕ) (p : PlayingView) (s : SectionView) → i < length books → get_or (played_histories books) i s ≡ section_of (get_or books i p).book
+history_at books i p s inside =
     let many = length-map books (λ (q : PlayingView). q.book) in
     get_or-map section_of (played_books books) i p.book s (omega (arith, inside, many)) ∙ ap section_of (get_or-map (λ (q : PlayingView). q.book) books i p p.book inside)
 
@@ -173,7 +176,7 @@ section_at books i p ready inside is =
     let many = length-map books (λ (q : PlayingView). q.book) in
     let long = length-map (played_books books) section_of in
     let there = ready.sections i (section_of p.book) (omega (arith, inside, many, long)) in
-    subst (λ (q : PlayingView). IsSection (section_of q.book)) (sym is) (subst IsSection (twice books i p (section_of p.book) inside) there)
+    subst (λ (q : PlayingView). IsSection (section_of q.book)) (sym is) (subst IsSection (history_at books i p (section_of p.book) inside) there)
 
 pub legal_at : (books : List PlayingView) (i : ℕ) (p : PlayingView) → AreReady books → i < length books → p ≡ get_or books i p → IsLegal p.book.cpus p.book.limit p.book.history
 legal_at books i p ready inside is =
@@ -181,4 +184,14 @@ legal_at books i p ready inside is =
     let long = length-map (played_books books) section_of in
     let there = ready.legal i (section_of p.book) (omega (arith, inside, many, long)) in
     subst (λ (q : PlayingView). IsLegal q.book.cpus q.book.limit q.book.history) (sym is)
-    (subst (λ (s : SectionView). IsLegal s.cpus s.limit s.entries) (twice books i p (section_of p.book) inside) there)
+    (subst (λ (s : SectionView). IsLegal s.cpus s.limit s.entries) (history_at books i p (section_of p.book) inside) there)
+
+-- what is written can be counted
+pub are_countable : (streaming : Streaming) (runs : List PlayedRun) (books : List PlayingView) → AreReady books → map played_book runs ≡ played_books books → wholes (map played_slices runs) ≡ runs_from 0 (played_histories books) → AreCountable streaming runs
+are_countable streams.Trace runs books ready same whole = books_few (wholes (map played_slices runs)) books ready whole
+are_countable streams.Events runs books ready same whole =
+    let long = length-map books (λ (p : PlayingView). p.book) in
+    let more = length-map (played_books books) section_of in
+    let many = ap (λ (bs : List BookView). length bs) same in
+    events_few runs (played_histories books) (omega (arith, many, length-map runs played_book, long, ready.few)) (omega (arith, long, more, ready.few))
+    (recursion_from_All IsSection (played_histories books) ready.sections) whole

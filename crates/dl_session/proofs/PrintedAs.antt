@@ -7,15 +7,15 @@ use Rattle.domain_run.specs.Log.{LogView}
 use Rattle.run_figures.specs.Accounting.{AccountingView}
 use Rattle.run_options.specs.declared.replay_print.ReplayPrint.{ReplayPrint}
 use Rattle.run_options.specs.declared.replay_print.ReplayPrint.TheVariants as replays
-use Rattle.calls_trace.specs.Told.{summary_of_sections}
+use Rattle.calls_trace.specs.Told.{jobs_of_sections, summary_of_sections}
 use Rattle.calls_trace.specs.Answer.{replayed_text}
 use Rattle.run_options.specs.Options.{print_tells}
 use Rattle.run_options.specs.declared.options.Print.{Print}
 use Rattle.run_options.specs.declared.options.Print.TheVariants as prints
 use Rattle.rtapp_scenario.specs.ScenarioView.{TaskSpecView}
 use Rattle.calls_text.specs.Histories.{AreRuns}
-use Rattle.dl_session.specs.Promised.{domains_of, IsRowOf, AreRows}
-use Rattle.dl_session.specs.declared.printing.Source.TheVariants.{Histories, Heard, Tasks, Logs}
+use Rattle.dl_session.specs.Promised.{IsRowOf, AreRows}
+use Rattle.dl_session.specs.declared.printing.Source.TheVariants.{Histories, Heard, HeardJobs, Tasks, Logs}
 use Rattle.dl_session.specs.private.Printing.{source_of, wanted_for, IsMadeText}
 use Rattle.dl_session.specs.private.Running.{AreRunLogs, AreFigured, AreLeftAs}
 use Rattle.dl_session.proofs.Rows.{states_are}
@@ -31,7 +31,7 @@ text_is prints.Trace text e tasks hs = ap (λ (p : ReplayPrint). replayed_text p
 text_is prints.Calls text e tasks hs = absurd cc
 text_is prints.Replies text e tasks hs = ap (λ (p : ReplayPrint). replayed_text p hs) (sym (meant replays.Replies text e))
 text_is prints.Events text e tasks hs = ap (λ (p : ReplayPrint). replayed_text p hs) (sym (meant replays.Events text e))
-text_is prints.Jobs text e tasks hs = ap (λ (p : ReplayPrint). replayed_text p hs) (sym (meant replays.Jobs text e))
+text_is prints.Jobs text e tasks hs = absurd cc
 text_is prints.Summary text e tasks hs = absurd cc
 text_is prints.Promises text e tasks hs = absurd cc
 text_is (prints.Chart span) text e tasks hs = ap (λ (p : ReplayPrint). replayed_text p hs) (sym (meant (replays.Chart span) text e))
@@ -46,7 +46,7 @@ are_logged prints.Trace text e hs states logs heard are = logged_as replays.Trac
 are_logged prints.Calls text e hs states logs heard are = absurd cc
 are_logged prints.Replies text e hs states logs heard are = logged_as replays.Replies text e hs states logs are
 are_logged prints.Events text e hs states logs heard are = logged_as replays.Events text e hs states logs are
-are_logged prints.Jobs text e hs states logs heard are = logged_as replays.Jobs text e hs states logs are
+are_logged prints.Jobs text e hs states logs heard are = absurd cc
 are_logged prints.Summary text e hs states logs heard are = absurd cc
 are_logged prints.Promises text e hs states logs heard are = absurd cc
 are_logged (prints.Chart span) text e hs states logs heard are = logged_as (replays.Chart span) text e hs states logs are
@@ -73,6 +73,27 @@ summary_alone prints.Jobs e tasks hs = absurd cc
 summary_alone prints.Summary e tasks hs = refl
 summary_alone prints.Promises e tasks hs = absurd cc
 summary_alone (prints.Chart span) e tasks hs = absurd cc
+
+pub jobs_are_figured : (print : Print) → source_of print ≡ HeardJobs → (hs : List SectionView) (states : List Domain) (logs : List LogView) (heard : List AccountingView)
+    → AreLeftAs (wanted_for print) hs states logs heard → AreFigured hs states heard
+jobs_are_figured prints.Trace e hs states logs heard are = absurd cc
+jobs_are_figured prints.Calls e hs states logs heard are = absurd cc
+jobs_are_figured prints.Replies e hs states logs heard are = absurd cc
+jobs_are_figured prints.Events e hs states logs heard are = absurd cc
+jobs_are_figured prints.Jobs e hs states logs heard are = are
+jobs_are_figured prints.Summary e hs states logs heard are = absurd cc
+jobs_are_figured prints.Promises e hs states logs heard are = absurd cc
+jobs_are_figured (prints.Chart span) e hs states logs heard are = absurd cc
+
+pub jobs_alone : (print : Print) → source_of print ≡ HeardJobs → (tasks : List TaskSpecView) (hs : List SectionView) → IsMadeText print tasks hs (jobs_of_sections hs)
+jobs_alone prints.Trace e tasks hs = absurd cc
+jobs_alone prints.Calls e tasks hs = absurd cc
+jobs_alone prints.Replies e tasks hs = absurd cc
+jobs_alone prints.Events e tasks hs = absurd cc
+jobs_alone prints.Jobs e tasks hs = refl
+jobs_alone prints.Summary e tasks hs = absurd cc
+jobs_alone prints.Promises e tasks hs = absurd cc
+jobs_alone (prints.Chart span) e tasks hs = absurd cc
 
 -- ---- of histories alone
 

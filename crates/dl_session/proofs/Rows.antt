@@ -1,5 +1,5 @@
 -- The rows of tasks, and how they are found.
-use Rattle.std.proofs.Common.{◌≡◌, ℕ, zero, suc, ◌+◌, ◌<◌, Bool, true, false, cond, Option, Some, None, List, [], ◌∷◌, ◌++◌, length, map, get_or, refl, sym, ap, ◌∙◌, subst, arith}
+use Rattle.std.proofs.Common.{◌≡◌, ℕ, suc, Some, List, [], ◌∷◌, ◌++◌, length, refl, arith}
 use Rattle.std.specs.Prelude.{slice_get}
 use Rattle.domain_run.specs.Domain.{Domain}
 use Rattle.calls_text.specs.SectionView.{SectionView}

@@ -1,5 +1,5 @@
 -- A text was written of which something is said.
-use Rattle.std.proofs.Common.{◌≡◌, ℕ, List, Result, Ok, Err}
+use Rattle.std.proofs.Common.{ℕ, List, Result, Ok, Err}
 use Rattle.std.specs.Prelude.{OnOk, IfErr}
 use Rattle.counted_io.specs.Sides.{Side}
 use Rattle.calls_trace.specs.declared.fault.TraceFault.{TraceFault}

@@ -10,9 +10,9 @@ use Rattle.session.specs.Report.{IsHistoryOf}
 use Rattle.session.specs.Admissions.{own_asked}
 use Rattle.dl_session.specs.ScenarioAnswers.{IsByCap}
 
--- the admissions of a scenario alone, in one domain, for so many clients: there is a lawful answer
--- for each task, and EBUSY of this domain's book is by its cap; and the entries of each client are
--- the calls of its own tasks that were answered there, in the order of tasks
+-- the admissions of a scenario alone, in one domain, for this number of clients: there is a lawful
+-- answer for each task, and EBUSY of this domain's book is by its cap; and the entries of each
+-- client are the calls of its own tasks that were answered there, in the order of tasks
 pub record AnswersTasks (id : SessionId) (clients : ℕ) (tasks : List TaskSpecView) (d : ℕ)
     (history : List Entry) : Type 0 where
   pub asked : List Asked

@@ -174,7 +174,7 @@ pub record IsUnstarted (s : Streams) : Type 0 where
   pub reads : HasNoFault s.reader
   pub writes : HasNoFault s.writer
 
--- the writer failed: exactly so many bytes of the text of a run were taken, and not all
+-- the writer failed: exactly that many bytes of the text of a run were taken, and not all
 pub record IsRunCutOff (s : Streams) (o : Options) (written : ℕ) : Type 0 where
   pub histories : List SectionView
   pub refused : List (ℕ × Refusal)

@@ -25,9 +25,9 @@ abbrev pub IsByCap : SessionId → ℕ → TaskSpecView → Answer → Type 0
 IsByCap id d t (Ok (replies.Busy seen)) = Goes id t d → IsOverItsCap id t d seen
 IsByCap id d t _ = Unit {0}
 
--- ANSWERS OF A SCENARIO, for so many clients. There is a lawful answer for each task, and EBUSY of
--- a book is by the cap of its domain; the refusals are those among the answers; nobody but the
--- clients entered anything; in each domain the entries of each client are the calls of its own
+-- ANSWERS OF A SCENARIO, for this number of clients. There is a lawful answer for each task, and
+-- EBUSY of a book is by the cap of its domain; the refusals are those among the answers; nobody but
+-- the clients entered anything; in each domain the entries of each client are the calls of its own
 -- tasks that were answered there, in the order of tasks, and then its advance; and the advance is
 -- the last entry of all
 pub record AnswersScenario (id : SessionId) (clients : ℕ) (tasks : List TaskSpecView)

@@ -3,4 +3,6 @@ pub mod Printing
 pub mod Named
 pub mod PlayedBooks
 pub mod Telling
+pub mod Tellable
+pub mod Streaming
 pub mod Asked

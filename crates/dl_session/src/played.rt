@@ -1,13 +1,15 @@
-//! A book whose advance is made while its switches are written.
+//! A book whose advance is made while its switches, or also what happens, are written.
 
 ghost use Rattle.std.specs.Prelude.{◌+◌, ◌≤◌};
+ghost use Rattle.call_book.specs.Playing.{all_told};
 ghost use Rattle.dl_session.specs.private.Named.{AreAllNamed};
+ghost use Rattle.dl_session.specs.private.Tellable.{IsTellable};
 
 use call_book::PlayingBook;
 use indexmap::IndexMap;
 
-/// The book of a domain whose advance is made while its switches are written. Like the book it is
-/// neither cloned nor dropped.
+/// The book of a domain whose advance is made while its switches, or also what happens, are
+/// written. Like the book it is neither cloned nor dropped.
 pub(crate) struct PlayedRun {
     /// The CPU of the machine that is the domain's CPU 0.
     pub(crate) base: u32,
@@ -16,4 +18,5 @@ pub(crate) struct PlayedRun {
     pub(crate) book: PlayingBook,
     ghost inside: { base + book.at.cpus ≤ 512 },
     ghost named: { AreAllNamed book.at.used names },
+    ghost tellable: { IsTellable base names (all_told book) },
 }

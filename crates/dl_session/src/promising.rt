@@ -84,7 +84,7 @@ fn text_of(alloc: Global, states: &[State], tasks: &[TaskSpec]) -> Result<Vec<u8
 ///
 /// # Errors
 /// [`TraceFault::Memory`]: a growth was refused, and nothing was written. [`TraceFault::Write`]:
-/// the writer failed; it took exactly so many bytes, the front of the text, and not all.
+/// the writer failed; it took `written` bytes, the front of the text, and not all.
 pub(crate) fn write_promises<W: Write>(
     alloc: Global,
     states: &[State],

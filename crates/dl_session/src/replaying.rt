@@ -24,7 +24,7 @@ use switch_text::Counted;
 /// # Errors
 /// [`SessionFault::Calls`] with the first bad line of the input, [`SessionFault::Read`] where the
 /// reader failed, [`SessionFault::Memory`] where a growth was refused: nothing was written.
-/// [`SessionFault::Write`] where the writer failed: it took exactly so many bytes, the front of the
+/// [`SessionFault::Write`] where the writer failed: it took `written` bytes, the front of the
 /// text, and not all.
 pub fn replay_as<R: Read, W: Write>(
     alloc: Global,
@@ -55,7 +55,7 @@ pub fn replay_as<R: Read, W: Write>(
 /// # Errors
 /// [`SessionFault::Calls`] with the first bad line of the input, [`SessionFault::Read`] where the
 /// reader failed, [`SessionFault::Memory`] where a growth was refused: nothing was written.
-/// [`SessionFault::Write`] where the writer failed: it took exactly so many bytes, the front of the
+/// [`SessionFault::Write`] where the writer failed: it took `written` bytes, the front of the
 /// trace, and not all.
 pub fn replay<R: Read, W: Write>(
     alloc: Global,

@@ -13,7 +13,7 @@ ghost use Rattle.dl_session.specs.private.Running.{IsJsonTold, IsScenarioTold};
 use crate::asked::{Asked, ask_in};
 use crate::fault::SessionFault;
 use crate::printing::{wanted_for, write_run};
-use crate::streaming::write_traced;
+use crate::streaming::{Streaming, write_streamed};
 use crate::telling::{Telling, write_told};
 use deadline_promise::budgets_isolate;
 use json_order::{JsonFault, JsonKind, read_lent};
@@ -131,11 +131,13 @@ fn write_kept<N: Names + Send + Sync, W: Write, X: Threads + Wait + Sync>(
         mut report,
         states,
         logs,
-        heard,
+        mut heard,
     } = end_run(rt, alloc, session, clients, duration, wanted_for(print))?;
     report.refused = refused;
     let histories = &report.histories;
-    match write_run(alloc, print, tasks, histories, states, logs, &heard, writer) {
+    match write_run(
+        alloc, print, tasks, histories, states, logs, &mut heard, writer,
+    ) {
         Ok(()) => Ok(report),
         Err(fault) => Err(SessionFault::from(fault)),
     }
@@ -143,7 +145,7 @@ fn write_kept<N: Names + Send + Sync, W: Write, X: Threads + Wait + Sync>(
 
 /// Runs tasks in a session of these parts: the admissions, then the advance of each domain by the
 /// whole duration, in microseconds, and the end; and writes the text that is asked for. The trace
-/// goes out while its ticks are made, by up to `workers` threads.
+/// and the events go out while their ticks are made, a trace's by up to `workers` threads.
 fn run_in<N: Names + Send + Sync, W: Write, T: Turnstile, X: Threads + Wait + Sync>(
     rt: &X,
     alloc: Global,
@@ -166,8 +168,26 @@ fn run_in<N: Names + Send + Sync, W: Write, T: Turnstile, X: Threads + Wait + Sy
         (side W.contents writer.old writer.new)) }
 {
     let asked = ask_in::<N, T, X>(rt, alloc, parts, options.clients, tasks, turnstile)?;
+    let workers = options.workers;
     match options.print {
-        Print::Trace => write_traced(rt, alloc, options.workers, asked, duration, writer),
+        Print::Trace => write_streamed(
+            rt,
+            alloc,
+            workers,
+            Streaming::Trace,
+            asked,
+            duration,
+            writer,
+        ),
+        Print::Events => write_streamed(
+            rt,
+            alloc,
+            workers,
+            Streaming::Events,
+            asked,
+            duration,
+            writer,
+        ),
         Print::Calls => write_told(alloc, Telling::Calls, asked, duration, writer),
         Print::Replies => write_told(alloc, Telling::Replies, asked, duration, writer),
         print => write_kept(rt, alloc, print, asked, duration, writer),
@@ -193,7 +213,7 @@ fn run_in<N: Names + Send + Sync, W: Write, T: Turnstile, X: Threads + Wait + Sy
 /// [`SessionFault::Read`] where the reader failed, [`SessionFault::Start`] where the system started
 /// no thread for a client, [`SessionFault::Full`] where a history has no room for the advance,
 /// [`SessionFault::Memory`] where a growth was refused: nothing was written.
-/// [`SessionFault::Write`] where the writer failed: it took exactly so many bytes, the front of the
+/// [`SessionFault::Write`] where the writer failed: it took `written` bytes, the front of the
 /// text, and not all.
 pub fn run<R: Read, W: Write, T: Turnstile, X: Threads + Wait + Sync>(
     rt: &X,

@@ -1,18 +1,18 @@
 //! A run that is written while it is made: client 1's advance is entered first, and its ticks are
-//! made as the trace goes out.
+//! made as the text goes out.
 
-ghost use Rattle.std.specs.Prelude.{◌≡◌, ◌<◌, ◌≤◌, ◌^◌, map, IfOk, IfErr, OnOk};
+ghost use Rattle.std.specs.Prelude.{◌≡◌, ◌<◌, ◌≤◌, ◌^◌, length, map, IfOk, IfErr, OnOk};
 ghost use Rattle.counted_io.specs.Sides.{faults_of, side};
-ghost use Rattle.run_options.specs.declared.options.Print.TheVariants as prints;
 ghost use Rattle.session.specs.Begun.{section_of, played_books};
 ghost use Rattle.session.specs.Report.{IsSessionReport};
-ghost use Rattle.calls_trace.specs.Replay.{trace_of_sections};
 ghost use Rattle.calls_trace.specs.Written.{IsWritten, IsUnwritten};
 ghost use Rattle.dl_session.specs.private.Asked.{HaveAsked, IsRunWritten, IsRunUnwritten};
-ghost use Rattle.dl_session.specs.private.PlayedBooks.{played_histories, AreReady, IsRoomFor};
+ghost use Rattle.dl_session.specs.private.PlayedBooks.{played_book, played_histories, AreLogging, AreReady, IsRoomFor};
+ghost use Rattle.dl_session.specs.private.Streaming.{needs_log, streamed_print, streamed_text, runs_text, AreCountable};
 
 use crate::asked::Asked;
 use crate::fault::SessionFault;
+use crate::played::PlayedRun;
 use crate::played_books::{Room, play_books, room_for, take_books};
 use call_book::PlayingBook;
 use calls_trace::TraceFault;
@@ -20,32 +20,86 @@ use session::{Names, Report, RunBegun, begin_end, finish_end, shut_end};
 use std::alloc::Global;
 use std::io::Write;
 use std::thread::Threads;
-use switch_text::{Counted, write_slices_apart};
+use switch_text::{Counted, TraceRoom, write_event_slices, write_slices_apart};
 
-/// Books whose trace was written, as far as the writer took it.
+/// What is written of a run while it is made.
+#[derive(Clone, Copy)]
+pub(crate) enum Streaming {
+    /// Its trace.
+    Trace,
+    /// Its trace, and between the lines of it what happens.
+    Events,
+}
+
+impl Streaming {
+    /// Whether what happens is to be logged for it.
+    fn needs_log(self) -> bool
+        ensures { result ≡ needs_log self }
+    {
+        match self {
+            Streaming::Trace => false,
+            Streaming::Events => true,
+        }
+    }
+}
+
+/// Books whose text was written, as far as the writer took it.
 struct Sent {
     books: Vec<PlayingBook>,
     written: Result<(), TraceFault>,
 }
 
-/// Writes the trace of books in this room while their ticks are made, up to `workers` of them side
-/// by side. Takes no memory.
+/// Writes the text of runs while their ticks are made: a trace of up to `workers` of them side by
+/// side, and events of one after the other. Takes no memory but this room.
+fn write_runs<W: Write, X: Threads + Sync>(
+    rt: &X,
+    workers: usize,
+    streaming: Streaming,
+    runs: &mut [PlayedRun],
+    texts: TraceRoom,
+    writer: &mut Counted<W>,
+) -> Result<(), TraceFault>
+    requires workers { 0 < workers }
+    requires few { length runs.old ≤ 8 }
+    requires countable { AreCountable streaming runs.old }
+    requires faults { faults_of writer.old < 2 ^ 63 }
+    ensures books { map played_book runs.new ≡ map played_book runs.old }
+    ensures ok { OnOk result (IsWritten (side W.contents writer.old writer.new)
+        (runs_text streaming runs.old)) }
+    ensures err { IfErr result (IsUnwritten (side W.contents writer.old writer.new)
+        (runs_text streaming runs.old)) }
+{
+    let written = match streaming {
+        Streaming::Trace => write_slices_apart(rt, workers, runs, texts, writer),
+        Streaming::Events => write_event_slices(runs, texts, writer),
+    };
+    match written {
+        Ok(()) => Ok(()),
+        Err(fault) => Err(TraceFault::Write {
+            written: fault.written,
+        }),
+    }
+}
+
+/// Writes the text of books in this room while their ticks are made. Takes no memory.
 fn write_in<W: Write, X: Threads + Sync>(
     rt: &X,
     workers: usize,
+    streaming: Streaming,
     books: Vec<PlayingBook>,
     room: Room,
     writer: &mut Counted<W>,
 ) -> Sent
     requires workers { 0 < workers }
     requires ready { AreReady books.items }
+    requires logged { AreLogging (needs_log streaming) books.items }
     requires room { IsRoomFor books.items room }
     requires faults { faults_of writer.old < 2 ^ 63 }
     ensures books { played_books result.books.items ≡ played_books books.items }
     ensures ok { OnOk result.written (IsWritten (side W.contents writer.old writer.new)
-        (trace_of_sections (played_histories books.items))) }
+        (streamed_text streaming (played_histories books.items))) }
     ensures err { IfErr result.written (IsUnwritten (side W.contents writer.old writer.new)
-        (trace_of_sections (played_histories books.items))) }
+        (streamed_text streaming (played_histories books.items))) }
 {
     let Room {
         names,
@@ -54,42 +108,36 @@ fn write_in<W: Write, X: Threads + Sync>(
         texts,
     } = room;
     play_books(books, names, &mut runs);
-    let written = write_slices_apart(rt, workers, runs.as_mut_slice(), texts, writer);
+    let written = write_runs(rt, workers, streaming, runs.as_mut_slice(), texts, writer);
     take_books(runs, &mut home);
-    match written {
-        Ok(()) => Sent {
-            books: home,
-            written: Ok(()),
-        },
-        Err(fault) => Sent {
-            books: home,
-            written: Err(TraceFault::Write {
-                written: fault.written,
-            }),
-        },
+    Sent {
+        books: home,
+        written,
     }
 }
 
-/// Writes the trace of books while their ticks are made, up to `workers` of them side by side. What
-/// needs memory is made before the first byte.
+/// Writes the text of books while their ticks are made. What needs memory is made before the first
+/// byte.
 fn write_books<W: Write, X: Threads + Sync>(
     rt: &X,
     alloc: Global,
     workers: usize,
+    streaming: Streaming,
     books: Vec<PlayingBook>,
     writer: &mut Counted<W>,
 ) -> Sent
     requires workers { 0 < workers }
     requires ready { AreReady books.items }
+    requires logged { AreLogging (needs_log streaming) books.items }
     requires faults { faults_of writer.old < 2 ^ 63 }
     ensures books { played_books result.books.items ≡ played_books books.items }
     ensures ok { OnOk result.written (IsWritten (side W.contents writer.old writer.new)
-        (trace_of_sections (played_histories books.items))) }
+        (streamed_text streaming (played_histories books.items))) }
     ensures err { IfErr result.written (IsUnwritten (side W.contents writer.old writer.new)
-        (trace_of_sections (played_histories books.items))) }
+        (streamed_text streaming (played_histories books.items))) }
 {
     match room_for(alloc, &books) {
-        Ok(room) => write_in(rt, workers, books, room, writer),
+        Ok(room) => write_in(rt, workers, streaming, books, room, writer),
         Err(error) => Sent {
             books,
             written: Err(error.into()),
@@ -97,29 +145,31 @@ fn write_books<W: Write, X: Threads + Sync>(
     }
 }
 
-/// Writes the trace of a run that is begun, and ends its session. If all is written, the books are
+/// Writes the text of a run that is begun, and ends its session. If all is written, the books are
 /// closed. If not, the session is shut, and its tickets go home.
 fn write_begun<N: Names, W: Write, X: Threads + Sync>(
     rt: &X,
     alloc: Global,
     workers: usize,
+    streaming: Streaming,
     begun: RunBegun<N>,
     writer: &mut Counted<W>,
 ) -> Result<Report, TraceFault>
     requires workers { 0 < workers }
     requires ready { AreReady begun.books.items }
+    requires logged { AreLogging (needs_log streaming) begun.books.items }
     requires same { played_books begun.books.items ≡ begun.rest.books }
     requires faults { faults_of writer.old < 2 ^ 63 }
     ensures report { IfOk result (λ r. IsSessionReport N.id begun.rest.clients r) }
     ensures histories { IfOk result
         (λ r. r.histories.items ≡ map section_of begun.rest.books) }
     ensures ok { OnOk result (IsWritten (side W.contents writer.old writer.new)
-        (trace_of_sections (map section_of begun.rest.books))) }
+        (streamed_text streaming (map section_of begun.rest.books))) }
     ensures err { IfErr result (IsUnwritten (side W.contents writer.old writer.new)
-        (trace_of_sections (map section_of begun.rest.books))) }
+        (streamed_text streaming (map section_of begun.rest.books))) }
 {
     let RunBegun { books, rest } = begun;
-    let Sent { books, written } = write_books(rt, alloc, workers, books, writer);
+    let Sent { books, written } = write_books(rt, alloc, workers, streaming, books, writer);
     match written {
         Ok(()) => Ok(finish_end(alloc, books, rest)),
         Err(fault) => {
@@ -130,12 +180,13 @@ fn write_begun<N: Names, W: Write, X: Threads + Sync>(
 }
 
 /// Lets client 1 enter an advance of the whole duration, in microseconds, as the last entry of each
-/// book, and writes the trace while its ticks are made, those of up to `workers` domains side by
-/// side. The switches are not kept.
-pub(crate) fn write_traced<N: Names, W: Write, X: Threads + Sync>(
+/// book, and writes the text while its ticks are made; for a trace those of up to `workers` domains
+/// side by side. Neither the switches nor what happens is kept.
+pub(crate) fn write_streamed<N: Names, W: Write, X: Threads + Sync>(
     rt: &X,
     alloc: Global,
     workers: usize,
+    streaming: Streaming,
     asked: Asked<'_, N>,
     duration: u64,
     writer: &mut Counted<W>,
@@ -144,10 +195,10 @@ pub(crate) fn write_traced<N: Names, W: Write, X: Threads + Sync>(
     requires asked { HaveAsked N.id asked.tasks.now asked.clients.items asked.refused.items }
     requires duration { duration ≤ 60000000 }
     requires faults { faults_of writer.old < 2 ^ 63 }
-    ensures ok { IfOk result (IsRunWritten N.id asked.entry.tasks.now duration prints.Trace
-        (side W.contents writer.old writer.new)) }
-    ensures err { IfErr result (IsRunUnwritten N.id asked.entry.tasks.now duration prints.Trace
-        (side W.contents writer.old writer.new)) }
+    ensures ok { IfOk result (IsRunWritten N.id asked.entry.tasks.now duration
+        (streamed_print streaming) (side W.contents writer.old writer.new)) }
+    ensures err { IfErr result (IsRunUnwritten N.id asked.entry.tasks.now duration
+        (streamed_print streaming) (side W.contents writer.old writer.new)) }
 {
     let Asked {
         session,
@@ -155,8 +206,8 @@ pub(crate) fn write_traced<N: Names, W: Write, X: Threads + Sync>(
         tasks: _,
         refused,
     } = asked;
-    let begun = begin_end(alloc, session, clients, duration)?;
-    let mut report = write_begun(rt, alloc, workers, begun, writer)?;
+    let begun = begin_end(alloc, session, clients, duration, streaming.needs_log())?;
+    let mut report = write_begun(rt, alloc, workers, streaming, begun, writer)?;
     report.refused = refused;
     Ok(report)
 }

@@ -86,7 +86,7 @@ pub(crate) fn write_told<N: Names, W: Write>(
         tasks: _,
         refused,
     } = asked;
-    let RunBegun { books, rest } = begin_end(alloc, session, clients, duration)?;
+    let RunBegun { books, rest } = begin_end(alloc, session, clients, duration, false)?;
     let mut report = finish_end(alloc, books, rest);
     report.refused = refused;
     match write_histories(alloc, telling, &report.histories, writer) {

@@ -16,7 +16,7 @@ pub time_is : (n : ℕ) (d : Domain) → (ticks n d).time ≡ d.time + n
 time_is zero d = omega arith
 time_is (suc n) d = omega (arith, time_is n d)
 
--- so many ticks, and then so many more
+-- m ticks, and then k more
 pub told_then : (m k : ℕ) (d : Domain) → told_by_ticks m d ++ told_by_ticks k (ticks m d) ≡ told_by_ticks (m + k) d
 told_then m zero d = append-nil (told_by_ticks m d) ∙ (let same : m ≡ m + 0 = omega arith in ap (λ n. told_by_ticks n d) same)
 told_then m (suc k) d =
@@ -32,7 +32,7 @@ told_to_come n made left d e was now is sum told =
 
 -- ---- told by the end
 
-until_later : (t u : ℕ) (h : Happened) → t ≤ u → IsToldUntil t h → IsToldUntil u h
+pub until_later : (t u : ℕ) (h : Happened) → t ≤ u → IsToldUntil t h → IsToldUntil u h
 until_later t u h le is = record {
   shown = is.shown;
   past = elim is.past [ inl less ↦ by_time (omega (arith, less, le)) | inr at ↦ by_end at.0 at.1 ];

@@ -1,6 +1,6 @@
 -- A period that is heard, and those that are counted after it.
-use Rattle.std.proofs.Common.{◌≡◌, ℕ, zero, suc, ◌+◌, ◌*◌, ◌^◌, ◌<◌, ◌≤◌, List, [], ◌∷◌, ◌++◌, length, map, refl, sym, ap, subst, ◌∙◌, arith}
-use Rattle.std.specs.Prelude.{All, Option, Some, None, IfSome, true}
+use Rattle.std.proofs.Common.{◌≡◌, ℕ, zero, suc, ◌+◌, ◌*◌, ◌^◌, ◌<◌, ◌≤◌, List, [], ◌∷◌, ◌++◌, map, refl, sym, ap, subst, ◌∙◌, arith}
+use Rattle.std.specs.Prelude.{Option, Some, None, IfSome, true}
 use Rattle.std.proofs.Math.Nat.{suc-mul}
 use Rattle.std.proofs.lemmas.List.{append-nil, append_assoc}
 use Rattle.std.proofs.lemmas.List.Elements.{All-weaker}
@@ -18,16 +18,16 @@ use Rattle.domain_run.specs.Passing.{with_past, without_switches}
 use Rattle.domain_run.specs.Sound.{IsDomain, IsSwitch}
 use Rattle.domain_run.specs.Switch.{Switch}
 use Rattle.domain_run.specs.Tick.{ticks}
-use Rattle.domain_run.proofs.CallerLemmas.{IsGoing, going, ticks_time}
+use Rattle.domain_run.proofs.CallerLemmas.{going, ticks_time}
 use Rattle.repeat_law.specs.Repeats.{happened_again, switches_again}
-use Rattle.repeat_run.specs.Sight.{SightView, IsSightOf, GoesOnAlike, after_period}
+use Rattle.repeat_run.specs.Sight.{SightView, GoesOnAlike}
 use Rattle.run_figures.specs.Accounting.{AccountingView, IsNextPiece, with_piece}
 use Rattle.run_figures.specs.Again.{IsPeriodSince, more_told, more_switches}
 use Rattle.heard_run.specs.Heard.{IsHeardUpTo}
 use Rattle.heard_run.specs.declared.repeating.Trail.{Trail}
 use Rattle.heard_run.specs.private.Trail.{IsTrail, KnowsTrail}
 use Rattle.heard_run.proofs.Pieces.{IsSeen, IsHeard, joined, told_joined, first_heard, heard_seen, piece_seen}
-use Rattle.heard_run.proofs.Span.{IsWithin, told_within, made_later}
+use Rattle.heard_run.proofs.Span.{told_within, made_later}
 
 -- ---- the switches of ticks, as a domain keeps them
 

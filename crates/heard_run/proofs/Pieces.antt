@@ -21,7 +21,7 @@ use Rattle.heard_run.specs.Heard.{nothing_heard, heard_after, heard_of, IsHeardU
 use Rattle.heard_run.proofs.Bounded.{few_switches}
 use Rattle.heard_run.proofs.Span.{IsWithin, told_within, made_later}
 
--- ---- so many ticks, and then so many of a domain that has forgotten its switches
+-- ---- some ticks, and then some of a domain that has forgotten its switches
 
 behind_itself : (d : Domain) → with_past d.switches (without_switches d) ≡ d
 behind_itself d = ap (λ (ss : List Switch). record d { switches = ss }) (append-nil d.switches)
@@ -101,13 +101,13 @@ nothing_up_to n d a since is early new none =
     } in
     subst (λ (x : AccountingView). IsHeardUpTo d since x) (sym new) (subst (λ (hs : List Happened). IsHeardUpTo d hs (nothing_heard n d)) (sym none) nothing)
 
--- ---- what the advance keeps, once so many ticks are heard
+-- ---- what the advance keeps, once some ticks are heard
 
 -- the domain with all switches of the run
 abbrev pub whole_of : AccountingView → ℕ → Domain → Domain
 whole_of was k d = with_past was.switches (ticks k d)
 
--- so many ticks of a domain are heard, behind what the accounting heard before
+-- some ticks of a domain are heard, after what the accounting heard before
 abbrev pub heard_so_far : AccountingView → List Happened → ℕ → Domain → AccountingView
 heard_so_far was since k d = with_piece was (since ++ told_by_ticks k d) (ticks k d).switches
 

@@ -6,7 +6,7 @@ use Rattle.domain_run.specs.Tick.{ticks}
 use Rattle.domain_run.specs.Happened.{told_by_ticks}
 use Rattle.run_figures.specs.Accounting.{AccountingView, IsNextPiece}
 
--- a domain whose run is to end after so many ticks more, of which nothing was heard yet: its tasks
+-- a domain whose run is to end after n ticks more, of which nothing was heard yet: its tasks
 -- are those that were ever admitted
 abbrev pub nothing_heard : ℕ → Domain → AccountingView
 nothing_heard n d = record {
@@ -17,7 +17,7 @@ nothing_heard n d = record {
   switches = [];
 }
 
--- once so many of these ticks were made: what they tell, and all switches of the run
+-- once n of these ticks were made: what they tell, and all switches of the run
 abbrev pub heard_after : ℕ → ℕ → Domain → AccountingView
 heard_after n made d = record {
   cpus = d.cpus;
@@ -37,7 +37,7 @@ heard_of d told = record {
   switches = d.switches;
 }
 
--- THE PIECES in which it is heard: so many switches, or so much that happened, end one
+-- THE PIECES in which it is heard: a number of switches, or of what happened, ends one
 abbrev pub piece_end : ℕ
 piece_end = 4096
 

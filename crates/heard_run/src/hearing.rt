@@ -13,10 +13,10 @@ ghost use Rattle.jump_run.specs.Pieces.{IsBounded};
 
 use domain_run::{Log, NoMemory, State};
 use jump_run::{Done, advance_piece};
-use run_figures::{Accounting, Admitted};
+use run_figures::{Accounting, Admitted, Hears};
 use std::alloc::Global;
 
-/// So many switches, or so much that happened, end a piece: a switch is 16 bytes and what happens
+/// The switches, or the entries of the log, that end a piece: a switch is 16 bytes and what happens
 /// 32, so a piece holds some 192 kB, and one more event.
 const ENOUGH: usize = 4096;
 
@@ -57,10 +57,25 @@ pub fn open_heard(alloc: Global, state: &State, n: u64) -> Result<Accounting, No
     Accounting::open(alloc, state.cpus(), state.now() + n, &tasks)
 }
 
-/// The accounting hears what the log was told and the switches of the state, which both forget it.
-pub(crate) fn hear(state: &mut State, log: &mut Log, accounting: &mut Accounting)
-    requires next { IsNextPiece accounting.old log.old.happened state.old.switches }
-    ensures heard { accounting.new ≡ with_piece accounting.old log.old.happened state.old.switches }
+/// As [`open_heard`], and keeps the jobs of each task too. Its periods are not counted: all of
+/// them are simulated.
+///
+/// # Errors
+/// 12 [`NoMemory`]: a growth was refused; nothing is left.
+pub fn open_heard_with_jobs(alloc: Global, state: &State, n: u64) -> Result<Accounting, NoMemory>
+    requires { state.now.time + n ≤ 2 ^ 42 }
+    ensures { IfOk result (λ a. a ≡ nothing_heard n state.now) }
+{
+    let tasks = tasks_of(alloc, state)?;
+    Accounting::open_with_jobs(alloc, state.cpus(), state.now() + n, &tasks)
+}
+
+/// What the log was told and the switches of the state are heard, and both forget it.
+pub(crate) fn hear<H: Hears>(state: &mut State, log: &mut Log, accounting: &mut H)
+    requires next { IsNextPiece (H.heard accounting.old) log.old.happened state.old.switches }
+    ensures heard { H.heard accounting.new
+        ≡ with_piece (H.heard accounting.old) log.old.happened state.old.switches }
+    ensures kept { H.kept accounting.new ≡ H.kept accounting.old }
     ensures state { state.new ≡ without_switches state.old }
     ensures wanted { log.new.wanted ≡ log.old.wanted }
     ensures empty { log.new.happened ≡ [] }
@@ -93,34 +108,35 @@ pub(crate) fn next_piece(state: &mut State, n: u64, log: &mut Log) -> Result<u64
     Ok(piece.ticks)
 }
 
-/// Goes on by `n` ticks, as [`advance_told`](jump_run::advance_told) does, while an accounting
-/// that has heard this run up to here goes on to hear it: first what the log and the state have at
-/// hand, and then, piece by piece, what happens in these ticks and the switches that they make.
-/// State and log forget what was heard, so they hold a bounded number of both, however much
-/// happens. At the end the state is that of so many ticks, without its switches, and the accounting
-/// has heard the run up to there. Room for an event is made before it; where it is refused, the
-/// ticks made so far stand and are heard, and only then are they fewer than asked. Time stays
-/// within the end of the run. Tasks that have left may go off the list; nobody comes, and the
-/// others keep number, bandwidth and order.
-pub fn advance_heard_on(
+/// Goes on by `n` ticks, as [`advance_told`](jump_run::advance_told) does, while what has heard
+/// this run up to here, such as an [`Accounting`], goes on to hear it: first what the log and the
+/// state have at hand, and then, piece by piece, what happens in these ticks and the switches that
+/// they make. State and log forget what was heard, so they hold a bounded number of both, however
+/// much happens. At the end the state is that of these ticks, without its switches, and the run is
+/// heard up to there. Room for an event is made before it; where it is refused, the ticks made so
+/// far stand and are heard, and only then are they fewer than asked. Time stays within the end of
+/// the run. Tasks that have left may go off the list; nobody comes, and the others keep number,
+/// bandwidth and order.
+pub fn advance_heard_on<H: Hears>(
     state: &mut State,
     n: u64,
     log: &mut Log,
-    accounting: &mut Accounting,
+    accounting: &mut H,
 ) -> Done
-    requires early { state.old.time + n ≤ accounting.old.time }
-    requires end { accounting.old.time ≤ 2 ^ 42 }
+    requires early { state.old.time + n ≤ (H.heard accounting.old).time }
+    requires end { (H.heard accounting.old).time ≤ 2 ^ 42 }
     requires wanted { log.old.wanted ≡ true }
-    requires up_to { IsHeardUpTo state.old log.old.happened accounting.old }
+    requires up_to { IsHeardUpTo state.old log.old.happened (H.heard accounting.old) }
     ensures state { state.new ≡ without_switches (ticks_of result.ticks state.old) }
     ensures most { result.ticks ≤ n }
     ensures keys { AreKept state.old.tasks state.new.tasks }
-    ensures heard { accounting.new ≡ with_piece accounting.old
+    ensures heard { H.heard accounting.new ≡ with_piece (H.heard accounting.old)
         (log.old.happened ++ told_by_ticks result.ticks state.old)
         (ticks_of result.ticks state.old).switches }
+    ensures kept { H.kept accounting.new ≡ H.kept accounting.old }
     ensures wanted { log.new.wanted ≡ true }
     ensures empty { log.new.happened ≡ [] }
-    ensures up_to { IsHeardUpTo state.new log.new.happened accounting.new }
+    ensures up_to { IsHeardUpTo state.new log.new.happened (H.heard accounting.new) }
 {
     // For the prover alone, here and below: a look at a state brings what every domain keeps.
     let _ = state.now();

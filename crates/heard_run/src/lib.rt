@@ -15,7 +15,7 @@ mod hearing;
 mod repeating;
 
 pub use domain_run::NoMemory;
-pub use hearing::{advance_heard_on, open_heard};
+pub use hearing::{advance_heard_on, open_heard, open_heard_with_jobs};
 pub use jump_run::Done;
 pub use repeating::{advance_heard, advance_heard_in_periods};
 pub use run_figures::Accounting;

@@ -1,7 +1,7 @@
 -- What is left to be read.
 use Rattle.std.proofs.Common.{◌≡◌, ℕ, zero, suc, ◌+◌, ◌-◌, ◌*◌, ◌/◌, ◌≢◌, ◌<◌, ◌≤◌, ◌^◌, Bool, true, false, cond, ltb, List, [], ◌∷◌, ◌++◌, length, get_or, drop, fold, refl, sym, ap, ◌∙◌, subst, arith}
 use Rattle.std.proofs.lemmas.Bool.{lt-ltb, le-ltb}
-use Rattle.std.proofs.lemmas.List.{append_assoc, drop_all}
+use Rattle.std.proofs.lemmas.List.{append_assoc, drop_all, length-append}
 use Rattle.std.proofs.Math.Seq.{drop-cons}
 use Rattle.std.proofs.lemmas.List.Elements.{All-head, All-tail}
 use Rattle.packed_numbers.specs.private.Groups.{Read, with_byte, nothing_read, read_of, IsReadWhole}
@@ -90,3 +90,19 @@ part_fits bytes at part whole inside is more =
 -- after the last byte nothing is left
 pub none_left : (bytes : List ℕ) (at part : ℕ) → length bytes ≤ at → from part (drop at bytes) ≡ read_of bytes → (read_of bytes).numbers ≡ []
 none_left bytes at part end is = sym (ap (λ (r : Read). r.numbers) is) ∙ ap (λ (bs : List ℕ). (from part bs).numbers) (drop_all at bytes end)
+
+-- each number has a byte of its own
+read_few : (r : Read) (bytes : List ℕ) → length (fold with_byte r bytes).numbers ≤ length r.numbers + length bytes
+read_few r [] = omega arith
+read_few r (b ∷ bs) = by (ltb b 128) refl (read_few (with_byte r b) bs)
+  where
+    by : (c : Bool) → ltb b 128 ≡ c → length (fold with_byte (with_byte r b) bs).numbers ≤ length (with_byte r b).numbers + length bs → length (fold with_byte (with_byte r b) bs).numbers ≤ length r.numbers + suc (length bs)
+    by true last rest =
+        let one : (with_byte r b).numbers ≡ r.numbers ++ (r.part * 128 + b) ∷ [] = ap (λ (c : Bool). (cond {A = Read} c (record { numbers = r.numbers ++ (r.part * 128 + b) ∷ []; part = 0 }) (record { numbers = r.numbers; part = r.part * 128 + (b - 128) })).numbers) last in
+        omega (arith, rest, ap length one, length-append r.numbers ((r.part * 128 + b) ∷ []))
+    by false more rest =
+        let none : (with_byte r b).numbers ≡ r.numbers = ap (λ (c : Bool). (cond {A = Read} c (record { numbers = r.numbers ++ (r.part * 128 + b) ∷ []; part = 0 }) (record { numbers = r.numbers; part = r.part * 128 + (b - 128) })).numbers) more in
+        omega (arith, rest, ap length none)
+
+pub numbers_few : (bytes : List ℕ) → length (read_of bytes).numbers ≤ length bytes
+numbers_few bytes = let few = read_few nothing_read bytes in omega (arith, few)

@@ -1,7 +1,7 @@
 //! The list and its bytes.
 
-ghost use Rattle.std.specs.Prelude.{◌≡◌, ◌+◌, ◌<◌, ◌≤◌, ◌^◌, vec_len, vec_capacity};
-ghost use Rattle.packed_numbers.specs.private.Groups.{read_of};
+ghost use Rattle.std.specs.Prelude.{◌≡◌, ◌+◌, ◌*◌, ◌<◌, ◌≤◌, ◌^◌, [], ◌∷◌, ◌++◌, length, vec_len, vec_capacity};
+ghost use Rattle.packed_numbers.specs.private.Groups.{read_of, IsReadWhole};
 
 use crate::reading::NumbersLeft;
 use no_memory::NoMemory;
@@ -45,8 +45,35 @@ fn put_front(bytes: &mut Vec<u8>, part: u64, most: usize)
     bytes.push_reserved(128 + (part % 128) as u8);
 }
 
+/// Puts a number.
+fn put(bytes: &mut Vec<u8>, number: u64)
+    requires room { vec_len bytes.old + 10 ≤ vec_capacity bytes.old }
+    requires whole { (read_of bytes.old.items).part ≡ 0 }
+    ensures numbers { (read_of bytes.new.items).numbers
+        ≡ (read_of bytes.old.items).numbers ++ number ∷ [] }
+    ensures whole { (read_of bytes.new.items).part ≡ 0 }
+    ensures few { vec_len bytes.new ≤ vec_len bytes.old + 10 }
+    ensures same_room { vec_capacity bytes.new ≡ vec_capacity bytes.old }
+{
+    put_front(bytes, number / 128, MOST - 1);
+    bytes.push_reserved((number % 128) as u8);
+}
+
+/// Puts all of these numbers.
+fn put_all(bytes: &mut Vec<u8>, numbers: &[u64])
+    requires room { vec_len bytes.old + 10 * length numbers.now ≤ vec_capacity bytes.old }
+    requires whole { IsReadWhole (read_of bytes.old.items) }
+    ensures numbers { (read_of bytes.new.items).numbers
+        ≡ (read_of bytes.old.items).numbers ++ numbers.now }
+    ensures whole { IsReadWhole (read_of bytes.new.items) }
+{
+    for number in numbers {
+        put(bytes, *number);
+    }
+}
+
 impl PackedNumbers {
-    ghost use Rattle.std.specs.Prelude.{◌≡◌, [], ◌∷◌, ◌++◌, OnOk, OnErr};
+    ghost use Rattle.std.specs.Prelude.{◌≡◌, ◌<◌, ◌≤◌, ◌^◌, [], ◌∷◌, ◌++◌, length, OnOk, OnErr};
 
     /// No number yet. Takes no memory.
     pub fn new(alloc: Global) -> PackedNumbers
@@ -66,14 +93,28 @@ impl PackedNumbers {
         ensures err { OnErr result (self.new ≡ self.old) }
     {
         self.bytes.try_reserve(MOST)?;
-        put_front(&mut self.bytes, number / 128, MOST - 1);
-        self.bytes.push_reserved((number % 128) as u8);
+        put(&mut self.bytes, number);
+        Ok(())
+    }
+
+    /// Appends these numbers, at most 16, all or none.
+    ///
+    /// # Errors
+    /// 12 [`NoMemory`]: a growth was refused; the list is as it was.
+    pub fn push_all(&mut self, numbers: &[u64]) -> Result<(), NoMemory>
+        requires few { length numbers.now ≤ 16 }
+        ensures ok { OnOk result (self.new ≡ self.old ++ numbers.now) }
+        ensures err { OnErr result (self.new ≡ self.old) }
+    {
+        self.bytes.try_reserve(MOST * numbers.len())?;
+        put_all(&mut self.bytes, numbers);
         Ok(())
     }
 
     /// The numbers, to be read from the first one on.
     pub fn left(&self) -> NumbersLeft<'_>
-        ensures { result ≡ self.now }
+        ensures numbers { result ≡ self.now }
+        ensures countable { length result < 2 ^ 64 }
     {
         NumbersLeft::of(&self.bytes)
     }

@@ -24,12 +24,13 @@ impl<'a> Model for NumbersLeft<'a> {
 }
 
 impl<'a> NumbersLeft<'a> {
-    ghost use Rattle.std.specs.Prelude.{◌≡◌, ◌∷◌, [], MatchOption};
+    ghost use Rattle.std.specs.Prelude.{◌≡◌, ◌<◌, ◌^◌, ◌∷◌, [], length, MatchOption};
 
     /// Those of these bytes.
     pub(crate) fn of(bytes: &'a [u8]) -> NumbersLeft<'a>
         requires { IsReadWhole (read_of bytes.now) }
-        ensures { result ≡ (read_of bytes.now).numbers }
+        ensures numbers { result ≡ (read_of bytes.now).numbers }
+        ensures countable { length result < 2 ^ 64 }
     {
         NumbersLeft { bytes }
     }

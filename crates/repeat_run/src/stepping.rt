@@ -9,7 +9,7 @@ use crate::looking::{begin_watch, look_around, passed};
 use crate::phase::{Giving, Kept, Phase, Recording, Watch};
 use domain_run::{Buffered, Switch};
 
-/// So many switches wait at least before an advance stops.
+/// The least number of switches that wait before an advance stops.
 const ENOUGH: usize = 4096;
 
 /// The most switches of a period.

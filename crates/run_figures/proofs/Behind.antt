@@ -357,7 +357,7 @@ cpus_keyed time ss n cpus is =
     ap (λ (cs : List Cpu). map (λ c. c.cpu) cs) is ∙ map-map (λ (c : Cpu). c.cpu) (cpu_by time ss) (range_with_len 0 n) ∙ map-id (range_with_len 0 n)
     ∙ ap (range_with_len 0) (sym (many_cpus time ss n cpus is))
 
--- COUNTS of so many switches
+-- COUNTS of a number of switches
 pub tasks_small : (time m bound : ℕ) (ss : List Switch) (numbers : List ℕ) (ran : List Ran) → time ≤ m → All (λ s. s.time ≤ m) ss → length ss * m ≤ bound → ran ≡ map (ran_by time ss) numbers → All (λ r. r.cpu_us ≤ bound) ran
 tasks_small time m bound ss numbers ran l all b is =
     subst (All (λ r. r.cpu_us ≤ bound)) (sym is) (All-map (λ (r : Ran). r.cpu_us ≤ bound) (ran_by time ss) numbers

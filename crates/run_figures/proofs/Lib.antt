@@ -21,3 +21,5 @@ pub mod PeriodRan
 pub mod RowsBoth
 pub mod PeriodAgain
 pub mod Chosen
+pub mod JobCodes
+pub mod Closing

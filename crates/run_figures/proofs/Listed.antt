@@ -1,19 +1,18 @@
 -- The jobs of each task, entry by entry.
-use Rattle.std.proofs.Common.{◌≡◌, ℕ, ◌+◌, ◌≤◌, ◌<◌, true, false, cond, eqb, List, [], ◌∷◌, ◌++◌, length, get_or, take, map, Option, Some, None, refl, sym, ap, ◌∙◌, arith, subst, All, eq-eqb, append_assoc}
+use Rattle.std.proofs.Common.{◌≡◌, ℕ, ◌+◌, ◌≤◌, ◌<◌, true, false, cond, eqb, List, [], ◌∷◌, ◌++◌, length, get_or, take, map, ◌-◌, ◌^◌, Option, Some, None, refl, sym, ap, ◌∙◌, arith, subst, All, eq-eqb, append_assoc}
 use Rattle.std.specs.Prelude.{fold, IfSome}
 use Rattle.std.specs.Option.{option_to_list}
 use Rattle.std.proofs.lemmas.Bool.{ne_eqb, eqb-true, eqb-false}
 use Rattle.std.proofs.lemmas.List.Elements.{All-map}
-use Rattle.std.proofs.lemmas.List.Sums.{fold_more}
+use Rattle.std.proofs.lemmas.List.{map-id, length-map}
+use Rattle.std.proofs.lemmas.List.Sums.{fold_more, fold-append}
 use Rattle.domain_run.specs.declared.happened.What.{What}
 use Rattle.domain_run.specs.declared.happened.What.TheVariants.{JobEnds, NextReleased, Spent, Cut, Replenished, Released, WokenSpent}
 use Rattle.domain_run.specs.declared.happened.Happened.{Happened}
 use Rattle.run_figures.specs.declared.job.Job.{Job}
-use Rattle.run_figures.specs.declared.run.Admitted.{Admitted}
-use Rattle.run_figures.specs.TaskJobsView.{TaskJobsView}
 use Rattle.run_figures.specs.private.LineView.{JobLineView}
 use Rattle.run_figures.specs.Jobs.{of_task, over_by, job_after, jobs_from, task_jobs}
-use Rattle.run_figures.specs.private.Lines.{line_after, line_if, line_all, no_line, IsLineWithin}
+use Rattle.run_figures.specs.private.Lines.{line_after, line_if, line_all, no_line, IsLineWithin, LinesHaveRoomFor, closed_line, job_lines_of}
 use Rattle.run_figures.proofs.Passing.{map-map, map_same}
 
 abbrev pub line_own : JobLineView → List Happened → JobLineView
@@ -30,10 +29,6 @@ own_line (h ∷ hs) l n e =
           let other : eqb l.number h.number ≡ false = ne_eqb l.number h.number (λ (is : l.number ≡ h.number). eqb-false h.number n no (sym is ∙ e)) in
           ap (λ b. line_all hs (cond b (line_after h l) l)) other ∙ own_line hs l n e
     ] refl
-
--- the jobs of a line, with the one that is under way
-abbrev pub closed_line : JobLineView → TaskJobsView
-closed_line l = record { number = l.number; jobs = l.over ++ option_to_list l.job }
 
 own_closed : (own : List Happened) (l : JobLineView) → closed_line (line_own l own) ≡ record { number = l.number; jobs = l.over ++ jobs_from l.job own }
 own_closed [] l = refl
@@ -89,10 +84,40 @@ all_within (h ∷ hs) n l w =
     let e : n + 1 + length hs ≡ n + length (h ∷ hs) = omega arith in
     subst (λ m. IsLineWithin m (line_all (h ∷ hs) l)) e (all_within hs (n + 1) (line_if l h) (if_within n l h w))
 
-pub lines_within : (hs : List Happened) (m : ℕ) (tasks : List Admitted) → length hs ≤ m → All (IsLineWithin m) (map (line_all hs) (map (λ t. no_line t.number) tasks))
-lines_within hs m tasks le =
-    All-map (IsLineWithin m) (line_all hs) (map (λ (t : Admitted). no_line t.number) tasks)
-    (All-map (λ (l : JobLineView). IsLineWithin m (line_all hs l)) (λ (t : Admitted). no_line t.number) tasks
+pub lines_within : (hs : List Happened) (used m : ℕ) (ls : List JobLineView) → used + length hs ≤ m → All (IsLineWithin used) ls → All (IsLineWithin m) (map (line_all hs) ls)
+lines_within hs used m ls le all =
+    All-map (IsLineWithin m) (line_all hs) ls
     (λ k d l.
-    let n = (get_or tasks k d).number in
-    throttled_more (0 + length hs) m (line_all hs (no_line n)).job (omega (arith, le)) (all_within hs 0 (no_line n) tt)))
+    let one = get_or ls k d in
+    throttled_more (used + length hs) m (line_all hs one).job le (all_within hs used one (all k d l)))
+
+-- THE JOBS OF ALL TASKS
+pub lines_keyed : (happened : List Happened) (numbers : List ℕ) (ls : List JobLineView) → ls ≡ job_lines_of happened numbers → map (λ l. l.number) ls ≡ numbers
+lines_keyed happened numbers ls are =
+    ap (map (λ (l : JobLineView). l.number)) are
+    ∙ map-map (λ (l : JobLineView). l.number) (λ n. line_all happened (no_line n)) numbers
+    ∙ map_same (λ n. (line_all happened (no_line n)).number) (λ n. n) numbers (λ n. number_of_line happened (no_line n))
+    ∙ map-id numbers
+
+pub as_many_lines : (happened : List Happened) (numbers : List ℕ) (ls : List JobLineView) → ls ≡ job_lines_of happened numbers → length ls ≡ length numbers
+as_many_lines happened numbers ls are = ap length are ∙ length-map numbers (λ n. line_all happened (no_line n))
+
+pub lines_have_room : (happened : List Happened) (numbers : List ℕ) (ls : List JobLineView) (n : ℕ) → ls ≡ job_lines_of happened numbers → length happened + n < 2 ^ 64 - 1 → LinesHaveRoomFor n ls
+lines_have_room happened numbers ls n are few = record {
+  used = length happened;
+  fits = omega (arith, few);
+  within = subst (All (IsLineWithin (length happened))) (sym are)
+      (All-map (IsLineWithin (length happened)) (λ n. line_all happened (no_line n)) numbers
+      (λ k d l.
+      let one = no_line (get_or numbers k d) in
+      throttled_more (0 + length happened) (length happened) (line_all happened one).job (omega arith) (all_within happened 0 one tt)));
+}
+
+-- with what happened next
+pub lines_more : (happened hs : List Happened) (numbers : List ℕ) (ls now : List JobLineView) → ls ≡ job_lines_of happened numbers → now ≡ map (line_all hs) ls → now ≡ job_lines_of (happened ++ hs) numbers
+lines_more happened hs numbers ls now are told =
+    told
+    ∙ ap (map (line_all hs)) are
+    ∙ map-map (line_all hs) (λ n. line_all happened (no_line n)) numbers
+    ∙ map_same (λ n. line_all hs (line_all happened (no_line n))) (λ n. line_all (happened ++ hs) (no_line n)) numbers
+    (λ n. sym (fold-append line_if (no_line n) happened hs))

@@ -1,4 +1,5 @@
 pub mod TaskJobsView
+pub mod WideJobs
 pub mod Places
 pub mod Lines
 pub mod Jobs

@@ -1,7 +1,7 @@
 -- What the texts of a run have in common: numbers in digits, and lines that are counted (own).
 use Rattle.std.specs.Prelude.{ℕ, ◌+◌, ◌-◌, List, [], ◌∷◌, ◌++◌, length, replicate, decimal}
 
--- a number in at least so many digits
+-- a number in at least n digits
 abbrev pub digits_in : ℕ → ℕ → List ℕ
 digits_in width n = replicate (width - length (decimal n)) 48 ++ decimal n
 

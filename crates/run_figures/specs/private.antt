@@ -6,3 +6,4 @@ pub mod Putting
 pub mod Past
 pub mod Keeping
 pub mod Growing
+pub mod JobCodes

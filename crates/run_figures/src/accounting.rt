@@ -1,17 +1,20 @@
 //! The figures of a run that is heard piece by piece.
 
-ghost use Rattle.std.specs.Prelude.{◌≡◌, IfOk, All, map, vec_capacity};
+ghost use Rattle.std.specs.Prelude.{◌≡◌, ◌<◌, ◌+◌, ◌-◌, ◌^◌, ◌++◌, IfOk, All, length, map, vec_capacity};
 ghost use Rattle.run_figures.specs.Accounting.{IsNextPiece, heard_run, with_piece};
 ghost use Rattle.run_figures.specs.Figures as figures;
 ghost use Rattle.run_figures.specs.Laws as laws;
 ghost use Rattle.run_figures.specs.Runs.{AreTasks, IsBoundedRun, run_view_of};
 ghost use Rattle.run_figures.specs.private.Keeping as keeping;
+ghost use Rattle.run_figures.specs.private.Lines.{AreLinesKept};
 
 mod again;
 mod choosing;
+mod closing;
 mod opening;
 
 use crate::figures::Summary;
+use crate::lines::{Line, tell_lines};
 use crate::past::Past;
 use crate::places::Places;
 use crate::ran::{Tables, put_switch};
@@ -36,22 +39,26 @@ struct Heard {
 }
 
 /// The figures of a run while it is heard, piece by piece. It keeps a few counts of each task and
-/// of each CPU, and nothing of what it heard. Contracts see how many CPUs the run has, when it will
-/// end, the numbers of its tasks, and all that was heard.
+/// of each CPU, the jobs of each task if it was opened for them, and nothing else of what it heard.
+/// Contracts see how many CPUs the run has, when it will end, the numbers of its tasks, and all
+/// that was heard.
 #[derive(Drop)]
 pub struct Accounting {
     heard: Heard,
     places: Places,
     told: Vec<Told>,
     ran: Tables,
-    // What these lists had when they were made, so that no call but that one takes memory.
+    // What these lists had when they were made, so that no call but that one takes memory for them.
     rooms: Rooms,
+    // The jobs of each task. None if it keeps no jobs, or has given them up: a growth was refused.
+    lines: Option<Vec<Line>>,
 }
 
 impl Model for Accounting {
     ghost use Rattle.std.specs.Prelude.{vec_capacity};
     ghost use Rattle.run_figures.specs.Accounting.{AccountingView};
-    ghost use Rattle.run_figures.specs.private.Keeping.{HaveRooms, IsAccountingKept, IsHeardCounted, IsOfRun, accounting_view_of};
+    ghost use Rattle.run_figures.specs.private.Keeping.{HaveRooms, IsAccountingKept, IsHeardCounted, IsOfRun, accounting_view_of, happened_in};
+    ghost use Rattle.run_figures.specs.private.Lines.{AreLinesKept};
 
     ghost Value = { AccountingView };
 
@@ -62,7 +69,8 @@ impl Model for Accounting {
         × IsOfRun (accounting_view_of a.heard a.places)
         × HaveRooms (vec_capacity a.told) (vec_capacity a.ran.tasks) (vec_capacity a.ran.cpus)
         a.rooms
-        × IsHeardCounted a.heard };
+        × IsHeardCounted a.heard
+        × AreLinesKept (happened_in a.heard) a.places a.lines };
 }
 
 /// Hears one piece more: each switch behind what happened up to its time.
@@ -96,8 +104,24 @@ fn hear_piece(
     tell_all(told, places, &happened[from..], heard.time);
 }
 
+/// Hears what happened next, if the jobs are kept. Gives them up if a growth was refused.
+fn hear_lines(lines: &mut Option<Vec<Line>>, places: &Places, heard: &Heard, happened: &[Happened])
+    requires kept { AreLinesKept (keeping.happened_in heard.now) places.now lines.old }
+    requires few { length (keeping.happened_in heard.now) + length happened.now < 2 ^ 64 - 1 }
+    ensures { AreLinesKept (keeping.happened_in heard.now ++ happened.now) places.now
+        lines.new }
+{
+    let Some(mut table) = lines.take() else {
+        return;
+    };
+    if let Ok(()) = tell_lines(&mut table, places, happened) {
+        *lines = Some(table);
+    }
+}
+
 impl Accounting {
-    /// Hears the next piece: what happened and the switches, both in their order. Takes no memory.
+    /// Hears the next piece: what happened and the switches, both in their order. Takes no memory,
+    /// but for the jobs, if it keeps them: if a growth is refused, it keeps no jobs from then on.
     ///
     /// A run is cut into pieces between two ticks: what was heard is not later than the switches of
     /// this piece, and what happens in this piece is later than the switches that were heard. In
@@ -106,6 +130,7 @@ impl Accounting {
         requires next { IsNextPiece self.old happened.now switches.now }
         ensures { self.new ≡ with_piece self.old happened.now switches.now }
     {
+        hear_lines(&mut self.lines, &self.places, &self.heard, happened);
         hear_piece(
             &mut self.told,
             &mut self.ran,

@@ -1,40 +1,27 @@
-//! The jobs of each task, as a list.
+//! The jobs of each task, while its entries go by.
 
-ghost use Rattle.std.specs.Prelude.{◌≡◌, ◌-◌, ◌^◌, ◌++◌, IfOk, OnOk, All, map};
+ghost use Rattle.std.specs.Prelude.{ℕ, ◌≡◌, ◌-◌, ◌^◌, ◌++◌, IfOk, OnOk, All, Contains, length, map};
 ghost use Rattle.std.specs.Option.{option_to_list};
 ghost use Rattle.run_figures.specs.Jobs as jobs;
 ghost use Rattle.run_figures.specs.Laws as laws;
 ghost use Rattle.run_figures.specs.Runs as runs;
+ghost use Rattle.run_figures.specs.private.LineView.{JobLineView};
 ghost use Rattle.run_figures.specs.private.Lines as lines;
 
 use crate::job::{Job, over_by, under_way};
+use crate::kept_jobs::KeptJobs;
 use crate::places::Places;
 use crate::run::{Admitted, Run};
 use domain_run::{Happened, NoMemory};
 use std::alloc::Global;
 use std::marker::Model;
-
-/// The jobs of a task, in their order: the first is job 0.
-#[derive(Drop)]
-pub struct TaskJobs {
-    /// The task's number.
-    pub number: u32,
-    pub jobs: Vec<Job>,
-}
-
-impl Model for TaskJobs {
-    ghost use Rattle.run_figures.specs.TaskJobsView.{TaskJobsView};
-
-    ghost Value = { TaskJobsView };
-
-    ghost view = { λ t. record { number = t.number; jobs = t.jobs.items } };
-}
+use std::mem;
 
 /// The jobs of a task while its entries go by.
 #[derive(Drop)]
-struct Line {
-    number: u32,
-    over: Vec<Job>,
+pub(crate) struct Line {
+    over: KeptJobs,
+    /// The one that is under way.
     job: Option<Job>,
 }
 
@@ -43,11 +30,12 @@ impl Model for Line {
 
     ghost Value = { JobLineView };
 
-    ghost view = { λ l. record { number = l.number; over = l.over.items; job = l.job } };
+    ghost view = { λ l. record { number = l.over.number; over = l.over.jobs; job = l.job } };
 }
 
-fn push_over(over: &mut Vec<Job>, job: Option<Job>) -> Result<(), NoMemory>
-    ensures { OnOk result (over.new.items ≡ over.old.items ++ option_to_list job) }
+fn push_over(over: &mut KeptJobs, job: Option<Job>) -> Result<(), NoMemory>
+    ensures number { OnOk result (over.new.number ≡ over.old.number) }
+    ensures jobs { OnOk result (over.new.jobs ≡ over.old.jobs ++ option_to_list job) }
 {
     if let Some(job) = job {
         over.push(job)?;
@@ -77,62 +65,91 @@ fn tell(table: &mut Vec<Line>, places: &Places, happened: &Happened) -> Result<(
     }
 }
 
-fn no_lines(alloc: Global, tasks: &[Admitted]) -> Result<Vec<Line>, NoMemory>
+/// What happened next makes of the jobs of the tasks.
+pub(crate) fn tell_lines(
+    table: &mut Vec<Line>,
+    places: &Places,
+    happened: &[Happened],
+) -> Result<(), NoMemory>
+    requires keyed { map (λ l. l.number) table.old.items ≡ places.now }
+    requires room { lines.LinesHaveRoomFor (length happened.now) table.old.items }
+    ensures { OnOk result (table.new.items ≡ map (lines.line_all happened.now) table.old.items) }
+{
+    for entry in happened {
+        tell(table, places, entry)?;
+    }
+    Ok(())
+}
+
+/// A task of which nothing was told.
+fn no_line(alloc: Global, number: u32) -> Line
+    ensures { result ≡ lines.no_line number }
+{
+    Line {
+        over: KeptJobs::new(alloc, number),
+        job: None,
+    }
+}
+
+/// Tasks of which nothing was told.
+pub(crate) fn no_lines(alloc: Global, tasks: &[Admitted]) -> Result<Vec<Line>, NoMemory>
     ensures { IfOk result (λ v. v.items ≡ map (λ t. lines.no_line t.number) tasks.now) }
 {
     let mut table = Vec::with_capacity(alloc, tasks.len())?;
     for task in tasks {
-        table.push(Line {
-            number: task.number,
-            over: Vec::new(alloc),
-            job: None,
-        })?;
-    }
-    Ok(table)
-}
-
-fn lines_of(alloc: Global, tasks: &[Admitted], happened: &[Happened]) -> Result<Vec<Line>, NoMemory>
-    requires tasks { runs.AreTasks tasks.now }
-    ensures { IfOk result (λ v. v.items
-        ≡ map (λ t. lines.line_all happened.now (lines.no_line t.number)) tasks.now) }
-{
-    let places = Places::of(alloc, tasks)?;
-    let mut table = no_lines(alloc, tasks)?;
-    for entry in happened {
-        tell(&mut table, &places, entry)?;
+        table.push(no_line(alloc, task.number))?;
     }
     Ok(table)
 }
 
 /// A task's jobs, with the one that is under way at the end.
-fn closed(line: Line) -> Result<TaskJobs, NoMemory>
-    ensures { IfOk result (λ t. t
-        ≡ record { number = line.number; jobs = line.over ++ option_to_list line.job }) }
+fn closed(line: Line) -> Result<KeptJobs, NoMemory>
+    ensures { IfOk result (λ t. t ≡ lines.closed_line line) }
 {
-    let Line {
-        number,
-        over: mut jobs,
-        job,
-    } = line;
-    push_over(&mut jobs, job)?;
-    Ok(TaskJobs { number, jobs })
+    let Line { mut over, job } = line;
+    // Dropped by one call: its parts would be written out.
+    if let Err(error) = push_over(&mut over, job) {
+        drop(over);
+        return Err(error);
+    }
+    Ok(over)
+}
+
+/// The jobs of these tasks, each from its place in the table, which does not have them then.
+pub(crate) fn closed_lines(
+    alloc: Global,
+    tasks: &[Admitted],
+    places: &Places,
+    table: &mut Vec<Line>,
+) -> Result<Vec<KeptJobs>, NoMemory>
+    requires tasks { runs.AreTasks tasks.now }
+    requires among { All (λ t. Contains places.now t.number) tasks.now }
+    requires as_many { length table.old.items ≡ length places.now }
+    ensures { (f : ℕ → JobLineView) → table.old.items ≡ map f places.now
+        → IfOk result (λ v. v.items ≡ map (λ t. lines.closed_line (f t.number)) tasks.now) }
+{
+    let mut all = Vec::with_capacity(alloc, tasks.len())?;
+    for task in tasks {
+        if let Some(place) = places.find(task.number) {
+            let line = mem::replace(&mut table[place], no_line(alloc, task.number));
+            all.push(closed(line)?)?;
+        }
+    }
+    Ok(all)
 }
 
 /// The jobs of each task, in the order of the tasks. Goes through what happened once.
 ///
 /// # Errors
 /// 12 [`NoMemory`]: a growth was refused; nothing is left.
-pub fn jobs_of(alloc: Global, run: &Run<'_>) -> Result<Vec<TaskJobs>, NoMemory>
+pub fn jobs_of(alloc: Global, run: &Run<'_>) -> Result<Vec<KeptJobs>, NoMemory>
     requires tasks { runs.AreTasks run.now.tasks.now }
     ensures jobs { IfOk result (λ v. v.items
         ≡ map (λ t. jobs.task_jobs run.now.happened.now t.number) run.now.tasks.now) }
     ensures released { IfOk result (λ v. All (laws.AreReleased run.now.happened.now) v.items) }
 {
-    let mut table = lines_of(alloc, run.tasks, run.happened)?;
-    let mut all = Vec::with_capacity(alloc, table.len())?;
-    table.reverse();
-    while let Some(line) = table.pop() {
-        all.push(closed(line)?)?;
-    }
-    Ok(all)
+    let places = Places::of(alloc, run.tasks)?;
+    let mut table = no_lines(alloc, run.tasks)?;
+    tell_lines(&mut table, &places, run.happened)?;
+    closed_lines(alloc, run.tasks, &places, &mut table)
 }

@@ -30,7 +30,7 @@ use Rattle.session.specs.declared.fault.EndFault.{EndFault}
 use Rattle.session.specs.declared.fault.EndFault.TheVariants as faults
 use Rattle.session.specs.declared.report.Finished.{Finished}
 use Rattle.session.specs.declared.report.Wanted.{Wanted}
-use Rattle.session.specs.declared.report.Wanted.TheVariants.{Switches, Happened as WhatHappened, Figures}
+use Rattle.session.specs.declared.report.Wanted.TheVariants.{Switches, Happened as WhatHappened, Figures, Jobs}
 use Rattle.session.specs.declared.ending_run.Told.{Told}
 use Rattle.session.specs.SessionId.{SessionId}
 use Rattle.session.specs.Asks.{ClientView, Makes, Made, entries_from, client_pass_in, followed_by}
@@ -474,6 +474,7 @@ left_as : (id : SessionId) (cs : List ClientView) (duration : ℕ) (wanted : Wan
 left_as id cs duration Switches books f t ended count named left logs heard told = logged id cs duration false books f t ended count named left logs told.0 told.1
 left_as id cs duration WhatHappened books f t ended count named left logs heard told = logged id cs duration true books f t ended count named left logs told.0 told.1
 left_as id cs duration Figures books f t ended count named left logs heard told = all_heard id cs duration books f t ended count named left heard told.0 told.1
+left_as id cs duration Jobs books f t ended count named left logs heard told = all_heard id cs duration books f t ended count named left heard told.0 told.1
 
 pub is_finished : (id : SessionId) (duration : ℕ) (wanted : Wanted) (cs es : List ClientView) (books : List EndingView) (f : Finished) (t : Told)
     → HaveAdvanced duration cs es → IsSessionReport id es f.report → HaveEnded books f.report.histories.items f.states.items → length books ≡ length id.cpu_sets → AreSessionBooks id (books_of books) → AllEnd duration (books_of books)

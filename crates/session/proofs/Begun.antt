@@ -1,26 +1,30 @@
 -- Books whose advance is entered first, and made piece by piece then.
-use Rattle.std.proofs.Common.{◌≡◌, ℕ, zero, suc, ◌+◌, ◌≤◌, ◌<◌, Bool, true, false, eqb, List, [], ◌∷◌, ◌++◌, length, map, set, get_or, Some, None, All, refl, sym, ap, subst, ◌∙◌, arith}
+use Rattle.std.proofs.Common.{◌≡◌, ℕ, zero, suc, ◌+◌, ◌-◌, ◌≤◌, ◌<◌, Bool, true, false, eqb, List, [], ◌∷◌, ◌++◌, length, take, map, set, get_or, Some, None, All, refl, sym, ap, subst, ◌∙◌, arith}
 use Rattle.std.specs.Prelude.{slice_index_or, Result, Ok, Err, OnOk, OnErr}
 use Rattle.std.proofs.lemmas.Bool.{eqb-true, eqb-false}
-use Rattle.std.proofs.lemmas.List.{append_assoc, append-nil, get_or-set_same, get_or-set_other, get_or-map, length-map, length-set, map-set, same_lists}
+use Rattle.std.proofs.lemmas.List.{append_assoc, append-nil, get_or-set_same, get_or-set_other, get_or-map, length-map, length-set, length_push, map-set, same_lists}
+use Rattle.std.proofs.Math.Seq.{take-append_seam}
 use Rattle.std.proofs.lemmas.List.Elements.{All-get_or}
 use Rattle.bw_gate.specs.Pieces.{GateId}
 use Rattle.pass_seats.specs.Lists.{PassView}
 use Rattle.domain_run.specs.declared.call.Call.TheVariants.{Advance}
 use Rattle.domain_run.specs.declared.call.Reply.TheVariants as replies
 use Rattle.domain_run.specs.Domain.{Domain, empty_domain}
+use Rattle.domain_run.specs.Happened.{told_by_ticks}
+use Rattle.domain_run.specs.Run.{run_of}
 use Rattle.calls_text.specs.declared.section.Entry.{Entry}
 use Rattle.calls_text.specs.SectionView.{SectionView}
 use Rattle.calls_text.specs.Limits.{IsSection}
-use Rattle.call_book.specs.Book.{BookView, EntersAlone, IsBookHistory, IsMember, own_entries, state_of}
+use Rattle.calls_text.specs.Histories.{calls_of}
+use Rattle.call_book.specs.Book.{BookView, EntersAlone, IsBookHistory, IsMember, entry_by, own_entries, state_of}
 use Rattle.call_book.specs.Ending.{EndingView}
 use Rattle.call_book.specs.Playing.{PlayingView, HasWholeRun}
 use Rattle.session.specs.SessionId.{SessionId, IsSession, IsDomainIndex, cpu_set_of}
 use Rattle.session.specs.Asks.{ClientView, client_pass_in}
 use Rattle.session.specs.Report.{IsHistoryOf, IsSessionReport}
 use Rattle.session.specs.declared.report.Report.{Report}
-use Rattle.session.specs.Begun.{section_of, played_books, AreAllMade, AreBookHistories, HaveWholeRuns}
-use Rattle.session.specs.RunEnd.{IsFullWith}
+use Rattle.session.specs.Begun.{section_of, played_books, AreAllMade, AreBookHistories, AreUntold, HaveWholeRuns, IsUntold, TellsItsEnd, TellTheirEnds}
+use Rattle.session.specs.RunEnd.{IsFullWith, told_at_end}
 use Rattle.session.specs.private.Begun.{unplayed, without_pieces}
 use Rattle.session.specs.private.Closing.{HaveEnded}
 use Rattle.session.specs.private.Ending.{books_of, IsEndBy, IsFullAmong, unheard_ending}
@@ -30,35 +34,43 @@ use Rattle.session.proofs.Advanced.{kept_own}
 
 -- ---- books with their buffers, before anything is entered
 
-pub played_back : (books : List BookView) → played_books (map unplayed books) ≡ books
-played_back [] = refl
-played_back (b ∷ books) = ap (λ (bs : List BookView). b ∷ bs) (played_back books)
+pub played_back : (logs : Bool) (books : List BookView) → played_books (map (unplayed logs) books) ≡ books
+played_back logs [] = refl
+played_back logs (b ∷ books) = ap (λ (bs : List BookView). b ∷ bs) (played_back logs books)
 
-unplayed_made : (books : List BookView) → AreAllMade (map unplayed books)
-unplayed_made [] d x inside = absurd (omega (arith, inside))
-unplayed_made (b ∷ books) zero x inside = refl
-unplayed_made (b ∷ books) (suc d) x inside = unplayed_made books d x (omega (arith, inside))
+unplayed_made : (logs : Bool) (books : List BookView) → AreAllMade (map (unplayed logs) books)
+unplayed_made logs [] d x inside = absurd (omega (arith, inside))
+unplayed_made logs (b ∷ books) zero x inside = refl
+unplayed_made logs (b ∷ books) (suc d) x inside = unplayed_made logs books d x (omega (arith, inside))
 
-unplayed_whole : (books : List BookView) → HaveWholeRuns (map unplayed books)
-unplayed_whole [] d x inside = absurd (omega (arith, inside))
-unplayed_whole (b ∷ books) zero x inside = append-nil (state_of b).switches
-unplayed_whole (b ∷ books) (suc d) x inside = unplayed_whole books d x (omega (arith, inside))
+unplayed_whole : (logs : Bool) (books : List BookView) → HaveWholeRuns (map (unplayed logs) books)
+unplayed_whole logs [] d x inside = absurd (omega (arith, inside))
+unplayed_whole logs (b ∷ books) zero x inside = append-nil (state_of b).switches
+unplayed_whole logs (b ∷ books) (suc d) x inside = unplayed_whole logs books d x (omega (arith, inside))
 
-pub all_made : (playing : List PlayingView) (books : List BookView) → playing ≡ map unplayed books → AreAllMade playing
-all_made playing books is = subst AreAllMade (sym is) (unplayed_made books)
+pub all_made : (logs : Bool) (playing : List PlayingView) (books : List BookView) → playing ≡ map (unplayed logs) books → AreAllMade playing
+all_made logs playing books is = subst AreAllMade (sym is) (unplayed_made logs books)
 
-pub all_whole : (playing : List PlayingView) (books : List BookView) → playing ≡ map unplayed books → HaveWholeRuns playing
-all_whole playing books is = subst HaveWholeRuns (sym is) (unplayed_whole books)
+pub all_whole : (logs : Bool) (playing : List PlayingView) (books : List BookView) → playing ≡ map (unplayed logs) books → HaveWholeRuns playing
+all_whole logs playing books is = subst HaveWholeRuns (sym is) (unplayed_whole logs books)
 
-pub books_named : (id : SessionId) (playing : List PlayingView) (books : List BookView) → playing ≡ map unplayed books → AreSessionBooks id books → AreSessionBooks id (played_books playing)
-books_named id playing books is named = subst (AreSessionBooks id) (sym (ap played_books is ∙ played_back books)) named
+unplayed_untold : (logs : Bool) (books : List BookView) → AreUntold logs (map (unplayed logs) books)
+unplayed_untold logs [] d x inside = absurd (omega (arith, inside))
+unplayed_untold logs (b ∷ books) zero x inside = record { logs = refl; told = refl }
+unplayed_untold logs (b ∷ books) (suc d) x inside = unplayed_untold logs books d x (omega (arith, inside))
+
+pub all_untold : (logs : Bool) (playing : List PlayingView) (books : List BookView) → playing ≡ map (unplayed logs) books → AreUntold logs playing
+all_untold logs playing books is = subst (AreUntold logs) (sym is) (unplayed_untold logs books)
+
+pub books_named : (logs : Bool) (id : SessionId) (playing : List PlayingView) (books : List BookView) → playing ≡ map (unplayed logs) books → AreSessionBooks id books → AreSessionBooks id (played_books playing)
+books_named logs id playing books is named = subst (AreSessionBooks id) (sym (ap played_books is ∙ played_back logs books)) named
 
 -- one buffer more
-pub played_more : (playing after : List PlayingView) (rest left : List BookView) (b : BookView) (p : PlayingView) (total : List PlayingView) → after ≡ playing ++ p ∷ [] → rest ≡ b ∷ left → p ≡ unplayed b
-    → playing ++ map unplayed rest ≡ total → after ++ map unplayed left ≡ total
-played_more playing after rest left b p total after_is rest_is is sum =
-    ap (λ (ps : List PlayingView). ps ++ map unplayed left) after_is ∙ append_assoc playing (p ∷ []) (map unplayed left)
-    ∙ ap (λ (x : PlayingView). playing ++ x ∷ map unplayed left) is ∙ ap (λ (bs : List BookView). playing ++ map unplayed bs) (sym rest_is) ∙ sum
+pub played_more : (logs : Bool) (playing after : List PlayingView) (rest left : List BookView) (b : BookView) (p : PlayingView) (total : List PlayingView) → after ≡ playing ++ p ∷ [] → rest ≡ b ∷ left → p ≡ unplayed logs b
+    → playing ++ map (unplayed logs) rest ≡ total → after ++ map (unplayed logs) left ≡ total
+played_more logs playing after rest left b p total after_is rest_is is sum =
+    ap (λ (ps : List PlayingView). ps ++ map (unplayed logs) left) after_is ∙ append_assoc playing (p ∷ []) (map (unplayed logs) left)
+    ∙ ap (λ (x : PlayingView). playing ++ x ∷ map (unplayed logs) left) is ∙ ap (λ (bs : List BookView). playing ++ map (unplayed logs) bs) (sym rest_is) ∙ sum
 
 -- the gates of a session's books
 pub gates_of : (id : SessionId) (gate : GateId) (books : List BookView) → gate ≡ id.gate → AreSessionBooks id books → All (λ (b : BookView). b.gate ≡ gate) books
@@ -107,6 +119,63 @@ ok_so (Err e) P Q is f = tt
 pub err_so : {A E : Type 0} (r : Result A E) (P Q : Type 0) → OnErr r P → (P → Q) → OnErr r Q
 err_so (Ok a) P Q is f = tt
 err_so (Err e) P Q is f = f is
+
+pub both_ok : {A E : Type 0} (r : Result A E) (P Q R : Type 0) → OnOk r P → OnOk r Q → (P → Q → R) → OnOk r R
+both_ok (Ok a) P Q R p q f = f p q
+both_ok (Err e) P Q R p q f = tt
+
+-- ---- what is still to be told
+
+-- a book of which an advance was entered, or none, and nothing more was told
+pub untold_still : {A E : Type 0} (r : Result A E) (old new : PlayingView) (b : BookView) (n : ℕ) (logs : Bool) → OnOk r (new ≡ record old { book = b; left = n }) → OnErr r (new ≡ old) → IsUntold logs old → IsUntold logs new
+untold_still (Ok a) old new b n logs entered same is = subst (IsUntold logs) (sym entered) (record { logs = is.logs; told = is.told })
+untold_still (Err e) old new b n logs entered same is = subst (IsUntold logs) (sym same) is
+
+all_but_last : (es : List Entry) (e : Entry) → take (length (es ++ e ∷ []) - 1) (es ++ e ∷ []) ≡ es
+all_but_last es e =
+    let less : length (es ++ e ∷ []) - 1 ≡ length es = omega (arith, length_push es e) in
+    ap (λ (n : ℕ). take n (es ++ e ∷ [])) less ∙ take-append_seam es (e ∷ [])
+
+-- an advance was entered, of which no tick is made: what it tells is still to be told
+pub tells_end : (old new : PlayingView) (p q : PassView Entry) (n : ℕ) → old.at ≡ state_of old.book → EntersAlone old.book new.book p q (Advance n) (replies.Done n) → new ≡ record old { book = new.book; left = n } → TellsItsEnd n new
+tells_end old new p q n at is entered =
+    let was = old.book in
+    let now = new.book in
+    let cpus = ap (λ (b : BookView). b.cpus) is.entered.book in
+    let limit = ap (λ (b : BookView). b.limit) is.entered.book in
+    let history = ap (λ (b : BookView). b.history) is.entered.book in
+    let cut : take (length now.history - 1) now.history ≡ was.history =
+    ap (λ (es : List Entry). take (length es - 1) es) history ∙ all_but_last was.history (entry_by p (Advance n) (replies.Done n)) in
+    record {
+      most = omega (arith, ap (λ (x : PlayingView). x.left) entered);
+      tells = ap (λ (x : PlayingView). told_by_ticks x.left x.at) entered
+          ∙ ap (told_by_ticks n) at
+          ∙ ap (λ (k : ℕ). told_by_ticks n (run_of k was.limit (calls_of was.history))) (sym cpus)
+          ∙ ap (λ (k : ℕ). told_by_ticks n (run_of now.cpus k (calls_of was.history))) (sym limit)
+          ∙ ap (λ (es : List Entry). told_by_ticks n (run_of now.cpus now.limit (calls_of es))) (sym cut);
+    }
+
+-- where the advance has no ticks, nothing is told
+pub none_tell : (n : ℕ) (books : List PlayingView) → n ≡ 0 → AreAllMade books → TellTheirEnds n books
+none_tell n books none made d x inside =
+    let p = get_or books d x in
+    record {
+      most = omega (arith, made d x inside);
+      tells = ap (λ (k : ℕ). told_by_ticks k p.at) (made d x inside) ∙ ap (λ (k : ℕ). told_at_end k p.book.cpus p.book.limit p.book.history) (sym none);
+    }
+
+-- the first so many of the books
+abbrev pub FirstOf : (PlayingView → Type 0) → ℕ → List PlayingView → Type 0
+FirstOf P n books = (d : ℕ) (x : PlayingView) → d < n → d < length books → P (slice_index_or books d x)
+
+pub first_more : (P : PlayingView → Type 0) (n m : ℕ) (books : List PlayingView) (p : PlayingView) → n < length books → m ≡ n + 1 → FirstOf P n books → P p → FirstOf P m (set books n p)
+first_more P n m books p there more first last d x upto inside = by (eqb n d) refl
+  where
+    by : (e : Bool) → eqb n d ≡ e → P (get_or (set books n p) d x)
+    by true is = subst (λ (k : ℕ). P (get_or (set books n p) k x)) (eqb-true n d is) (subst P (sym (get_or-set_same books n p x there)) last)
+    by false is =
+        let other = eqb-false n d is in
+        subst P (sym (get_or-set_other books n d p x (λ at. other (sym at)))) (first d x (omega (arith, upto, more, other)) (omega (arith, inside, length-set books n p)))
 
 -- the last entry is that of the pass
 pub ends_entered : (old new : BookView) (p q : PassView Entry) (client n : ℕ) → p.client ≡ client → EntersAlone old new p q (Advance n) (replies.Done n) → IsEndBy client n new.history

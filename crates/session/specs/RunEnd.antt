@@ -19,7 +19,7 @@ use Rattle.session.specs.declared.fault.EndFault.{EndFault}
 use Rattle.session.specs.declared.fault.EndFault.TheVariants.{Full, Memory}
 use Rattle.session.specs.declared.report.Finished.{Finished}
 use Rattle.session.specs.declared.report.Wanted.{Wanted}
-use Rattle.session.specs.declared.report.Wanted.TheVariants.{Switches, Happened as WhatHappened, Figures}
+use Rattle.session.specs.declared.report.Wanted.TheVariants.{Switches, Happened as WhatHappened, Figures, Jobs}
 use Rattle.session.specs.SessionId.{SessionId, IsDomainIndex}
 use Rattle.session.specs.Asks.{ClientView, Made, Makes}
 use Rattle.session.specs.Report.{IsHistoryOf, IsSessionReport}
@@ -101,6 +101,7 @@ abbrev pub IsLeftAs : ℕ → Wanted → Finished → Type 0
 IsLeftAs duration Switches f = AreLogged duration false f
 IsLeftAs duration WhatHappened f = AreLogged duration true f
 IsLeftAs duration Figures f = AreHeard duration f
+IsLeftAs duration Jobs f = AreHeard duration f
 
 -- what the end of a run leaves, by clients that had entered so much
 pub record IsFinished (id : SessionId) (duration : ℕ) (wanted : Wanted) (clients : List ClientView)

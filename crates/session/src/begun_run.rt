@@ -1,11 +1,11 @@
 //! The end of a run of which client 1's advance is entered first: its ticks are made piece by piece
 //! then, and nothing is refused any more.
 
-ghost use Rattle.std.specs.Prelude.{◌≡◌, ◌<◌, ◌≤◌, [], length, map, vec_capacity, All, IfOk, IfErr, OnOk, OnErr};
+ghost use Rattle.std.specs.Prelude.{◌≡◌, ◌<◌, ◌≤◌, Bool, [], length, map, vec_capacity, All, IfOk, IfErr, OnOk, OnErr};
 ghost use Rattle.std.specs.Vec.Iter.{into_iter_items};
 ghost use Rattle.session.specs.SessionId.{IsSession};
 ghost use Rattle.session.specs.Asks.{Makes};
-ghost use Rattle.session.specs.Begun.{played_books, section_of, AreAllMade, AreBookHistories, HaveWholeRuns, IsRunBegun};
+ghost use Rattle.session.specs.Begun.{played_books, section_of, AreAllMade, AreBookHistories, AreUntold, HaveWholeRuns, IsRunBegun, TellTheirEnds};
 ghost use Rattle.session.specs.Report.{IsHistoryOf, IsSessionReport};
 ghost use Rattle.session.specs.RunEnd.{advance_of, FirstIsOne, IsFullWith, IsRunStopped};
 ghost use Rattle.session.specs.private.Begun.{unplayed, without_pieces};
@@ -89,10 +89,16 @@ fn shut_books(gate: &Gate, mut books: Vec<PlayingBook>)
     books.destroy_empty();
 }
 
-/// Gives each book its buffer. Where memory is refused, all are shut.
-fn play_all(alloc: Global, gate: &Gate, books: Vec<Domain>) -> Result<Vec<PlayingBook>, NoMemory>
+/// Gives each book its buffer, and a log if what happens is to be logged. If memory is refused, all
+/// are shut.
+fn play_all(
+    alloc: Global,
+    gate: &Gate,
+    books: Vec<Domain>,
+    logs: bool,
+) -> Result<Vec<PlayingBook>, NoMemory>
     requires { All (λ b. b.gate ≡ gate.now) books.items }
-    ensures { IfOk result (λ playing. playing.items ≡ map unplayed books.items) }
+    ensures { IfOk result (λ playing. playing.items ≡ map (unplayed logs) books.items) }
 {
     let Ok(mut playing) = Vec::with_capacity(alloc, books.len()) else {
         shut_rest(gate, books.into_iter());
@@ -100,7 +106,7 @@ fn play_all(alloc: Global, gate: &Gate, books: Vec<Domain>) -> Result<Vec<Playin
     };
     let mut rest = books.into_iter();
     while let Some(domain) = rest.next() {
-        match domain.end().play() {
+        match domain.end().play(logs) {
             Ok(book) => playing.push_reserved(book),
             Err(book) => {
                 book.shut(gate);
@@ -133,6 +139,9 @@ fn begin_all<N: Names>(
     ensures made { OnOk result (Makes client.old client.new (λ d. advance_of duration 1)) }
     ensures ends { OnOk result (AllEnd duration (played_books books.new.items)) }
     ensures whole { HaveWholeRuns books.new.items }
+    ensures untold { (logs : Bool) → AreUntold logs books.old.items
+        → AreUntold logs books.new.items }
+    ensures tell { OnOk result (TellTheirEnds duration books.new.items) }
     ensures full { OnErr result
         (IsFullAmong duration (played_books books.new.items) client.old client.new) }
 {
@@ -160,6 +169,9 @@ fn begin<N: Names>(
     ensures made { OnOk result (Makes client.old client.new (λ d. advance_of duration 1)) }
     ensures ends { OnOk result (AllEnd duration (played_books books.new.items)) }
     ensures whole { HaveWholeRuns books.new.items }
+    ensures untold { (logs : Bool) → AreUntold logs books.old.items
+        → AreUntold logs books.new.items }
+    ensures tell { OnOk result (TellTheirEnds duration books.new.items) }
     ensures full { OnErr result
         (IsFullAmong duration (played_books books.new.items) client.old client.new) }
 {
@@ -201,7 +213,8 @@ fn agree_with_all<N: Names>(books: &mut Vec<PlayingBook>, clients: &mut Vec<Clie
 /// client 1 enter an advance of the whole duration, in microseconds, as the last entry of each
 /// book; no call is made where the duration is 0. No tick is made yet. Each pass is compared with
 /// its book. From here on the histories are those of the whole run, and nothing is refused:
-/// [`PlayingBook::fill`] makes ticks whose switches are wanted, and [`finish_end`] makes those that
+/// [`PlayingBook::fill`] makes ticks whose switches are wanted, [`PlayingBook::fill_told`] ticks of
+/// which also what happens is wanted, if the books have logs, and [`finish_end`] makes those that
 /// are left and ends the session. [`shut_end`] ends it at any time, whatever is left.
 ///
 /// # Errors
@@ -213,11 +226,13 @@ pub fn begin_end<N: Names>(
     session: Session<N>,
     mut clients: Vec<Client<N>>,
     duration: u64,
+    logs: bool,
 ) -> Result<RunBegun<N>, EndFault>
     requires some { 0 < length clients.items }
     requires first { FirstIsOne clients.items }
     requires duration { duration ≤ 60000000 }
-    ensures ok { IfOk result (λ r. IsRunBegun N.id duration clients.items r.books.items r.rest) }
+    ensures ok { IfOk result
+        (λ r. IsRunBegun N.id duration logs clients.items r.books.items r.rest) }
     ensures err { IfErr result (IsRunStopped (IsFullWith N.id duration clients.items)) }
 {
     let Unlocked {
@@ -229,7 +244,7 @@ pub fn begin_end<N: Names>(
         room,
         of: _,
     } = session.unlock(alloc)?;
-    let Ok(mut books) = play_all(alloc, &gate, books) else {
+    let Ok(mut books) = play_all(alloc, &gate, books, logs) else {
         ending.destroy_empty();
         room.destroy();
         return Err(EndFault::Memory);

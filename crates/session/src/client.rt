@@ -1,6 +1,6 @@
 //! A client: its passes, the piece in its hand, and the calls that it makes.
 
-ghost use Rattle.std.specs.Prelude.{◌≡◌, Some, None, IfSome, IfNone, IfOk, IfErr, OnOk, OnErr, IsSome, Ok, true, false, [], ◌∷◌, length};
+ghost use Rattle.std.specs.Prelude.{◌≡◌, Bool, Some, None, IfSome, IfNone, IfOk, IfErr, OnOk, OnErr, IsSome, Ok, true, false, [], ◌∷◌, length};
 ghost use Rattle.attr_check.specs.Accepted.{accepted, params_of};
 ghost use Rattle.domain_run.specs.declared.call.Call.TheVariants as calls;
 ghost use Rattle.domain_run.specs.Domain.{IsLimit};
@@ -8,6 +8,7 @@ ghost use Rattle.domain_run.specs.Log.{Tells};
 ghost use Rattle.calls_text.specs.Limits.{IsCall};
 ghost use Rattle.call_book.specs.Book.{IsMember, IsFull, admission, own_entries};
 ghost use Rattle.call_book.specs.Playing.{HasWholeRun};
+ghost use Rattle.session.specs.Begun.{IsUntold, TellsItsEnd};
 ghost use Rattle.session.specs.SessionId.{IsSession, IsDomainIndex, cpu_set_of, spine_of};
 ghost use Rattle.session.specs.Seen.{AnswerWasSeen, EntryWasSeen, RefusalWasSeen};
 ghost use Rattle.session.specs.Asks.{Asks, admit_call, client_pass_in, part_in, Makes, made_by, MakesRegrade, MakesLimit, MakesAdvance, RefusesOnlyFull, RefusesOnlyFullOrMemory, IsLastFound, blank_or_new, AsksGate, IsHandAfter};
@@ -188,8 +189,12 @@ impl<N: Names> Client<N> {
         ensures made { OnOk result (MakesAll self.old self.new place ticks) }
         ensures ends { OnOk result (IsEndBy self.old.number ticks book.new.book.history) }
         ensures whole { HasWholeRun book.old → HasWholeRun book.new }
+        ensures untold { (logs : Bool) → IsUntold logs book.old → IsUntold logs book.new }
+        ensures tells { OnOk result (HasWholeRun book.old → TellsItsEnd ticks book.new) }
         ensures full { OnErr result (IsFull book.new.book × (self.new ≡ self.old)) }
     {
+        // For the prover alone: a look at the domain brings that it is the run of the history.
+        let _ = book.state();
         book.begin_advance(&mut self.passes[place], ticks)
     }
 
@@ -226,13 +231,15 @@ impl<N: Names> Client<N> {
     }
 
     /// As [`Client::advance_book`], of a book at its end: an accounting hears its switches, and
-    /// what happens in these ticks, and the book keeps neither.
+    /// what happens in these ticks, and the book keeps neither. The accounting keeps the jobs of
+    /// each task, if `jobs` asks for them.
     pub(crate) fn hear_book(
         &mut self,
         gate: &Gate,
         book: &mut EndingBook,
         place: usize,
         ticks: u64,
+        jobs: bool,
     ) -> Result<Accounting, EndFault>
         requires gate { gate.now ≡ N.id.gate }
         requires named { IsSessionBook N.id place book.old.book }
@@ -246,7 +253,7 @@ impl<N: Names> Client<N> {
         ensures heard { IfOk result (λ a. IsHeardOf ticks book.new.book a) }
         ensures err { IfErr result (IsRunStopped (IsFull book.new.book × (self.new ≡ self.old))) }
     {
-        match book.advance_heard(&mut self.passes[place], gate, ticks) {
+        match book.advance_heard(&mut self.passes[place], gate, ticks, jobs) {
             Ok(heard) => all_heard(heard, ticks),
             Err(AdvanceError::Full) => Err(EndFault::Full),
             Err(AdvanceError::Memory) => Err(EndFault::Memory),

@@ -125,12 +125,14 @@ fn advance<N: Names, R: Threads + Wait>(
     })
 }
 
-/// Lets client 1 advance each domain by the whole duration, and an accounting of each hear it.
+/// Lets client 1 advance each domain by the whole duration, and an accounting of each hear it. It
+/// keeps the jobs of each task, if `jobs` asks for them.
 fn hear_all<N: Names>(
     gate: &Gate,
     books: &mut Vec<EndingBook>,
     client: &mut Client<N>,
     duration: u64,
+    jobs: bool,
     heard: &mut Vec<Accounting>,
 ) -> Result<(), EndFault>
     requires gate { gate.now ≡ N.id.gate }
@@ -154,14 +156,18 @@ fn hear_all<N: Names>(
         (IsRunStopped (IsFullAmong duration (books_of books.new.items) client.old client.new)) }
 {
     for place in 0..books.len() {
-        let accounting = client.hear_book(gate, &mut books[place], place, duration)?;
+        let accounting = client.hear_book(gate, &mut books[place], place, duration, jobs)?;
         heard.push_reserved(accounting);
     }
     Ok(())
 }
 
 /// Lets an accounting of each domain hear the switches of its run. No call is made.
-fn hear_still(books: &mut Vec<EndingBook>, heard: &mut Vec<Accounting>) -> Result<(), NoMemory>
+fn hear_still(
+    books: &mut Vec<EndingBook>,
+    jobs: bool,
+    heard: &mut Vec<Accounting>,
+) -> Result<(), NoMemory>
     requires unheard { AreAllHeard false books.old.items }
     requires empty { heard.old.items ≡ [] }
     requires room { length books.old.items ≤ vec_capacity heard.old }
@@ -170,7 +176,7 @@ fn hear_still(books: &mut Vec<EndingBook>, heard: &mut Vec<Accounting>) -> Resul
     ensures heard { OnOk result (AreHeardEnds 0 (books_of books.new.items) heard.new.items) }
 {
     for place in 0..books.len() {
-        heard.push_reserved(books[place].hear()?);
+        heard.push_reserved(books[place].hear(jobs)?);
     }
     Ok(())
 }
@@ -181,6 +187,7 @@ fn hear<N: Names>(
     ending: &mut Ending<N>,
     client: &mut Client<N>,
     duration: u64,
+    jobs: bool,
 ) -> Result<Told, EndFault>
     requires unheard { AreAllHeard false ending.old.books.items }
     requires first { client.old.number ≡ 1 }
@@ -197,7 +204,7 @@ fn hear<N: Names>(
         return Err(EndFault::Memory);
     };
     if duration == 0 {
-        hear_still(&mut ending.books, &mut heard)?;
+        hear_still(&mut ending.books, jobs, &mut heard)?;
         return Ok(Told {
             logs: Vec::new(alloc),
             heard,
@@ -208,6 +215,7 @@ fn hear<N: Names>(
         &mut ending.books,
         client,
         duration,
+        jobs,
         &mut heard,
     )?;
     Ok(Told {
@@ -246,12 +254,14 @@ fn advance_told<N: Names, R: Threads + Wait>(
     Advanced { ending, told }
 }
 
-/// Lets client 1 advance each domain, which an accounting hears.
+/// Lets client 1 advance each domain, which an accounting hears. It keeps the jobs of each task, if
+/// `jobs` asks for them.
 fn advance_heard<N: Names>(
     alloc: Global,
     unlocked: Unlocked<N>,
     client: &mut Client<N>,
     duration: u64,
+    jobs: bool,
 ) -> Advanced<N>
     requires first { client.old.number ≡ 1 }
     requires most { duration ≤ 60000000 }
@@ -264,7 +274,7 @@ fn advance_heard<N: Names>(
         IfErr result.told (IsRunStopped (IsFullAmong duration books client.old client.new)) }
 {
     let mut ending = unlocked.end();
-    let told = hear(alloc, &mut ending, client, duration);
+    let told = hear(alloc, &mut ending, client, duration, jobs);
     Advanced { ending, told }
 }
 
@@ -289,7 +299,8 @@ fn advance_as<N: Names, R: Threads + Wait>(
     match wanted {
         Wanted::Switches => advance_told(rt, alloc, unlocked, client, duration, false),
         Wanted::Happened => advance_told(rt, alloc, unlocked, client, duration, true),
-        Wanted::Figures => advance_heard(alloc, unlocked, client, duration),
+        Wanted::Figures => advance_heard(alloc, unlocked, client, duration, false),
+        Wanted::Jobs => advance_heard(alloc, unlocked, client, duration, true),
     }
 }
 
@@ -297,9 +308,10 @@ fn advance_as<N: Names, R: Threads + Wait>(
 /// microseconds, as the last entry of its book; no call is made where the duration is 0. Then all
 /// books are closed, also where an advance was not made: the pieces go home, and each pass is
 /// compared with its book. Where what happens is `wanted`, it stands in the log of each domain, in
-/// the order of "Happened", as far as it happened in that advance. Where figures are wanted, an
+/// the order of "Happened", as far as it happened in that advance. If figures or jobs are wanted, an
 /// accounting of each domain heard that, and all switches of its run, while the advance was made:
-/// so neither takes memory that grows with the run, and the states that are left have no switches.
+/// so neither takes memory that grows with the run, but for the jobs, and the states that are left
+/// have no switches.
 ///
 /// # Errors
 /// [`EndFault::Full`] where the history of a domain has no room for the advance.

@@ -29,6 +29,8 @@ pub enum Wanted {
     Happened,
     /// What figures are made of: the switches and what happened are heard, and let go of at once.
     Figures,
+    /// As for figures, and the jobs of each task, which are kept in few bytes each.
+    Jobs,
 }
 
 /// What a run in a session left, with the state of each domain and what happened in it, in their
@@ -37,13 +39,13 @@ pub enum Wanted {
 pub struct Finished {
     /// As the session's end gives it; nobody stands among the refused.
     pub report: Report,
-    /// The state of each domain, to which its history leads; without its switches where figures
-    /// were wanted.
+    /// The state of each domain, to which its history leads; without its switches if figures or
+    /// jobs were wanted.
     pub states: Vec<State>,
     /// One for each domain; it keeps what happened in the advance at the end where that was wanted,
-    /// else nothing. None where figures were wanted.
+    /// else nothing. None if figures or jobs were wanted.
     pub logs: Vec<Log>,
-    /// One for each domain where figures were wanted: it heard all switches of the run, and what
-    /// happened in the advance at the end. Else none.
+    /// One for each domain if figures or jobs were wanted: it heard all switches of the run, and
+    /// what happened in the advance at the end. Else none.
     pub heard: Vec<Accounting>,
 }

@@ -67,7 +67,7 @@ IsSlicingEvents-stops before mid after all cut vs sent n waiting u final t =
 
 -- what goes out is counted below 2^64, also if the writer fails
 pub slicing_events_fit : (before after : Option (List ℕ)) (all : List ToldRun) (cut : Option ℕ) (vs : List SlicedEventsView) (sent n : ℕ) (waiting : List ℕ) → IsSlicingEvents before after all (told_runs vs) sent waiting
-    → AllByRecursion (AreEventsFinal cut) vs → length (events_in all) ≤ 2 ^ 54 → n ≤ length waiting + 512 * length (events_in (told_runs_before cut vs)) → sent + n < 2 ^ 64
+    → AllByRecursion (AreEventsFinal cut) vs → length (events_in all) < 2 ^ 55 → n ≤ length waiting + 512 * length (events_in (told_runs_before cut vs)) → sent + n < 2 ^ 64
 slicing_events_fit before after all cut vs sent n waiting u final few le = let bound = u.bound in omega (arith, count_cut cut vs final, bound, few, le)
 
 -- no event is left: all that did not go out waits

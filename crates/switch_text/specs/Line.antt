@@ -15,7 +15,7 @@ right_in width text = replicate (width - length text) 32 ++ text
 abbrev pub padded_right : ℕ → List ℕ → List ℕ
 padded_right width text = text ++ replicate (width - length text) 32
 
--- a number with zeros before it, as many as it is short of so many digits
+-- a number with zeros before it, as many as it is short of n digits
 abbrev pub digits_in : ℕ → ℕ → List ℕ
 digits_in width n = replicate (width - length (decimal n)) 48 ++ decimal n
 

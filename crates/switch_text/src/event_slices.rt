@@ -193,7 +193,7 @@ fn told_fronts<S: EventSlices>(slices: &[S], cut: Option<u64>) -> [Told<'_>; 8]
     told
 }
 
-/// The room for what lines say of tasks, for so many tasks as the runs have names at first.
+/// The room for what lines say of tasks, for as many tasks as the runs have names at first.
 fn widened<S: EventSlices>(slices: &[S], room: TraceRoom) -> TraceRoom
     requires { length slices.now ≤ 8 }
 {
@@ -287,7 +287,7 @@ pub fn write_event_slices<S: EventSlices, W: Write>(
     writer: &mut Counted<W>,
 ) -> Result<(), WriteFault>
     requires few { length slices.old ≤ 8 }
-    requires countable { length (events_in (told_runs (map S.sliced slices.old))) ≤ 2 ^ 54 }
+    requires countable { length (events_in (told_runs (map S.sliced slices.old))) < 2 ^ 55 }
     requires faults { faults_of writer.old < 2 ^ 63 }
     ensures ok { OnOk result (Appends
         (W.contents (inner_of writer.old)) (W.contents (inner_of writer.new))

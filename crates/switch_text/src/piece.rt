@@ -95,7 +95,7 @@ impl ShortPiece {
         ShortPiece { bytes, len }
     }
 
-    /// So many spaces.
+    /// The number of spaces.
     #[inline(always)]
     pub(crate) fn spaces(times: usize) -> ShortPiece
         requires { times ≤ 32 }

@@ -16,20 +16,20 @@ use domain_run::PrevState;
 use indexmap::IndexMap;
 use std::alloc::{AllocError, Global};
 
-/// So many places for idle CPUs, of which each CPU has one.
+/// The places for idle CPUs, of which each CPU has one.
 const IDLE: usize = 128;
 
-/// So many places for tasks, and in all, where no run has many tasks.
+/// The places for tasks, and in all, if no run has many tasks.
 const FEW: usize = 512;
 
 const NARROW: usize = 640;
 
-/// So many places for tasks, and in all, where a run has many.
+/// The places for tasks, and in all, if a run has many.
 const MANY: usize = 2048;
 
 const WIDE: usize = 2176;
 
-/// So many places for the texts of CPUs of the machine in a second.
+/// The places for the texts of CPUs of the machine in a second.
 const LANES: usize = 128;
 
 /// Whose texts they are.
@@ -329,7 +329,7 @@ fn make(names: &IndexMap<u32, String>, who: Who, cpu: u32, task: Option<u32>) ->
     }
 }
 
-/// So many places has each of so many runs for itself, where there are few.
+/// The places that each run has for itself, if there are few runs.
 #[inline(always)]
 fn places_each(runs: usize) -> usize
     ensures { result ≤ 512 }

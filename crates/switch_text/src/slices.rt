@@ -191,7 +191,7 @@ fn fronts<S: Slices>(slices: &[S], cut: Option<u64>) -> [Run<'_>; 8]
     runs
 }
 
-/// The room for what lines say of tasks, for so many tasks as the runs have names at first.
+/// The room for what lines say of tasks, for as many tasks as the runs have names at first.
 fn widened<S: Slices>(slices: &[S], room: TraceRoom) -> TraceRoom
     requires { length slices.now ≤ 8 }
 {
@@ -202,7 +202,7 @@ fn widened<S: Slices>(slices: &[S], room: TraceRoom) -> TraceRoom
     room.widened(&runs[..slices.len()])
 }
 
-/// The lines of all switches at hand that are before the cut, in one order, go out behind what
+/// The lines of all switches at hand that are before the cut, in one order, go out after what
 /// waits: how many bytes went out, also if the writer failed. What is left waits. The texts of
 /// tasks are those by the names of the whole runs, so they are kept for the slices that follow.
 fn send_fronts<S: Slices, W: Write>(

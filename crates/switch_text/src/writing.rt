@@ -108,7 +108,7 @@ pub(crate) fn together(sent: usize, more: usize) -> usize
     sent + more
 }
 
-/// So many switches of a run are looked at ahead at a time.
+/// How many switches of a run are looked at ahead at a time.
 const AHEAD: usize = 64;
 
 // Something of the switches of a run from a place on: of each fourth one, since four stand in a

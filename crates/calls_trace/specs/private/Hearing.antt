@@ -14,6 +14,8 @@ use Rattle.calls_text.specs.Limits.{IsCall}
 use Rattle.run_figures.specs.declared.run.Admitted.{Admitted}
 use Rattle.run_figures.specs.Runs as counted
 use Rattle.run_figures.specs.Figures.{task_figures, cpu_figures}
+use Rattle.run_figures.specs.Jobs.{task_jobs}
+use Rattle.figure_text.specs.Jobs.{JobsView}
 use Rattle.figure_text.specs.Summary.{SummaryView}
 use Rattle.switch_text.specs.Names.{name_of_task}
 use Rattle.heard_run.specs.Heard.{IsHeardUpTo}
@@ -72,6 +74,9 @@ summary_led w = record {
   cap = cap w.domain.cpus w.domain.limit;
   time = w.domain.time;
 }
+
+abbrev pub jobs_led : LedView → JobsView
+jobs_led w = record { names = w.names; tasks = map (task_jobs w.happened) w.domain.used }
 
 -- the tasks that were admitted so far, with the parameters that they have
 abbrev pub tasks_led : Hearing → List Admitted

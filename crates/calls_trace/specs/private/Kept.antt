@@ -2,13 +2,15 @@
 use Rattle.std.specs.Prelude.{ℕ, ◌≡◌, ◌≤◌, ◌+◌, false, List, [], ◌∷◌, ◌++◌, length, All}
 use Rattle.domain_run.specs.declared.call.Call.{Call}
 use Rattle.domain_run.specs.declared.call.Call.TheVariants.{Admit, Regrade, Wake, Leave, Advance, Limit, Depart, Arrive}
-use Rattle.domain_run.specs.Run.{after_calls}
+use Rattle.domain_run.specs.Domain.{Domain}
+use Rattle.domain_run.specs.Run.{after_calls, run_of}
 use Rattle.calls_text.specs.SectionView.{SectionView}
 use Rattle.calls_text.specs.Limits.{IsCall, IsSection}
 use Rattle.calls_text.specs.Reader.{ReaderView, IsBehind, IsWithin}
 use Rattle.switch_text.specs.Names.{name_of_task}
-use Rattle.calls_trace.specs.Replay.{names_of}
+use Rattle.calls_trace.specs.Replay.{calls_in_section, names_of}
 use Rattle.calls_trace.specs.Told.{domain_of, names_in, no_params}
+use Rattle.calls_trace.specs.private.Calls.{ticks_given}
 use Rattle.calls_trace.specs.private.Replaying.{AdmittedHaveNames, GivesParams}
 use Rattle.calls_trace.specs.declared.kept_section.KeptSection.{KeptSection}
 use Rattle.calls_trace.specs.declared.named_run.RunWithNames.{RunWithNames}
@@ -37,6 +39,14 @@ pub record KeepsCalls (k : KeptSection) : Type 0 where
   pub start : IsAtStart k.run
   pub are : All IsCall k.calls
 
+-- of the calls that were kept and one more a front is made, of which no call makes a tick: none, or
+-- that one
+pub record IsMadeOrKept (was : KeptSection) (call : Call) (is : KeptSection) : Type 0 where
+  pub made : List Call
+  pub order : was.calls ++ call ∷ [] ≡ made ++ is.calls
+  pub still : All (λ c. ticks_given c ≡ 0) made
+  pub domain : is.run.state ≡ after_calls was.run.state made
+
 -- one call more is made, or kept
 pub record IsOneMore (was : KeptSection) (call : Call) (is : KeptSection) : Type 0 where
   pub same_cpus : is.cpus ≡ was.cpus
@@ -52,10 +62,18 @@ pub record IsMadeUpTo (s : SectionView) (left : List Call) (r : RunWithNames) : 
   pub domain : after_calls r.state left ≡ domain_of s
   pub called : (n : ℕ) → names_of r.state left (name_of_task r.names) n ≡ names_in s n
 
+-- of the calls of a section a front is made, of which no call makes a tick; it led to this domain
+pub record IsBegunBy (s : SectionView) (left : List Call) (d : Domain) : Type 0 where
+  pub made : List Call
+  pub calls : calls_in_section s ≡ made ++ left
+  pub still : All (λ c. ticks_given c ≡ 0) made
+  pub domain : d ≡ run_of s.cpus s.limit made
+
 -- the calls of a section up to the first advance are made, and the others are kept
 pub record IsKeptSection (s : SectionView) (k : KeptSection) : Type 0 where
   pub same_cpus : k.cpus ≡ s.cpus
   pub made : IsMadeUpTo s k.calls k.run
+  pub begun : IsBegunBy s k.calls k.run.state
   pub kept : KeepsCalls k
   pub few : length k.calls ≤ length s.entries
 

@@ -1,13 +1,15 @@
--- The figures of the runs of sections, each of which was heard while it was made.
-use Rattle.std.specs.Prelude.{ℕ, ◌≡◌, ◌++◌, ◌∷◌, [], List, map}
+-- The figures and the jobs of the runs of sections, each of which was heard while it was made.
+use Rattle.std.specs.Prelude.{ℕ, Bool, ◌≡◌, ◌++◌, ◌∷◌, [], List, map, IsTrue}
 use Rattle.calls_text.specs.SectionView.{SectionView}
 use Rattle.calls_text.specs.Limits.{IsSection, AreRead}
 use Rattle.calls_text.specs.Spelling.{spelling}
 use Rattle.calls_text.specs.Reader.{ReaderView, IsBehind}
 use Rattle.switch_text.specs.Names.{name_of_task}
+use Rattle.figure_text.specs.Jobs.{JobsView}
 use Rattle.figure_text.specs.Summary.{SummaryView}
+use Rattle.calls_trace.specs.declared.heard_jobs.NamedJobs.{NamedJobs}
 use Rattle.calls_trace.specs.declared.summed_run.SummedRun.{SummedRun}
-use Rattle.calls_trace.specs.Told.{summary_view}
+use Rattle.calls_trace.specs.Told.{jobs_view, summary_view}
 
 -- as they are written
 abbrev pub summed_as : SummedRun → SummaryView
@@ -20,24 +22,33 @@ summed_as r = record {
   time = r.time;
 }
 
--- a section is read to its end, and this is its run
-pub record IsSummedSection (text : List ℕ) (before : List SectionView) (reader : ReaderView)
-    (r : SummedRun) : Type 0 where
+abbrev pub jobs_as : SummedRun → JobsView
+jobs_as r = record { names = name_of_task r.names; tasks = r.jobs.items }
+
+abbrev pub named_as : NamedJobs → JobsView
+named_as j = record { names = name_of_task j.names; tasks = j.jobs.items }
+
+-- a section is read to its end, and this is its run, with its jobs if they are wanted
+pub record IsSummedSection (text : List ℕ) (before : List SectionView) (jobs : Bool)
+    (reader : ReaderView) (r : SummedRun) : Type 0 where
   pub section : SectionView
   pub is : IsSection section
   pub behind : IsBehind text (before ++ section ∷ []) reader
   pub figures : summed_as r ≡ summary_view section
+  pub are_jobs : IsTrue jobs → jobs_as r ≡ jobs_view section
 
 -- the runs of the sections that were read so far
-pub record AreSummedSoFar (text : List ℕ) (reader : ReaderView) (runs : List SummedRun)
-    : Type 0 where
+pub record AreSummedSoFar (text : List ℕ) (jobs : Bool) (reader : ReaderView)
+    (runs : List SummedRun) : Type 0 where
   pub done : List SectionView
   pub behind : IsBehind text done reader
   pub figures : map summed_as runs ≡ map summary_view done
+  pub are_jobs : IsTrue jobs → map jobs_as runs ≡ map jobs_view done
 
 -- the text spells sections, and these are their runs
-pub record AreSummed (text : List ℕ) (runs : List SummedRun) : Type 0 where
+pub record AreSummed (text : List ℕ) (jobs : Bool) (runs : List SummedRun) : Type 0 where
   pub sections : List SectionView
   pub read : AreRead sections
   pub spelled : text ≡ spelling sections
   pub figures : map summed_as runs ≡ map summary_view sections
+  pub are_jobs : IsTrue jobs → map jobs_as runs ≡ map jobs_view sections

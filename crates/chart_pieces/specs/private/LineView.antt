@@ -5,7 +5,7 @@ use Rattle.chart_pieces.specs.declared.row.Bar.{Bar}
 use Rattle.chart_pieces.specs.declared.row.Gap.{Gap}
 use Rattle.chart_pieces.specs.declared.row.Mark.{Mark}
 
--- its bars, the last one first; how it stands, and since when; its gaps and marks so far
+-- its bars; how it stands, and since when; its gaps and marks so far
 pub record ChartLineView : Type 0 where
   pub number : ℕ
   pub bars : List Bar

@@ -41,7 +41,7 @@ pub record IsRunWritten (id : SessionId) (tasks : List TaskSpecView) (duration :
   pub run : AnswerTasks id tasks duration r.histories.items r.refused.items
   pub written : IsWrittenAs (IsMadeText print tasks r.histories.items) writer
 
--- the writer took so many bytes of the text of histories that answer the tasks, and not all
+-- the writer took n bytes of the text of histories that answer the tasks, and not all
 pub record IsRunCut (id : SessionId) (tasks : List TaskSpecView) (duration : ℕ) (print : Print)
     (writer : Side) (taken : ℕ) : Type 0 where
   pub histories : List SectionView

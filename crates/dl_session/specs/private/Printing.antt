@@ -12,7 +12,7 @@ use Rattle.run_options.specs.declared.options.Print.TheVariants as prints
 use Rattle.session.specs.declared.report.Wanted.{Wanted}
 use Rattle.session.specs.declared.report.Wanted.TheVariants as wants
 use Rattle.dl_session.specs.declared.printing.Source.{Source}
-use Rattle.dl_session.specs.declared.printing.Source.TheVariants.{Histories, Heard, Tasks, Logs}
+use Rattle.dl_session.specs.declared.printing.Source.TheVariants.{Histories, Heard, HeardJobs, Tasks, Logs}
 use Rattle.dl_session.specs.Promised.{domains_of, IsRowOf, AreRows}
 use Rattle.dl_session.specs.RunAnswer.{IsTextWith}
 
@@ -21,7 +21,7 @@ wanted_for prints.Trace = wants.Switches
 wanted_for prints.Calls = wants.Switches
 wanted_for prints.Replies = wants.Switches
 wanted_for prints.Events = wants.Happened
-wanted_for prints.Jobs = wants.Happened
+wanted_for prints.Jobs = wants.Jobs
 wanted_for prints.Summary = wants.Figures
 wanted_for prints.Promises = wants.Switches
 wanted_for (prints.Chart span) = wants.Happened
@@ -31,7 +31,7 @@ source_of prints.Trace = Logs replayed.Trace
 source_of prints.Calls = Histories
 source_of prints.Replies = Logs replayed.Replies
 source_of prints.Events = Logs replayed.Events
-source_of prints.Jobs = Logs replayed.Jobs
+source_of prints.Jobs = HeardJobs
 source_of prints.Summary = Heard
 source_of prints.Promises = Tasks
 source_of (prints.Chart span) = Logs (replayed.Chart span)
@@ -47,7 +47,7 @@ pub record IsWrittenAs (is : List ℕ → Type 0) (writer : Side) : Type 0 where
   pub said : is text
   pub written : IsWritten writer text
 
--- the writer took so many bytes of it, and not all
+-- the writer took n bytes of it, and not all
 pub record IsCutAs (is : List ℕ → Type 0) (writer : Side) (taken : ℕ) : Type 0 where
   pub text : List ℕ
   pub said : is text

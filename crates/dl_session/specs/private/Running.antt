@@ -6,13 +6,12 @@ use Rattle.json_order.specs.declared.fault.JsonFault.{JsonFault}
 use Rattle.json_order.specs.declared.fault.JsonKind.TheVariants as kinds
 use Rattle.rtapp_scenario.specs.declared.fault.ScenarioFault.{ScenarioFault}
 use Rattle.rtapp_scenario.specs.declared.fault.ScenarioFault.TheVariants as scenario_faults
-use Rattle.rtapp_scenario.specs.ScenarioView.{TaskSpecView}
 use Rattle.run_figures.specs.Accounting.{AccountingView}
 use Rattle.calls_text.specs.SectionView.{SectionView}
 use Rattle.calls_text.specs.Histories.{AreRuns, AreTold}
 use Rattle.calls_trace.specs.Heard.{AreAccountings, AreRunsButSwitches}
 use Rattle.session.specs.declared.report.Wanted.{Wanted}
-use Rattle.session.specs.declared.report.Wanted.TheVariants.{Switches, Happened, Figures}
+use Rattle.session.specs.declared.report.Wanted.TheVariants.{Switches, Happened, Figures, Jobs}
 use Rattle.dl_session.specs.declared.fault.SessionFault.{SessionFault}
 use Rattle.dl_session.specs.declared.fault.SessionFault.TheVariants.{Json, Scenario, Memory}
 
@@ -36,8 +35,8 @@ pub record AreRunLogs (wanted : Bool) (histories : List SectionView) (states : L
   pub as_many : length logs ≡ length histories
   pub told : AreTold wanted histories logs
 
--- what is left of runs whose figures are wanted: they were heard, and but for their switches the
--- states are what the histories lead to
+-- what is left of runs whose figures or jobs are wanted: they were heard, and but for their
+-- switches the states are what the histories lead to
 pub record AreFigured (histories : List SectionView) (states : List Domain)
     (heard : List AccountingView) : Type 0 where
   pub as_many : length heard ≡ length histories
@@ -50,3 +49,4 @@ abbrev pub AreLeftAs : Wanted → List SectionView → List Domain → List LogV
 AreLeftAs Switches histories states logs heard = AreRunLogs false histories states logs
 AreLeftAs Happened histories states logs heard = AreRunLogs true histories states logs
 AreLeftAs Figures histories states logs heard = AreFigured histories states heard
+AreLeftAs Jobs histories states logs heard = AreFigured histories states heard

@@ -1,5 +1,5 @@
 -- What is known of a run that is heard while a period of it is looked for.
-use Rattle.std.specs.Prelude.{ℕ, ◌≡◌, List, [], IfSome}
+use Rattle.std.specs.Prelude.{ℕ, ◌≡◌, [], IfSome}
 use Rattle.domain_run.specs.Domain.{Domain}
 use Rattle.domain_run.specs.Happened.{told_by_ticks}
 use Rattle.domain_run.specs.Passing.{without_switches}

@@ -101,7 +101,7 @@ abbrev pub AreBoth : {X : Type 0} → (X → X → Type 0) → List X → List X
 AreBoth {X} R xs ys =
     (i : ℕ) (d e : X) → i < length ys → R (slice_index_or xs i d) (slice_index_or ys i e)
 
--- the times of a task have room for so many microseconds more
+-- the times of a task have room for k microseconds more
 abbrev pub IsTimeSoon : ℕ → ℕ → Type 0
 IsTimeSoon shift time = time + shift < 2 ^ 64
 

@@ -1,6 +1,7 @@
 -- What an accounting keeps of the run that it heard.
 use Rattle.std.specs.Prelude.{ℕ, ◌≡◌, ◌-◌, ◌<◌, ◌≤◌, ◌^◌, List, length, map, All, AllPairs, IsTrue}
 use Rattle.std.specs.List.{range_with_len}
+use Rattle.domain_run.specs.declared.happened.Happened.{Happened}
 use Rattle.domain_run.specs.Switches.{is_switch_before}
 use Rattle.run_figures.specs.declared.told.Told.{Told}
 use Rattle.run_figures.specs.declared.ran.Ran.{Ran}
@@ -13,12 +14,16 @@ use Rattle.run_figures.specs.private.Telling.{told_by, IsToldWithin}
 use Rattle.run_figures.specs.private.Running.{ran_by, cpu_by}
 use Rattle.run_figures.specs.private.Past.{items_of}
 
+-- what happened so far
+abbrev pub happened_in : Heard → List Happened
+happened_in h = items_of later_happened h.happened.items
+
 abbrev pub accounting_view_of : Heard → List ℕ → AccountingView
 accounting_view_of h tasks = record {
   cpus = h.cpus;
   time = h.time;
   tasks = tasks;
-  happened = items_of later_happened h.happened.items;
+  happened = happened_in h;
   switches = items_of later_switch h.switches.items;
 }
 

@@ -24,7 +24,7 @@ ran_by time switches number = record {
   last = last_of (placements number switches);
 }
 
--- with a stay behind these, of so many microseconds on a CPU
+-- with one stay more, of n microseconds on a CPU
 abbrev pub moves_to : ℕ → Option ℕ → ℕ
 moves_to cpu None = 0
 moves_to cpu (Some last) = if cpu == last then 0 else 1
@@ -66,7 +66,7 @@ abbrev pub busy_if : Option ℕ → ℕ → ℕ
 busy_if None us = 0
 busy_if (Some n) us = us
 
--- with a switch behind these, so many microseconds before the end
+-- with one switch more, n microseconds before the end
 abbrev pub with_switch : Switch → ℕ → Cpu → Cpu
 with_switch s us c = record {
   cpu = c.cpu;

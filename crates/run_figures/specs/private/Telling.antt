@@ -115,7 +115,7 @@ nothing_told number = record {
   superseded = 0;
 }
 
--- counts of at most so many entries
+-- counts of at most n entries
 pub record IsWithinEnded (n : ℕ) (e : Ended) : Type 0 where
   pub some : 0 < e.count
   pub count : e.count ≤ n

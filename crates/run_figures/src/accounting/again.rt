@@ -113,7 +113,7 @@ impl Accounting {
     /// microseconds later, in all but its counts: the job that is under way, the throttle and the
     /// last CPU of a task, and the task of a CPU. False too if the next job of a task was released
     /// in this period while one was under way, since whether that one is late depends on the end
-    /// of the run, and if a time passes 2^64.
+    /// of the run, if a time passes 2^64, and if the jobs are kept.
     pub fn hear_again(&mut self, mark: &CountsMark, micros: u64, periods: u64) -> bool
         requires period { IsPeriodSince micros periods mark.now self.old }
         ensures made { IsTrue result → (told : List Happened) (switches : List Switch)
@@ -122,6 +122,9 @@ impl Accounting {
             (more_switches micros periods switches) }
         ensures unchanged { result ≡ false → self.new ≡ self.old }
     {
+        if self.lines.is_some() {
+            return false;
+        }
         if !count_again(
             &mut self.told,
             &mut self.ran,

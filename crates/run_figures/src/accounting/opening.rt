@@ -1,10 +1,12 @@
 //! An accounting is opened with all the room that it ever has. No other file can make a [`Rooms`],
 //! or change one.
 
-ghost use Rattle.std.specs.Prelude.{◌≡◌, ◌≤◌, ◌^◌, [], IfOk, map};
+ghost use Rattle.std.specs.Prelude.{◌≡◌, ◌≤◌, ◌^◌, [], IfOk, IfSome, map};
 ghost use Rattle.run_figures.specs.Runs.{AreTasks};
+ghost use Rattle.run_figures.specs.private.Lines.{no_line};
 
 use super::{Accounting, Heard};
+use crate::lines::{Line, no_lines};
 use crate::past::Past;
 use crate::places::Places;
 use crate::ran::Tables;
@@ -22,6 +24,48 @@ pub(super) struct Rooms {
 }
 
 impl Accounting {
+    /// As [`Accounting::open`], with these jobs: of the same tasks, of which nothing was told.
+    fn open_with(
+        alloc: Global,
+        cpus: u32,
+        end: u64,
+        tasks: &[Admitted],
+        lines: Option<Vec<Line>>,
+    ) -> Result<Accounting, NoMemory>
+        requires cpus { cpus ≤ 64 }
+        requires early { end ≤ 2 ^ 42 }
+        requires tasks { AreTasks tasks.now }
+        requires lines { IfSome lines (λ ls. ls.items ≡ map (λ t. no_line t.number) tasks.now) }
+        ensures { IfOk result (λ a. a ≡ record {
+          cpus = cpus;
+          time = end;
+          tasks = map (λ t. t.number) tasks.now;
+          happened = [];
+          switches = [];
+        }) }
+    {
+        let places = Places::of(alloc, tasks)?;
+        let told = untold_all(alloc, tasks)?;
+        let ran = Tables::open(alloc, cpus, tasks)?;
+        Ok(Accounting {
+            rooms: Rooms {
+                told: told.capacity(),
+                tasks: ran.tasks.capacity(),
+                cpus: ran.cpus.capacity(),
+            },
+            places,
+            told,
+            ran,
+            lines,
+            heard: Heard {
+                cpus,
+                time: end,
+                happened: Past::new(),
+                switches: Past::new(),
+            },
+        })
+    }
+
     /// Of a run of which nothing was heard yet: its domain has this many CPUs, at most 64, it will
     /// end at this time, at most 2^42 us, and these are its tasks.
     ///
@@ -44,24 +88,31 @@ impl Accounting {
           switches = [];
         }) }
     {
-        let places = Places::of(alloc, tasks)?;
-        let told = untold_all(alloc, tasks)?;
-        let ran = Tables::open(alloc, cpus, tasks)?;
-        Ok(Accounting {
-            rooms: Rooms {
-                told: told.capacity(),
-                tasks: ran.tasks.capacity(),
-                cpus: ran.cpus.capacity(),
-            },
-            places,
-            told,
-            ran,
-            heard: Heard {
-                cpus,
-                time: end,
-                happened: Past::new(),
-                switches: Past::new(),
-            },
-        })
+        Accounting::open_with(alloc, cpus, end, tasks, None)
+    }
+
+    /// As [`Accounting::open`], and keeps the jobs of each task too.
+    ///
+    /// # Errors
+    /// 12 [`NoMemory`]: a growth was refused; nothing is left.
+    pub fn open_with_jobs(
+        alloc: Global,
+        cpus: u32,
+        end: u64,
+        tasks: &[Admitted],
+    ) -> Result<Accounting, NoMemory>
+        requires cpus { cpus ≤ 64 }
+        requires early { end ≤ 2 ^ 42 }
+        requires tasks { AreTasks tasks.now }
+        ensures { IfOk result (λ a. a ≡ record {
+          cpus = cpus;
+          time = end;
+          tasks = map (λ t. t.number) tasks.now;
+          happened = [];
+          switches = [];
+        }) }
+    {
+        let lines = no_lines(alloc, tasks)?;
+        Accounting::open_with(alloc, cpus, end, tasks, Some(lines))
     }
 }

@@ -1,13 +1,13 @@
 -- The books of a session while their ticks are made.
-use Rattle.std.specs.Prelude.{◌≡◌, ℕ, ◌<◌, List, [], map}
+use Rattle.std.specs.Prelude.{◌≡◌, ℕ, ◌<◌, Bool, List, [], map}
 use Rattle.bw_gate.specs.Pieces.{GateId}
 use Rattle.call_book.specs.Book.{BookView}
 use Rattle.call_book.specs.Playing.{PlayingView, played_from}
 use Rattle.session.specs.private.Ending.{unheard_ending}
 
 -- a book with a buffer, in which nothing more is entered yet
-abbrev pub unplayed : BookView → PlayingView
-unplayed b = played_from (unheard_ending b)
+abbrev pub unplayed : Bool → BookView → PlayingView
+unplayed logs b = played_from logs (unheard_ending b)
 
 -- a book apart from its pieces
 abbrev pub without_pieces : BookView → BookView

@@ -10,7 +10,7 @@ use Rattle.call_book.specs.Book.{BookView, IsFull, state_of}
 use Rattle.call_book.specs.Ending.{EndingView}
 use Rattle.session.specs.declared.ending_run.Told.{Told}
 use Rattle.session.specs.declared.report.Wanted.{Wanted}
-use Rattle.session.specs.declared.report.Wanted.TheVariants.{Switches, Happened as WhatHappened, Figures}
+use Rattle.session.specs.declared.report.Wanted.TheVariants.{Switches, Happened as WhatHappened, Figures, Jobs}
 use Rattle.session.specs.Asks.{ClientView, Makes, made_by, client_pass_in}
 use Rattle.session.specs.RunEnd.{EndsWith, IsLogOf, told_at_end}
 
@@ -96,4 +96,6 @@ AreToldAs ticks Switches books t =
 AreToldAs ticks WhatHappened books t =
     AreAllHeard false books × AreEndLogs true ticks (books_of books) t.logs.items
 AreToldAs ticks Figures books t =
+    AreAllHeard true books × AreHeardEnds ticks (books_of books) t.heard.items
+AreToldAs ticks Jobs books t =
     AreAllHeard true books × AreHeardEnds ticks (books_of books) t.heard.items

@@ -1,15 +1,16 @@
 //! A book at its end: no call is made on it any more, but one last advance that is heard, or that
 //! is made piece by piece.
 
-ghost use Rattle.std.specs.Prelude.{◌≡◌, ◌≤◌, ◌+◌, [], length, map, true, false, All, IfOk, IfErr, OnErr};
+ghost use Rattle.std.specs.Prelude.{◌≡◌, ◌≤◌, ◌+◌, ◌^◌, [], length, map, true, false, All, IfOk, IfErr, OnErr};
 ghost use Rattle.bw_gate.specs.Pieces.{cpus_of};
 ghost use Rattle.domain_run.specs.declared.call.Call.TheVariants as Call;
 ghost use Rattle.domain_run.specs.declared.call.Reply.TheVariants as Reply;
 ghost use Rattle.domain_run.specs.Tick as tick;
 ghost use Rattle.domain_run.specs.Domain.{IsLimit};
-ghost use Rattle.heard_run.specs.Heard.{heard_of, heard_after};
+ghost use Rattle.heard_run.specs.Heard.{heard_of, heard_after, nothing_heard};
 
 mod playing;
+mod ticking;
 
 use super::{AdvanceError, Closed, Domain};
 use crate::book::Pass;
@@ -17,7 +18,7 @@ use crate::book::ledger::Ledger;
 use crate::book::stock::Stock;
 use bw_gate::Gate;
 use domain_run::{Call, NoMemory, Reply, State};
-use heard_run::{Accounting, advance_heard, open_heard};
+use heard_run::{Accounting, advance_heard, open_heard, open_heard_with_jobs};
 pub use playing::{PlayingBook, playing_is_advancing};
 use std::alloc::Global;
 use std::marker::Model;
@@ -64,6 +65,18 @@ pub struct HeardAdvance {
     pub accounting: Accounting,
 }
 
+/// An accounting of the run of a domain that is to end `n` ticks from now. It keeps the jobs of
+/// each task too, if `jobs` asks for them.
+fn open_accounting(alloc: Global, state: &State, n: u64, jobs: bool) -> Result<Accounting, NoMemory>
+    requires { state.now.time + n ≤ 2 ^ 42 }
+    ensures { IfOk result (λ a. a ≡ nothing_heard n state.now) }
+{
+    if jobs {
+        return open_heard_with_jobs(alloc, state, n);
+    }
+    open_heard(alloc, state, n)
+}
+
 impl Domain {
     /// No call is made any more. Takes no memory.
     pub fn end(self) -> EndingBook
@@ -101,11 +114,12 @@ impl EndingBook {
     ghost use Rattle.call_book.specs.BookAnswers.{IsAdvanced, IsNotAdvanced};
     ghost use Rattle.call_book.specs.Ending.{state_left};
 
-    /// Hears the switches of the run, which are forgotten then. Nothing is entered.
+    /// Hears the switches of the run, which are forgotten then. Nothing is entered. The accounting
+    /// keeps the jobs of each task, if `jobs` asks for them.
     ///
     /// # Errors
     /// 12 [`NoMemory`]: a growth was refused; nothing has changed.
-    pub fn hear(&mut self) -> Result<Accounting, NoMemory>
+    pub fn hear(&mut self, jobs: bool) -> Result<Accounting, NoMemory>
         requires { self.old.heard ≡ false }
         ensures ok { IfOk result (λ _. self.new ≡ record self.old { heard = true }) }
         ensures all { IfOk result (λ a. a ≡ heard_of (state_of self.old.book) []) }
@@ -113,7 +127,7 @@ impl EndingBook {
     {
         // For the prover alone: a look at the state brings what every domain keeps.
         let _ = self.state.now();
-        let mut accounting = open_heard(self.alloc, &self.state, 0)?;
+        let mut accounting = open_accounting(self.alloc, &self.state, 0, jobs)?;
         advance_heard(self.alloc, &mut self.state, 0, &mut accounting);
         self.heard = true;
         Ok(accounting)
@@ -122,7 +136,8 @@ impl EndingBook {
     /// Makes up to `n` ticks, 1 to 60000000, as [`Domain::advance`] does, by one worker; enters how
     /// many were made, fewer only where a growth was refused; and gives back the tickets of tasks
     /// that went off the list. An accounting hears all switches of the run, and what happens in
-    /// these ticks, piece by piece; the book keeps neither.
+    /// these ticks, piece by piece; the book keeps neither. The accounting keeps the jobs of each
+    /// task, if `jobs` asks for them.
     ///
     /// # Errors
     /// [`AdvanceError::Full`] and [`AdvanceError::Memory`]: no tick was made, and nothing is
@@ -132,6 +147,7 @@ impl EndingBook {
         pass: &mut Pass,
         gate: &Gate,
         n: u64,
+        jobs: bool,
     ) -> Result<HeardAdvance, AdvanceError>
         requires unheard { self.old.heard ≡ false }
         requires pass { IsPassOf self.old.book pass.old }
@@ -148,7 +164,7 @@ impl EndingBook {
         if self.ledger.is_full() {
             return Err(AdvanceError::Full);
         }
-        let Ok(mut accounting) = open_heard(self.alloc, &self.state, n) else {
+        let Ok(mut accounting) = open_accounting(self.alloc, &self.state, n, jobs) else {
             return Err(AdvanceError::Memory);
         };
         let ticks = advance_heard(self.alloc, &mut self.state, n, &mut accounting).ticks;

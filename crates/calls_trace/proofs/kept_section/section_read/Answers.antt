@@ -12,8 +12,9 @@ use Rattle.calls_text.specs.declared.kept_call.Kept.{Kept}
 use Rattle.calls_text.proofs.CallerLemmas.{section_within}
 use Rattle.switch_text.specs.Names.{name_of_task}
 use Rattle.calls_trace.specs.Replay.{names_of}
-use Rattle.calls_trace.specs.private.Kept.{KeepsCalls, IsOneMore}
-use Rattle.calls_trace.proofs.Starting.{made_more}
+use Rattle.calls_trace.specs.private.Calls.{ticks_given}
+use Rattle.calls_trace.specs.private.Kept.{KeepsCalls, IsOneMore, IsMadeOrKept}
+use Rattle.calls_trace.proofs.Starting.{begun_more, made_more}
 use Rattle.calls_trace.proofs.kept_section.section_read.Goals as goal
 
 pub open-requires-clause-cpus : goal.open-requires-clause-cpus
@@ -54,6 +55,7 @@ calls-init c =
             domain = ap (after_calls run.state) none ∙ made.state;
             called = λ n. ap (λ (cs : List Call). names_of run.state cs (name_of_task run.names) n) none ∙ made.names n;
           };
+          begun = record { made = []; calls = sym none; still = All-nil (λ (c : Call). ticks_given c ≡ 0); domain = made.state };
           kept = kept;
           few = omega (arith, long);
         };
@@ -71,7 +73,7 @@ take-requires c = record {
 pub calls-preserved : goal.calls-preserved
 calls-preserved c =
     let k = c.in-Some.kept in
-    let more = c.in_default-take.ensures in
+    let more = c.in_default-take.ensures.one in
     record {
       so_far = λ text before w.
           let m = c.calls.invariant.so_far text before w in
@@ -84,6 +86,7 @@ calls-preserved c =
             same = record {
               same_cpus = more.same_cpus ∙ m.same.same_cpus;
               made = made_more m.section next.entry was is m.same.made (subst (λ (one : Call). IsOneMore was one is) (sym next.same) more);
+              begun = begun_more m.section next.entry was is m.same.begun (subst (λ (one : Call). IsMadeOrKept was one is) (sym next.same) c.in_default-take.ensures.taken);
               kept = more.kept;
               few = omega (arith, more.few, m.same.few, length-append m.section.entries (next.entry ∷ []));
             };

@@ -2,13 +2,14 @@ use Rattle.std.proofs.Common.{ℕ, ◌++◌, ◌∷◌, [], Option, Ok, map, ap,
 use Rattle.std.proofs.lemmas.Result.{err_from_is_err_and}
 use Rattle.calls_text.specs.Reader.{IsWithin, IsNextDomain, empty_section}
 use Rattle.calls_text.proofs.CallerLemmas.{whole_none}
-use Rattle.calls_trace.specs.private.Summed.{summed_as}
+use Rattle.calls_trace.specs.private.Summed.{jobs_as, summed_as}
 use Rattle.calls_trace.proofs.HeardCalls.{summed_more, as_many_summed}
+use Rattle.calls_trace.proofs.HeardJobs.{jobs_more}
 use Rattle.calls_trace.proofs.summing.summed_of_text.Goals as goal
 
 pub sections-init : goal.sections-init
 sections-init c = record {
-  so_far = record { done = []; behind = c.in_ok-reader.ensures.behind; figures = ap (map summed_as) c.in-Ok.ensures.items };
+  so_far = record { done = []; behind = c.in_ok-reader.ensures.behind; figures = ap (map summed_as) c.in-Ok.ensures.items; are_jobs = λ wanted. ap (map jobs_as) c.in-Ok.ensures.items };
   room = omega (arith, c.in-Ok.ensures.capacity);
 }
 
@@ -36,7 +37,12 @@ sections-preserved c =
     let i = c.sections.invariant.so_far in
     let m = c.in-Ok-summed_read.ensures.read text i.done (subst (λ (o : Option (ℕ × ℕ)). IsNextDomain text i.done c.next_domain.new.self (Ok o)) c.in-Some.is (c.in_ok-cpus.ensures.next text i.done i.behind)) in
     rw c.push_reserved.ensures.items (record {
-      so_far = record { done = i.done ++ m.section ∷ []; behind = m.behind; figures = summed_more c.sections.runs.items i.done c.in-Ok-summed_read.run' m.section i.figures m.figures };
+      so_far = record {
+        done = i.done ++ m.section ∷ [];
+        behind = m.behind;
+        figures = summed_more c.sections.runs.items i.done c.in-Ok-summed_read.run' m.section i.figures m.figures;
+        are_jobs = λ wanted. jobs_more c.sections.runs.items i.done c.in-Ok-summed_read.run' m.section (i.are_jobs wanted) (m.are_jobs wanted);
+      };
       room = omega (arith, c.sections.invariant.room, c.push_reserved.ensures.capacity);
     })
 
@@ -50,4 +56,4 @@ pub returns-clause-runs : goal.returns-clause-runs
 returns-clause-runs c =
     let i = c.sections.invariant.so_far in
     let read = whole_none c.args.text.now i.done c.next_domain.new.self c.in_ok-cpus.field-0 c.in_default-2.is (c.in_ok-cpus.ensures.next c.args.text.now i.done i.behind) in
-    record { sections = i.done; read = read.0; spelled = read.1; figures = i.figures }
+    record { sections = i.done; read = read.0; spelled = read.1; figures = i.figures; are_jobs = i.are_jobs }

@@ -5,7 +5,7 @@ use Rattle.calls_trace.proofs.summing.summed_of_text.Given as goal
 
 abbrev pub invariant-sections : goal.invariant-sections
 invariant-sections l = record {
-  so_far : AreSummedSoFar l.text l.reader l.runs.items;
+  so_far : AreSummedSoFar l.text l.jobs l.reader l.runs.items;
   room : 8 ≤ vec_capacity l.runs;
 }
 

@@ -1,9 +1,9 @@
 use Rattle.std.proofs.Common.{◌∙◌}
-use Rattle.std.proofs.lemmas.Result.{IfOk-weaker}
 use Rattle.calls_trace.specs.declared.summed_run.SummedRun.{SummedRun}
 use Rattle.calls_trace.specs.private.Summed.{IsSummedSection}
 use Rattle.calls_trace.proofs.Foretold.{calls_few}
 use Rattle.calls_trace.proofs.HeardCalls.{summary_of_calls}
+use Rattle.calls_trace.proofs.HeardJobs.{both_ok, jobs_of_calls}
 use Rattle.calls_trace.proofs.summing.summed_read.Goals as goal
 
 pub sum_up-requires-clause-few : goal.sum_up-requires-clause-few
@@ -16,10 +16,11 @@ pub returns-clause-read : goal.returns-clause-read
 returns-clause-read c = λ text before w.
     let f = c.in_ok-foreseen.foreseen in
     let m = c.in_ok-foreseen.ensures.read text before w in
-    IfOk-weaker c.sum_up.result _ (λ (r : SummedRun). IsSummedSection text before c.foreseen_read.new.reader r)
-    (λ r is. record {
+    both_ok c.sum_up.result _ _ (λ (r : SummedRun). IsSummedSection text before c.args.jobs c.foreseen_read.new.reader r)
+    (λ r is made. record {
       section = m.section;
       is = m.is;
       behind = m.behind;
       figures = is ∙ summary_of_calls m.section c.args.cpus c.args.limit f.calls m.same;
-    }) c.sum_up.ensures
+      are_jobs = λ wanted. made wanted ∙ jobs_of_calls m.section c.args.cpus c.args.limit f.calls m.same;
+    }) c.sum_up.ensures.figures c.sum_up.ensures.jobs

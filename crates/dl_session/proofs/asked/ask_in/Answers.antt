@@ -1,4 +1,4 @@
-use Rattle.std.proofs.Common.{◌<◌, arith, ap}
+use Rattle.std.proofs.Common.{arith, ap}
 use Rattle.session.specs.SessionId.{SessionId}
 use Rattle.dl_session.proofs.asked.ask_in.Goals as goal
 

@@ -1,6 +1,5 @@
-use Rattle.std.proofs.Common.{◌≡◌, ◌<◌, List, length, get_or, ap, sym, subst, arith}
+use Rattle.std.proofs.Common.{length, get_or, ap, sym, subst, arith}
 use Rattle.std.proofs.lemmas.List.{length_push, length-map, get_or-map}
-use Rattle.switch_text.specs.Names.{Names}
 use Rattle.call_book.specs.Book.{BookView}
 use Rattle.call_book.specs.Playing.{PlayingView}
 use Rattle.session.specs.Begun.{played_books}

@@ -6,7 +6,7 @@ use Rattle.session.specs.Begun.{played_books}
 use Rattle.dl_session.specs.private.PlayedBooks.{IsNamedBook}
 use Rattle.dl_session.proofs.played_books.names_in_books.Given as goal
 
--- the names of so many books
+-- the names of the first books
 abbrev pub invariant-loop-place : goal.invariant-loop-place
 invariant-loop-place l = record {
   count : length l.all.items ≡ l.place;

@@ -2,13 +2,13 @@ use Rattle.std.proofs.Common.{List, sym, subst, ◌∙◌}
 use Rattle.counted_io.specs.Sides.{Side, side}
 use Rattle.calls_trace.specs.Heard.{AreRunsButSwitches}
 use Rattle.calls_trace.specs.Answer.{replayed_text}
-use Rattle.calls_trace.specs.Told.{summary_of_sections}
+use Rattle.calls_trace.specs.Told.{jobs_of_sections, summary_of_sections}
 use Rattle.calls_text.specs.Spelling.{spelling}
 use Rattle.domain_run.specs.Domain.{Domain}
 use Rattle.dl_session.specs.Promised.{IsRowOf, AreRows}
 use Rattle.dl_session.specs.private.Printing.{IsMadeText}
 use Rattle.dl_session.proofs.WrittenAs.{written_as, unwritten_as, written_also, unwritten_also}
-use Rattle.dl_session.proofs.PrintedAs.{text_is, are_logged, are_figured, summary_alone, calls_alone, rows_alone}
+use Rattle.dl_session.proofs.PrintedAs.{text_is, are_logged, are_figured, summary_alone, jobs_are_figured, jobs_alone, calls_alone, rows_alone}
 use Rattle.dl_session.proofs.printing.write_run.Goals as goal
 
 -- ---- of states and logs
@@ -62,6 +62,31 @@ returns-in-Heard-clause-err g c =
     let hs = c.args.histories.now in
     unwritten_as c.write_heard_summary.result (IsMadeText c.args.print c.args.tasks.now hs) w (summary_of_sections hs)
     (summary_alone c.args.print (sym c.source_of.ensures ∙ c.in-Heard.is) c.args.tasks.now hs) c.write_heard_summary.ensures.err
+
+pub write_heard_jobs-requires-clause-as_many : goal.write_heard_jobs-requires-clause-as_many
+write_heard_jobs-requires-clause-as_many g c = (jobs_are_figured c.args.print (sym c.source_of.ensures ∙ c.in-HeardJobs.is) c.args.histories.now c.args.states.items c.args.logs.items c.args.heard.now c.requires.runs).as_many
+
+pub write_heard_jobs-requires-clause-runs : goal.write_heard_jobs-requires-clause-runs
+write_heard_jobs-requires-clause-runs g c =
+    let are = jobs_are_figured c.args.print (sym c.source_of.ensures ∙ c.in-HeardJobs.is) c.args.histories.now c.args.states.items c.args.logs.items c.args.heard.now c.requires.runs in
+    subst (AreRunsButSwitches c.args.histories.now) (sym c.deref-in-HeardJobs.ensures.value) are.runs
+
+pub write_heard_jobs-requires-clause-heard : goal.write_heard_jobs-requires-clause-heard
+write_heard_jobs-requires-clause-heard g c = (jobs_are_figured c.args.print (sym c.source_of.ensures ∙ c.in-HeardJobs.is) c.args.histories.now c.args.states.items c.args.logs.items c.args.heard.now c.requires.runs).all
+
+pub returns-in-HeardJobs-clause-ok : goal.returns-in-HeardJobs-clause-ok
+returns-in-HeardJobs-clause-ok g c =
+    let w : Side = side g.W.Write.contents c.args.writer.now c.write_heard_jobs.new.writer in
+    let hs = c.args.histories.now in
+    written_as c.write_heard_jobs.result (IsMadeText c.args.print c.args.tasks.now hs) w (jobs_of_sections hs)
+    (jobs_alone c.args.print (sym c.source_of.ensures ∙ c.in-HeardJobs.is) c.args.tasks.now hs) c.write_heard_jobs.ensures.ok
+
+pub returns-in-HeardJobs-clause-err : goal.returns-in-HeardJobs-clause-err
+returns-in-HeardJobs-clause-err g c =
+    let w : Side = side g.W.Write.contents c.args.writer.now c.write_heard_jobs.new.writer in
+    let hs = c.args.histories.now in
+    unwritten_as c.write_heard_jobs.result (IsMadeText c.args.print c.args.tasks.now hs) w (jobs_of_sections hs)
+    (jobs_alone c.args.print (sym c.source_of.ensures ∙ c.in-HeardJobs.is) c.args.tasks.now hs) c.write_heard_jobs.ensures.err
 
 -- ---- of histories alone
 

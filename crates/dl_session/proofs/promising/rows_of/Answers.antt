@@ -1,4 +1,4 @@
-use Rattle.std.proofs.Common.{◌≡◌, List, map, get_or, take, length, ◌+◌, rules, sym, ap, subst, ◌∙◌, ◌++◌, [], ◌∷◌, arith}
+use Rattle.std.proofs.Common.{◌≡◌, List, map, get_or, take, length, ◌+◌, rules, sym, ap, subst, ◌∙◌, ◌++◌, [], ◌∷◌}
 use Rattle.std.proofs.lemmas.List.{take_more, map-append, length_push}
 use Rattle.rtapp_scenario.specs.ScenarioView.{TaskSpecView}
 use Rattle.figure_text.specs.Promises.{PromiseView, promise_view_of}

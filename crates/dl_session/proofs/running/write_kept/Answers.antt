@@ -1,4 +1,4 @@
-use Rattle.std.proofs.Common.{List, refl, sym, subst, ◌∙◌}
+use Rattle.std.proofs.Common.{List, refl, sym, subst}
 use Rattle.std.proofs.lemmas.Result.{err_from_is_err_and}
 use Rattle.counted_io.specs.Sides.{side}
 use Rattle.calls_text.specs.SectionView.{SectionView}
@@ -17,7 +17,7 @@ pub write_run-requires-clause-runs : goal.write_run-requires-clause-runs
 write_run-requires-clause-runs g c =
     let a = c.args.asked in
     let f = c.in_ok-report.field-0 in
-    rw (sym c.wanted_for.ensures, c.deref.ensures.value, c.deref-2.ensures.value) (finished_left g.N.Names.id a.tasks.now c.args.duration c.wanted_for.result a.clients.items a.refused.items f c.requires.asked c.in_ok-report.ensures.ok)
+    rw (sym c.wanted_for.ensures, c.deref.ensures.value, c.deref_mut.ensures.value) (finished_left g.N.Names.id a.tasks.now c.args.duration c.wanted_for.result a.clients.items a.refused.items f c.requires.asked c.in_ok-report.ensures.ok)
 
 pub returns-in_err-report-clause-err : goal.returns-in_err-report-clause-err
 returns-in_err-report-clause-err g c =

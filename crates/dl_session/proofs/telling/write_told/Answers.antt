@@ -1,4 +1,4 @@
-use Rattle.std.proofs.Common.{List, map, refl, subst, ◌∙◌}
+use Rattle.std.proofs.Common.{false, List, map, refl, subst, ◌∙◌}
 use Rattle.std.proofs.lemmas.Result.{err_from_is_err_and}
 use Rattle.counted_io.specs.Sides.{side}
 use Rattle.calls_text.specs.SectionView.{SectionView}
@@ -32,7 +32,7 @@ returns-in-Ok-clause-ok g c =
     let w = side g.W.Write.contents c.args.writer.now c.write_histories.new.writer in
     let hs = map section_of b.rest.books in
     is_written id a.tasks.now c.args.duration (print_of t) b.rest.clients a.refused.items hs w (told_text t hs) c.finish_end-report.result _
-    (begun_answers id a.tasks.now c.args.duration a.clients.items a.refused.items b.books.items b.rest c.requires.asked c.in_ok-books.ensures.ok)
+    (begun_answers id a.tasks.now c.args.duration false a.clients.items a.refused.items b.books.items b.rest c.requires.asked c.in_ok-books.ensures.ok)
     c.finish_end-report.ensures.report.left c.finish_end-report.ensures.histories (told_as t a.tasks.now hs)
     (subst (λ (xs : List SectionView). IsWritten w (told_text t xs)) (c.deref.ensures.value ∙ c.finish_end-report.ensures.histories) c.in-Ok.ensures.ok)
     refl refl refl refl refl
@@ -46,6 +46,6 @@ returns-in-Err-clause-err g c =
     let w = side g.W.Write.contents c.args.writer.now c.write_histories.new.writer in
     let hs = map section_of b.rest.books in
     is_unwritten id a.tasks.now c.args.duration (print_of t) a.refused.items hs w (told_text t hs) c.in-Err.fault _
-    (begun_answers id a.tasks.now c.args.duration a.clients.items a.refused.items b.books.items b.rest c.requires.asked c.in_ok-books.ensures.ok)
+    (begun_answers id a.tasks.now c.args.duration false a.clients.items a.refused.items b.books.items b.rest c.requires.asked c.in_ok-books.ensures.ok)
     (told_as t a.tasks.now hs)
     (subst (λ (xs : List SectionView). IsUnwritten w (told_text t xs) c.in-Err.fault) (c.deref.ensures.value ∙ c.finish_end-report.ensures.histories) c.in-Err.ensures.err) c.from.ensures

@@ -1,7 +1,6 @@
-use Rattle.std.proofs.Common.{◌≡◌, ◌≤◌, ◌+◌, ◌∙◌, [], ap, arith}
+use Rattle.std.proofs.Common.{◌≤◌, ◌+◌, ◌∙◌, [], ap, arith}
 use Rattle.domain_run.specs.Domain.{Domain}
 use Rattle.domain_run.specs.Happened.{told_by_ticks}
-use Rattle.domain_run.specs.Tick.{ticks}
 use Rattle.run_figures.specs.Accounting.{with_piece}
 use Rattle.heard_run.proofs.Again.{piece_here, trail_passed}
 use Rattle.heard_run.proofs.Pieces.{seen, told_alone}

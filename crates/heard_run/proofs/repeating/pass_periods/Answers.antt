@@ -1,8 +1,7 @@
-use Rattle.std.proofs.Common.{◌≡◌, ◌≤◌, ◌+◌, ◌*◌, ◌/◌, refl, ap, arith}
+use Rattle.std.proofs.Common.{◌≤◌, ◌+◌, ◌*◌, ◌/◌, refl, ap, arith}
 use Rattle.std.proofs.Math.Nat.{div-mul-le_self, mul-le-mul_right}
 use Rattle.domain_run.specs.Domain.{Domain}
 use Rattle.domain_run.specs.Passing.{without_switches}
-use Rattle.domain_run.specs.Tick.{ticks}
 use Rattle.heard_run.proofs.Again.{period_since, heard_more_is}
 use Rattle.heard_run.proofs.repeating.pass_periods.Goals as goal
 

@@ -1,28 +1,27 @@
-use Rattle.std.proofs.Common.{◌≡◌, List, [], ◌++◌, map, sym, ap, ◌∙◌, arith, append-nil}
-use Rattle.std.specs.Prelude.{reverse}
-use Rattle.std.proofs.lemmas.List.{nil_from_length, reverse-reverse}
-use Rattle.run_figures.specs.declared.run.Admitted.{Admitted}
-use Rattle.run_figures.specs.private.LineView.{JobLineView}
-use Rattle.run_figures.specs.Jobs.{task_jobs}
-use Rattle.run_figures.specs.private.Lines.{line_all, no_line}
-use Rattle.run_figures.proofs.Passing.{map-map, map_same}
-use Rattle.run_figures.proofs.Listed.{closed_line, line_is}
-use Rattle.run_figures.proofs.Once.{all_released}
+use Rattle.std.proofs.Common.{[], arith}
+use Rattle.run_figures.proofs.Listed.{lines_keyed, lines_have_room, lines_more}
+use Rattle.run_figures.proofs.Closing.{none_told, among_all, closed_are, all_are_released}
 use Rattle.run_figures.proofs.lines.jobs_of.Goals as goal
+
+pub tell_lines-requires-clause-keyed : goal.tell_lines-requires-clause-keyed
+tell_lines-requires-clause-keyed c =
+    lines_keyed [] c.in_ok-places.places c.in_ok-table.table.items (none_told c.args.run.now.tasks.now c.in_ok-places.places c.in_ok-table.table.items c.in_ok-places.ensures c.in_ok-table.ensures)
+
+pub tell_lines-requires-clause-room : goal.tell_lines-requires-clause-room
+tell_lines-requires-clause-room c =
+    lines_have_room [] c.in_ok-places.places c.in_ok-table.table.items _ (none_told c.args.run.now.tasks.now c.in_ok-places.places c.in_ok-table.table.items c.in_ok-places.ensures c.in_ok-table.ensures) (omega arith)
+
+pub closed_lines-requires-clause-among : goal.closed_lines-requires-clause-among
+closed_lines-requires-clause-among c = among_all c.args.run.now.tasks.now c.in_ok-places.places c.in_ok-places.ensures
 
 pub returns-clause-jobs : goal.returns-clause-jobs
 returns-clause-jobs c =
     let hs = c.args.run.now.happened.now in
     let tasks = c.args.run.now.tasks.now in
-    let none : c.loop-line.table.items ≡ [] = nil_from_length c.loop-line.table.items (omega (arith, c.loop-line.table.ok, c.in_default.ensures.cases.0)) in
-    sym (append-nil c.loop-line.all.items)
-    ∙ ap (λ (ls : List JobLineView). c.loop-line.all.items ++ map closed_line (reverse ls)) (sym none)
-    ∙ c.loop-line.invariant
-    ∙ ap (λ (ls : List JobLineView). map closed_line (reverse ls)) c.reverse.ensures.items
-    ∙ ap (map closed_line) (reverse-reverse c.in_ok-table.table.items)
-    ∙ ap (map closed_line) c.in_ok-table.ensures
-    ∙ map-map closed_line (λ (t : Admitted). line_all hs (no_line t.number)) tasks
-    ∙ map_same (λ (t : Admitted). closed_line (line_all hs (no_line t.number))) (λ (t : Admitted). task_jobs hs t.number) tasks (λ t. line_is hs t.number)
+    let numbers = c.in_ok-places.places in
+    let none = none_told tasks numbers c.in_ok-table.table.items c.in_ok-places.ensures c.in_ok-table.ensures in
+    let told = c.tell_lines.new.table.items in
+    closed_are hs tasks numbers told c.closed_lines.result (lines_more [] hs numbers c.in_ok-table.table.items told none c.in_ok-tell_lines.ensures) c.closed_lines.ensures
 
 pub returns-clause-released : goal.returns-clause-released
-returns-clause-released c = all_released c.args.run.now.happened.now c.args.run.now.tasks.now c.loop-line.all.items (returns-clause-jobs c)
+returns-clause-released c = all_are_released c.args.run.now.happened.now c.args.run.now.tasks.now c.closed_lines.result (returns-clause-jobs c)

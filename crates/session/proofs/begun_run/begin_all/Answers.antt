@@ -1,15 +1,16 @@
 use Rattle.std.proofs.Common.{◌≡◌, ℕ, ◌≤◌, ◌<◌, ◌+◌, ◌∙◌, List, get_or, length, set, sym, refl, subst, arith}
 use Rattle.std.proofs.lemmas.Grind.{common_steps}
 use Rattle.std.proofs.lemmas.List.{length-map, length-set}
+use Rattle.std.proofs.lemmas.List.Elements.{All-set}
 use Rattle.std.proofs.lemmas.Result.{err_from_is_err_and}
 use Rattle.call_book.specs.Book.{BookView}
 use Rattle.call_book.specs.Playing.{PlayingView, HasWholeRun}
-use Rattle.session.specs.Begun.{played_books}
+use Rattle.session.specs.Begun.{played_books, IsUntold, TellsItsEnd}
 use Rattle.session.specs.private.Ending.{IsFullAmong}
 use Rattle.session.specs.private.Entering.{IsSessionBook}
 use Rattle.session.specs.private.Parts.{AreSessionBooks}
 use Rattle.session.proofs.Advanced.{FirstEnd, makes_everywhere, makes_more, named_set, ends_by, ends_more, full_among}
-use Rattle.session.proofs.Begun.{played_at, put_played, whole_set, rest_made}
+use Rattle.session.proofs.Begun.{played_at, put_played, whole_set, rest_made, first_more}
 use Rattle.session.proofs.begun_run.begin_all.Goals as goal
 
 -- the book of a place
@@ -37,6 +38,7 @@ loop-place-preserved g c =
     let inside : n < length books = omega (arith, c.loop-place-test.true, inv.count, c.len-place-end.ensures, c.args.books.now.ok.0) in
     let there : n < length (played_books books) = omega (arith, inside, length-map books book) in
     let first : c.loop-place.client.number ≡ 1 = inv.made.number ∙ c.requires.first in
+    let whole : HasWholeRun c.index_mut.result.now = subst HasWholeRun (sym c.index_mut.ensures.value) (inv.whole n c.index_mut.result.now inside) in
     record {
       named = subst (AreSessionBooks id) (put_played books n p) (named_set id (played_books books) n p.book there inv.named told.named);
       count = length-set books n p ∙ inv.count;
@@ -44,7 +46,11 @@ loop-place-preserved g c =
       made = makes_more n (n + 1) c.args.duration c.args.client.now c.loop-place.client c.begin_book.new.self refl inv.made c.in_ok-begin_book.ensures.made;
       ends = subst (FirstEnd (n + 1) c.args.duration) (put_played books n p) (ends_more n (n + 1) c.args.duration (played_books books) p.book there refl inv.ends (ends_by c.args.duration c.loop-place.client.number p.book.history first c.in_ok-begin_book.ensures.ends));
       rest = rest_made n (n + 1) books p refl inv.rest;
-      whole = whole_set books n p inside inv.whole (told.whole (subst HasWholeRun (sym c.index_mut.ensures.value) (inv.whole n c.index_mut.result.now inside)));
+      whole = whole_set books n p inside inv.whole (told.whole whole);
+      untold = λ logs were.
+          let are = inv.untold logs were in
+          All-set (IsUntold logs) books n p (told.untold logs (subst (IsUntold logs) (sym c.index_mut.ensures.value) (are n c.index_mut.result.now inside))) are;
+      tell = first_more (TellsItsEnd c.args.duration) n (n + 1) books p inside refl inv.tell (c.in_ok-begin_book.ensures.tells whole);
     }
 
 pub returns-in_err-begin_book-clause-named : goal.returns-in_err-begin_book-clause-named
@@ -81,3 +87,17 @@ returns-clause-made g c =
     let all : length g.N.Names.id.cpu_sets ≤ c.loop-place.place = omega (arith, c.requires.count, c.loop-place-test.false, c.len-place-end.ensures, c.args.books.now.ok.0) in
     let count = inv.domains (omega (arith, all, c.requires.domains)) in
     makes_everywhere c.args.duration c.loop-place.place c.args.client.now c.loop-place.client c.requires.some (omega (arith, count, all)) inv.made
+
+pub returns-clause-tell : goal.returns-clause-tell
+returns-clause-tell g c = λ d x inside.
+    c.loop-place.invariant.tell d x (omega (arith, inside, c.loop-place-test.false, c.loop-place.invariant.count, c.len-place-end.ensures, c.args.books.now.ok.0)) inside
+
+pub returns-in_err-begin_book-clause-untold : goal.returns-in_err-begin_book-clause-untold
+returns-in_err-begin_book-clause-untold g c = λ logs were.
+    let inv = c.loop-place.invariant in
+    let books = c.loop-place.books.items in
+    let n = c.loop-place.place in
+    let p = c.begin_book.new.book in
+    let inside : n < length books = omega (arith, c.loop-place-test.true, inv.count, c.len-place-end.ensures, c.args.books.now.ok.0) in
+    let are = inv.untold logs were in
+    All-set (IsUntold logs) books n p (c.begin_book.ensures.untold logs (subst (IsUntold logs) (sym c.index_mut.ensures.value) (are n c.index_mut.result.now inside))) are

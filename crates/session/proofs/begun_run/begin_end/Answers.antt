@@ -4,13 +4,13 @@ use Rattle.std.proofs.lemmas.List.{length-map}
 use Rattle.call_book.specs.Book.{BookView}
 use Rattle.call_book.specs.Playing.{PlayingView}
 use Rattle.session.specs.Asks.{ClientView, Makes}
-use Rattle.session.specs.Begun.{played_books, AreBookHistories, HaveWholeRuns}
+use Rattle.session.specs.Begun.{played_books, AreBookHistories, AreUntold, HaveWholeRuns, TellTheirEnds}
 use Rattle.session.specs.RunEnd.{HaveAdvanced, advance_of}
 use Rattle.session.specs.private.Begun.{unplayed}
 use Rattle.session.specs.private.Ending.{AllEnd}
 use Rattle.session.specs.private.Parts.{AreSessionBooks}
 use Rattle.session.proofs.Advanced.{have_advanced}
-use Rattle.session.proofs.Begun.{books_named, all_made, all_whole, played_gates, full_played}
+use Rattle.session.proofs.Begun.{books_named, all_made, all_untold, all_whole, played_gates, full_played}
 use Rattle.session.proofs.begun_run.begin_end.Goals as goal
 
 met_in : {A E : Type 0} (r : Result A E) (P : Type 0) → is_err r ≡ true → OnErr r P → P
@@ -22,13 +22,13 @@ made_in (Ok a) P e is = is
 made_in (Err x) P e is = absurd cc
 
 pub begin-begun-requires-clause-named : goal.begin-begun-requires-clause-named
-begin-begun-requires-clause-named g c = let was = c.in_ok-gate.field-0 in books_named g.N.Names.id c.in-Ok.books.items was.books.items c.in-Ok.ensures was.named
+begin-begun-requires-clause-named g c = let was = c.in_ok-gate.field-0 in books_named c.args.logs g.N.Names.id c.in-Ok.books.items was.books.items c.in-Ok.ensures was.named
 
 pub begin-begun-requires-clause-made : goal.begin-begun-requires-clause-made
-begin-begun-requires-clause-made g c = let was = c.in_ok-gate.field-0 in all_made c.in-Ok.books.items was.books.items c.in-Ok.ensures
+begin-begun-requires-clause-made g c = let was = c.in_ok-gate.field-0 in all_made c.args.logs c.in-Ok.books.items was.books.items c.in-Ok.ensures
 
 pub begin-begun-requires-clause-whole : goal.begin-begun-requires-clause-whole
-begin-begun-requires-clause-whole g c = let was = c.in_ok-gate.field-0 in all_whole c.in-Ok.books.items was.books.items c.in-Ok.ensures
+begin-begun-requires-clause-whole g c = let was = c.in_ok-gate.field-0 in all_whole c.args.logs c.in-Ok.books.items was.books.items c.in-Ok.ensures
 
 pub shut_books-requires : goal.shut_books-requires
 shut_books-requires g c =
@@ -51,7 +51,7 @@ returns-then-is_err-clause-err g c =
     subst (λ (vs : List ClientView). AreBookHistories id vs (played_books now)) told.clients
     (subst (λ (ps : List PlayingView). AreBookHistories id c.agree_with_all.new.clients.items (played_books ps)) told.books told.histories) in
     full_played id c.args.duration cs c.index_mut.result.now client (played_books now) c.requires.some c.index_mut.ensures.value
-    (omega (arith, length-map now f, c.begin-begun.ensures.count, many, length-map was.books.items unplayed, was.count))
+    (omega (arith, length-map now f, c.begin-begun.ensures.count, many, length-map was.books.items (unplayed c.args.logs), was.count))
     c.begin-begun.ensures.named histories
     (met_in c.begin-begun.result _ (sym c.is_err.ensures.value ∙ c.if-is_err.true) c.begin-begun.ensures.full)
 
@@ -64,7 +64,7 @@ invariant_of-rest-inside g c =
     let same : begun ≡ now = ap (λ v. v.items) c.of-begun.ensures ∙ c.agree_with_all.ensures.books in
     let long = ap (λ (ps : List PlayingView). length ps) same in
     let many = ap (λ (ps : List PlayingView). length ps) c.in-Ok.ensures in
-    let count : length begun ≡ length id.cpu_sets = omega (arith, long, c.begin-begun.ensures.count, many, length-map was.books.items unplayed, was.count) in
+    let count : length begun ≡ length id.cpu_sets = omega (arith, long, c.begin-begun.ensures.count, many, length-map was.books.items (unplayed c.args.logs), was.count) in
     let named = subst (λ (ps : List PlayingView). AreSessionBooks id (played_books ps)) (sym same) c.begin-begun.ensures.named in
     (was.session, (was.same_limit, (was.same_gate, (count, (named, (was.blanks_own, (was.none_ended, (was.for_all, (was.enough, tt)))))))))
 
@@ -90,8 +90,10 @@ returns-clause-ok g c =
     record {
       advanced = subst (HaveAdvanced n cs) (sym told.clients) (have_advanced n cs first client c.requires.some c.index_mut.ensures.value mine);
       same = ap played_books (sym left);
-      count = omega (arith, length-map begun f, long, c.begin-begun.ensures.count, many, length-map was.books.items unplayed, was.count);
+      count = omega (arith, length-map begun f, long, c.begin-begun.ensures.count, many, length-map was.books.items (unplayed c.args.logs), was.count);
       histories = subst (λ (ps : List PlayingView). AreBookHistories id c.agree_with_all.new.clients.items (played_books ps)) (sym left) told.histories;
       ends = subst (λ (ps : List PlayingView). AllEnd n (played_books ps)) (sym same) ends;
       whole = subst HaveWholeRuns (sym told.books) c.begin-begun.ensures.whole;
+      untold = subst (AreUntold c.args.logs) (sym told.books) (c.begin-begun.ensures.untold c.args.logs (all_untold c.args.logs c.in-Ok.books.items was.books.items c.in-Ok.ensures));
+      tell = subst (TellTheirEnds n) (sym told.books) (made_in c.begin-begun.result _ is c.begin-begun.ensures.tell);
     }

@@ -19,11 +19,11 @@ loop-domain-preserved c =
     let left = into_iter_items c.next.new.self in
     let all = subst (All G) c.in-Some.ensures.items inv.left in
     let p = c.in-Ok-play.book in
-    let is : p ≡ unplayed c.in-Some.domain = c.in-Ok-play.ensures.ok ∙ ap (λ (e : EndingView). played_from e) c.end.ensures in
+    let is : p ≡ unplayed c.args.logs c.in-Some.domain = c.in-Ok-play.ensures.ok ∙ ap (λ (e : EndingView). played_from c.args.logs e) c.end.ensures in
     let own : H p = ap (λ (x : PlayingView). x.book.gate) is ∙ All-head G c.in-Some.domain left all in
     let pushed = ap length c.push_reserved.ensures.items ∙ length_push playing p in
     record {
-      items = played_more playing c.push_reserved.new.self.items rest left c.in-Some.domain p (map unplayed c.args.books.items) c.push_reserved.ensures.items c.in-Some.ensures.items is inv.items;
+      items = played_more c.args.logs playing c.push_reserved.new.self.items rest left c.in-Some.domain p (map (unplayed c.args.logs) c.args.books.items) c.push_reserved.ensures.items c.in-Some.ensures.items is inv.items;
       room = omega (arith, inv.room, c.in-Some.ensures.len, pushed, c.push_reserved.ensures.capacity);
       played = subst (All H) (sym c.push_reserved.ensures.items) (All-push H playing p inv.played own);
       left = All-tail G c.in-Some.domain left all;

@@ -1,33 +1,34 @@
 //! A book whose last advance is entered first, and made piece by piece then.
 
-ghost use Rattle.std.specs.Prelude.{◌≡◌, ◌<◌, ◌≤◌, ◌↔◌, [], length, true, All, IfErr, OnOk, OnErr, IfOk, IsTrue};
+ghost use Rattle.std.specs.Prelude.{◌≡◌, ◌<◌, ◌≤◌, ◌↔◌, ◌+◌, [], drop, length, true, All, IfErr, OnOk, OnErr, IfOk, IsTrue};
 ghost use Rattle.domain_run.specs.declared.call.Call.TheVariants as Call;
 ghost use Rattle.domain_run.specs.declared.call.Reply.TheVariants as Reply;
+ghost use Rattle.domain_run.specs.Logged.{IsToldUntil, IsToldFrom};
 ghost use Rattle.domain_run.specs.Passing.{without_front, without_switches};
 ghost use Rattle.domain_run.specs.Sound.{IsDomain};
 ghost use Rattle.call_book.specs.Playing.{PlayingIsAdvancing};
 
 use super::EndingBook;
+use super::ticking::Ticking;
 use crate::book::Pass;
 use crate::book::domain::{Full, Workers};
 use crate::book::ledger::Ledger;
 use crate::book::stock::Stock;
 use bw_gate::Gate;
 use calls_text::Entry;
-use domain_run::{Call, Reply, State};
-use repeat_run::Repeating;
+use domain_run::{Call, Happened, Reply, State};
 use std::alloc::Global;
 use std::marker::Model;
 
 /// The book of a domain whose last advance is entered first: the reply to an advance does not
 /// depend on the ticks. The ticks are made piece by piece then, and their switches wait in a buffer
-/// until they are forgotten. Like an [`EndingBook`] it is neither cloned nor dropped, but finished
-/// or shut, since it holds tickets. A thread may fill one book while others fill theirs: they share
-/// nothing.
+/// until they are forgotten; so does what happens, in a log, if it is logged. Like an
+/// [`EndingBook`] it is neither cloned nor dropped, but finished or shut, since it holds tickets. A
+/// thread may fill one book while others fill theirs: they share nothing.
 pub struct PlayingBook {
     cpus: u32,
     limit: u64,
-    domain: Repeating,
+    domain: Ticking,
     // How many ticks are still to be made.
     ticks: u64,
     ledger: Ledger,
@@ -42,19 +43,24 @@ impl Model for PlayingBook {
     ghost use Rattle.call_book.specs.Playing.{PlayingView};
     ghost use Rattle.call_book.specs.private.Kept.{book_of};
     ghost use Rattle.call_book.specs.private.Played.{IsPlaying};
+    ghost use Rattle.call_book.specs.private.Ticking.{domain_in, logs_in, waits_in};
 
     ghost Value = { PlayingView };
 
     ghost view = { λ b. record {
       book = book_of b.cpus b.limit b.workers.count b.left b.ledger b.stock;
-      at = b.domain;
+      at = domain_in b.domain;
       left = b.ticks;
+      logs = logs_in b.domain;
+      told = waits_in b.domain;
     } };
 
     ghost invariant = { λ b. IsPlaying (record {
       book = book_of b.cpus b.limit b.workers.count b.left b.ledger b.stock;
-      at = b.domain;
+      at = domain_in b.domain;
       left = b.ticks;
+      logs = logs_in b.domain;
+      told = waits_in b.domain;
     }) };
 }
 
@@ -67,12 +73,13 @@ pub fn playing_is_advancing()
 impl EndingBook {
     ghost use Rattle.call_book.specs.Playing.{played_from};
 
-    /// The book with a buffer for its switches, those so far among them. Nothing is entered.
+    /// The book with a buffer for its switches, those so far among them; and with an empty log, if
+    /// what happens is to be logged. Nothing is entered.
     ///
     /// # Errors
-    /// The book as it was: the room for the buffer was refused.
-    pub fn play(self) -> Result<PlayingBook, EndingBook>
-        ensures ok { IfOk result (λ p. p ≡ played_from self) }
+    /// The book as it was: the room for the buffer or the log was refused.
+    pub fn play(self, logs: bool) -> Result<PlayingBook, EndingBook>
+        ensures ok { IfOk result (λ p. p ≡ played_from logs self) }
         ensures err { IfErr result (λ e. e ≡ self) }
     {
         let EndingBook {
@@ -88,7 +95,7 @@ impl EndingBook {
         } = self;
         // For the prover alone: a look at the state brings what every domain keeps.
         let _ = state.now();
-        match Repeating::try_of(alloc, state) {
+        match Ticking::of(alloc, state, logs) {
             Ok(domain) => Ok(PlayingBook {
                 cpus,
                 limit,
@@ -137,8 +144,8 @@ impl EndingBook {
 
 impl PlayingBook {
     ghost use Rattle.calls_text.specs.Limits.{IsCall};
-    ghost use Rattle.call_book.specs.Book.{own_entries, IsBookHistory, IsPassOf, EntersAlone, IsRefusedFull};
-    ghost use Rattle.call_book.specs.Playing.{all_switches, switches_ahead, HasWholeRun, LeadsToRun, IsFurther, IsSweptBook};
+    ghost use Rattle.call_book.specs.Book.{own_entries, state_of, IsBookHistory, IsPassOf, EntersAlone, IsRefusedFull};
+    ghost use Rattle.call_book.specs.Playing.{all_switches, all_told, switches_ahead, told_ahead, HasWholeRun, LeadsToRun, IsFurther, IsSweptBook};
 
     /// Enters an advance of `n` ticks, 1 to 60000000, of which none is made yet. Its reply is that
     /// all are: from here on the history is that of the whole advance. Takes no memory.
@@ -171,7 +178,8 @@ impl PlayingBook {
     /// Makes ticks of those that are left, until the buffer has no room for the switches of one
     /// event more: `true` if some are left then. The new switches are added after those that wait.
     /// If none waited before, at least one tick is made. Switches still to come are at the domain's
-    /// time or later. Takes no memory, and needs nothing that others have.
+    /// time or later. What happens is not kept, and the log is empty then. Takes no memory, and
+    /// needs nothing that others have.
     pub fn fill(&mut self) -> bool
         ensures further { IsFurther self.old self.new }
         ensures switches { all_switches self.new ≡ all_switches self.old }
@@ -180,8 +188,28 @@ impl PlayingBook {
         ensures full { 0 < self.new.left → 0 < length self.new.at.switches }
         ensures some { self.old.at.switches ≡ [] → 0 < self.old.left
             → self.new.left < self.old.left }
+        ensures told { self.new.told ≡ [] }
     {
         self.ticks = self.domain.fill(self.ticks);
+        self.ticks > 0
+    }
+
+    /// As [`PlayingBook::fill`], but what happens is kept, if it is logged: it is added after what
+    /// waits in the log, and no more ticks are made if the log has no room for what one event more
+    /// tells. If ticks are left, something waits in the buffer or in the log. What ends a tick at
+    /// the domain's time is told then, and what begins one at that time is still to be told. Takes
+    /// no memory.
+    pub fn fill_told(&mut self) -> bool
+        ensures further { IsFurther self.old self.new }
+        ensures switches { all_switches self.new ≡ all_switches self.old }
+        ensures told { all_told self.new ≡ all_told self.old }
+        ensures later { All (λ s. self.new.at.time ≤ s.time) (switches_ahead self.new) }
+        ensures untold { All (IsToldFrom self.new.at.time) (told_ahead self.new) }
+        ensures more { IsTrue result ↔ (0 < self.new.left) }
+        ensures full { 0 < self.new.left
+            → 0 < length self.new.at.switches + length self.new.told }
+    {
+        self.ticks = self.domain.fill_told(self.ticks);
         self.ticks > 0
     }
 
@@ -191,6 +219,13 @@ impl PlayingBook {
         ensures { self.new ≡ record self.old { at = without_front count self.old.at } }
     {
         self.domain.forget_front(count);
+    }
+
+    /// Forgets the first `count` of what waits in the log, or all if it is less. Takes no memory.
+    pub fn forget_told(&mut self, count: usize)
+        ensures { self.new ≡ record self.old { told = drop count self.old.told } }
+    {
+        self.domain.forget_told(count);
     }
 
     /// Makes all ticks that are left. Neither the switches that wait nor those of these ticks are
@@ -225,8 +260,18 @@ impl PlayingBook {
         ensures state { result.now ≡ self.now.at }
         ensures domain { IsDomain self.now.at }
         ensures leads { LeadsToRun self.now }
+        ensures run { self.now.left ≡ 0 → HasWholeRun self.now
+            → self.now.at ≡ state_of self.now.book }
     {
         self.domain.state()
+    }
+
+    /// What happened and waits in the log; it is told by now, and no cut is in it.
+    pub fn told(&self) -> &[Happened]
+        ensures told { result.now ≡ self.now.told }
+        ensures until { All (IsToldUntil self.now.at.time) self.now.told }
+    {
+        self.domain.told()
     }
 
     /// How many ticks are still to be made.

@@ -5,6 +5,7 @@ use Rattle.run_figures.specs.Again.{more_told, more_switches, IsPeriodSince}
 use Rattle.run_figures.specs.private.Past.{items_of}
 use Rattle.run_figures.specs.private.Keeping.{accounting_view_of, IsAccountingKept, IsOfRun}
 use Rattle.run_figures.proofs.PeriodAgain.{told_room, switched_room, told_then, switched_then, more_counted}
+use Rattle.run_figures.proofs.Closing.{not_kept}
 use Rattle.run_figures.proofs.Hearing.{of_run_still}
 use Rattle.run_figures.proofs.accounting.Accounting.hear_again.Goals as goal
 
@@ -54,4 +55,5 @@ invariant_of-self-2 c =
         happened = more_counted later_happened c.args.micros c.args.periods c.self.inside.heard.happened.count c.mark.inside.happened _ v.happened _ c.self.invariant.3.happened c.give_again.ensures.count (c.give_again.ensures.more later_happened);
         switches = more_counted later_switch c.args.micros c.args.periods c.self.inside.heard.switches.count c.mark.inside.switches _ v.switches _ c.self.invariant.3.switches c.give_again-2.ensures.count (c.give_again-2.ensures.more later_switch);
       },
+      not_kept (items_of later_happened c.give_again.new.self.items) c.self.inside.places c.self.inside.lines (sym c.if-is_some.ensures),
     )

@@ -1,7 +1,10 @@
-use Rattle.std.proofs.Common.{sym, subst}
+use Rattle.std.proofs.Common.{All, sym, subst}
+use Rattle.std.proofs.lemmas.List.Elements.{All-nil}
 use Rattle.domain_run.specs.Domain.{Domain}
+use Rattle.domain_run.specs.Logged.{IsToldUntil}
 use Rattle.call_book.specs.private.Kept.{book_of}
-use Rattle.call_book.specs.private.Played.{IsPlaying}
+use Rattle.call_book.specs.private.Played.{LeadsOn}
+use Rattle.call_book.specs.private.Ticking.{domain_in}
 use Rattle.call_book.proofs.Played.{playing_from}
 use Rattle.call_book.proofs.book.domain.ending.EndingBook.play.Goals as goal
 
@@ -9,4 +12,8 @@ pub invariant_of-result : goal.invariant_of-result
 invariant_of-result c =
     let own = c.self.inside in
     let book = book_of own.cpus own.limit own.workers.count own.left own.ledger own.stock in
-    subst (λ (d : Domain). IsPlaying (record { book = book; at = d; left = 0 })) (sym c.in-Ok.ensures.ok) (playing_from book own.heard own.state c.self.invariant c.now.ensures.domain)
+    let at = domain_in c.in-Ok.domain in
+    record {
+      on = subst (λ (d : Domain). LeadsOn book d 0) (sym c.in-Ok.ensures.domain) (playing_from book own.heard own.state c.self.invariant c.now.ensures.domain);
+      until = subst (All (IsToldUntil at.time)) (sym c.in-Ok.ensures.told) (All-nil (IsToldUntil at.time));
+    }

@@ -1,10 +1,30 @@
-use Rattle.std.proofs.Common.{ap}
-use Rattle.domain_run.specs.Passing.{without_switches}
+use Rattle.std.proofs.Common.{◌≡◌, ap, subst}
+use Rattle.domain_run.specs.Domain.{Domain}
+use Rattle.domain_run.specs.Passing.{without_front, without_switches}
+use Rattle.call_book.specs.Playing.{PlayingView}
 use Rattle.call_book.specs.private.Kept.{book_of}
-use Rattle.call_book.proofs.Played.{playing_after}
+use Rattle.call_book.specs.private.Ticking.{domain_in, logs_in, waits_in}
+use Rattle.call_book.proofs.Played.{playing_after, until_same}
 use Rattle.call_book.proofs.book.domain.ending.playing.PlayingBook.forget_front.Goals as goal
 
 pub invariant_of-self : goal.invariant_of-self
 invariant_of-self c =
     let own = c.self.inside in
-    playing_after (book_of own.cpus own.limit own.workers.count own.left own.ledger own.stock) own.domain c.forget_front.new.self own.ticks c.self.invariant (ap without_switches c.forget_front.ensures)
+    let old = domain_in own.domain in
+    let gone = c.forget_front in
+    let new = domain_in gone.new.self in
+    record {
+      on = playing_after (book_of own.cpus own.limit own.workers.count own.left own.ledger own.stock) old new own.ticks c.self.invariant.on (ap without_switches gone.ensures.domain);
+      until = until_same old new (waits_in own.domain) (waits_in gone.new.self) (ap (λ (d : Domain). d.time) gone.ensures.domain) gone.ensures.told c.self.invariant.until;
+    }
+
+pub returns : goal.returns
+returns c =
+    let own = c.self.inside in
+    let gone = c.forget_front in
+    let book = book_of own.cpus own.limit own.workers.count own.left own.ledger own.stock in
+    let at = gone.ensures.domain in
+    let logs = gone.ensures.logs in
+    let told = gone.ensures.told in
+    let new : PlayingView = record { book = book; at = domain_in gone.new.self; left = own.ticks; logs = logs_in gone.new.self; told = waits_in gone.new.self } in
+    subst (λ (p : PlayingView). new ≡ record p { at = without_front c.args.count p.at }) c.self.view_is (λ i. record { book = book; at = at i; left = own.ticks; logs = logs i; told = told i })
