@@ -40,26 +40,29 @@ pub not_found : (m : ArgMatches) (name : Text) (rows : List Row) → subcommand_
 not_found m name rows is = sym (name_found m) ∙ ap command_name is
 
 pub of_error : (words : List Text) (e : Error) → ReadsWords words (Err e) → IsAskedBy words (Err (wrong.Clap e))
-of_error words e read = record { run = read.run; replay = read.replay; are_held = read.are_held; named = tt; meant = tt; taken = tt; taken_by_replay = tt; wrong = read.refused }
+of_error words e read = record { run = read.run; replay = read.replay; import = read.import; are_held = read.are_held; named = tt; meant = tt; taken = tt; taken_by_replay = tt; wrong = read.refused }
 
 is_wrong : (app : App) (words : List Text) (w : Wrong) → IsRefusedBy (subcommand_of app words) w → IsWrong app words w
 is_wrong app words (wrong.Clap e) (inl r) = absurd r.2
 is_wrong app words (wrong.Clap e) (inr (inl r)) = absurd r.2
-is_wrong app words (wrong.Clap e) (inr (inr r)) = absurd r.2
+is_wrong app words (wrong.Clap e) (inr (inr (inl r))) = absurd r.2
+is_wrong app words (wrong.Clap e) (inr (inr (inr r))) = absurd r.2
 is_wrong app words (wrong.Options fault) refused = refused
 is_wrong app words wrong.BothStdin refused = refused
+is_wrong app words wrong.OneInput refused = refused
 
 pub of_wrong : (words : List Text) (m : ArgMatches) (w : Wrong) → ReadsWords words (Ok m) → IsRefusedBy (subcommand_rows_of m) w
     → IsAskedBy words (Err w)
 of_wrong words m w read refused = record {
   run = read.run;
   replay = read.replay;
+  import = read.import;
   are_held = read.are_held;
   named = tt;
   meant = tt;
   taken = tt;
   taken_by_replay = tt;
-  wrong = is_wrong (program_app read.run read.replay) words w (subst (λ (command : Option (Text × List Row)). IsRefusedBy command w) read.found refused);
+  wrong = is_wrong (program_app read.run read.replay read.import) words w (subst (λ (command : Option (Text × List Row)). IsRefusedBy command w) read.found refused);
 }
 
 pub of_task : (words : List Text) (m : ArgMatches) (task : Task) → ReadsWords words (Ok m) → HasTextsOfRun m → HasTextsOfReplay m → IsTaskOf (subcommand_name_of m) task
@@ -67,6 +70,7 @@ pub of_task : (words : List Text) (m : ArgMatches) (task : Task) → ReadsWords 
 of_task words m task read texts text named meant = record {
   run = read.run;
   replay = read.replay;
+  import = read.import;
   are_held = read.are_held;
   named = subst (λ (command : Option (Text × List Row)). IsTaskOf (command_name command) task) read.found
       (subst (λ (name : Option Text). IsTaskOf name task) (sym (name_found m)) named);

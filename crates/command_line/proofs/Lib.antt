@@ -4,3 +4,4 @@ pub mod RunTexts
 pub mod Asked
 pub mod Numbers
 pub mod Printing
+pub mod ImportTexts

@@ -16,25 +16,25 @@ use Rattle.clap.specs.declared.builder.value_parser.ValueParser.TheVariants.{Uns
 use Rattle.clap.specs.declared.error.Error.{Error}
 use Rattle.clap.specs.declared.error.kind.ErrorKind.TheVariants.{OutOfMemory}
 use Rattle.clap.specs.declared.parser.matches.ArgMatches.{ArgMatches}
-use Rattle.command_line.specs.Commands.{AreHeld, AreTexts, HeldNames, program_app, replay_texts, run_texts}
+use Rattle.command_line.specs.Commands.{AreHeld, AreTexts, HeldNames, import_texts, program_app, replay_texts, run_texts}
 use Rattle.command_line.specs.Reading.{HasNumber, HasReplayTexts, HasTexts, HasTextsOfReplay, HasTextsOfRun, IsMomentIfAny, IsOneAt, ReadsWords}
 use Rattle.command_line.proofs.Passed.{HasPassing, HasPassingIfAny, IsKnown, found_has, level_has, level_may, neither, or_cases}
 
-abbrev app : HeldNames → HeldNames → App
-app run replay = built (program_app run replay)
+abbrev app : HeldNames → HeldNames → HeldNames → App
+app run replay import = built (program_app run replay import)
 
 -- a command as it is built
-abbrev shape_of : Text → HeldNames → HeldNames → Shape
-shape_of name run replay = unwrap_or (find (λ s. bytes_eq s.name name) (app run replay).subs) (app run replay).top
+abbrev shape_of : Text → HeldNames → HeldNames → HeldNames → Shape
+shape_of name run replay import = unwrap_or (find (λ s. bytes_eq s.name name) (app run replay import).subs) (app run replay import).top
 
-abbrev run_shape : HeldNames → HeldNames → Shape
-run_shape run replay = shape_of (codes "run") run replay
+abbrev run_shape : HeldNames → HeldNames → HeldNames → Shape
+run_shape run replay import = shape_of (codes "run") run replay import
 
-abbrev replay_shape : HeldNames → HeldNames → Shape
-replay_shape run replay = shape_of (codes "replay") run replay
+abbrev replay_shape : HeldNames → HeldNames → HeldNames → Shape
+replay_shape run replay import = shape_of (codes "replay") run replay import
 
-known_replay : (run replay : HeldNames) → AllByRecursion (IsKnown (replay_shape run replay).rules) (replay_shape run replay).rules
-known_replay run replay = (
+known_replay : (run replay import : HeldNames) → AllByRecursion (IsKnown (replay_shape run replay import).rules) (replay_shape run replay import).rules
+known_replay run replay import = (
   record { by_id = refl; action = inl (refl, refl) },
   (
     record { by_id = refl; action = inl (refl, refl) },
@@ -45,8 +45,8 @@ known_replay run replay = (
   ),
 )
 
-known : (run replay : HeldNames) → AllByRecursion (IsKnown (run_shape run replay).rules) (run_shape run replay).rules
-known run replay = (
+known : (run replay import : HeldNames) → AllByRecursion (IsKnown (run_shape run replay import).rules) (run_shape run replay import).rules
+known run replay import = (
   record { by_id = refl; action = inl (refl, refl) },
   (
     record { by_id = refl; action = inl (refl, refl) },
@@ -112,12 +112,12 @@ held_at : (rows : List Row) (name text : Text) (texts : List Text) (names : Held
 held_at rows name text texts names are is passes =
     one_among rows name text texts is (subst (λ ts. list_any (λ t. bytes_eq t text) ts ≡ true) are (sym (any_now names text) ∙ passes))
 
-run_has : (run replay : HeldNames) → AreHeld run replay → (words : List Text) → level_fault (run_shape run replay) [] nothing_held words false [] ≡ []
-    → HasTexts (rows_after (run_shape run replay).rules [] words)
-run_has run replay held words e =
-    let rows = rows_after (run_shape run replay).rules [] words in
-    let has = level_has (run_shape run replay) (known run replay) (λ i. refl) words e in
-    let may = level_may (run_shape run replay) (known run replay) (λ i. refl) words e in
+run_has : (run replay import : HeldNames) → AreHeld run replay import → (words : List Text) → level_fault (run_shape run replay import) [] nothing_held words false [] ≡ []
+    → HasTexts (rows_after (run_shape run replay import).rules [] words)
+run_has run replay import held words e =
+    let rows = rows_after (run_shape run replay import).rules [] words in
+    let has = level_has (run_shape run replay import) (known run replay import) (λ i. refl) words e in
+    let may = level_may (run_shape run replay import) (known run replay import) (λ i. refl) words e in
     let domains = has.0 refl in
     let reclaim = has.1.1.1.1.1.0 refl in
     let print = has.1.1.1.1.1.1.0 refl in
@@ -137,12 +137,12 @@ run_has run replay held words e =
     is_bool : (text : Text) → (bytes_eq text (codes "true") || bytes_eq text (codes "false")) ≡ true → (text ≡ codes "true") ⊎ (text ≡ codes "false")
     is_bool text e = ⊎_elim (λ t. inl ((bytes_eq-Decides text (codes "true")).0 t)) (λ f. inr ((bytes_eq-Decides text (codes "false")).0 f)) (or_cases (bytes_eq text (codes "true")) _ e)
 
-replay_has : (run replay : HeldNames) → AreHeld run replay → (words : List Text) → level_fault (replay_shape run replay) [] nothing_held words false [] ≡ []
-    → HasReplayTexts (rows_after (replay_shape run replay).rules [] words)
-replay_has run replay held words e =
-    let rows = rows_after (replay_shape run replay).rules [] words in
-    let print = (level_has (replay_shape run replay) (known_replay run replay) (λ i. refl) words e).0 refl in
-    let may = level_may (replay_shape run replay) (known_replay run replay) (λ i. refl) words e in
+replay_has : (run replay import : HeldNames) → AreHeld run replay import → (words : List Text) → level_fault (replay_shape run replay import) [] nothing_held words false [] ≡ []
+    → HasReplayTexts (rows_after (replay_shape run replay import).rules [] words)
+replay_has run replay import held words e =
+    let rows = rows_after (replay_shape run replay import).rules [] words in
+    let print = (level_has (replay_shape run replay import) (known_replay run replay import) (λ i. refl) words e).0 refl in
+    let may = level_may (replay_shape run replay import) (known_replay run replay import) (λ i. refl) words e in
     record {
       print = held_at rows (codes "print") print.first replay_texts replay held.of_replay print.first_is print.passes;
       from = moment_at rows _ refl may.1.0;
@@ -153,26 +153,32 @@ replay_has run replay held words e =
 abbrev HasThen : Text → (List Row → Type 0) → Shape → Type 0
 HasThen named P s = (words : List Text) → s.name ≡ named → level_fault s [] nothing_held words false [] ≡ [] → P (rows_after s.rules [] words)
 
-each_run : (run replay : HeldNames) → AreHeld run replay → AllByRecursion (HasThen (codes "run") HasTexts) (app run replay).subs
-each_run run replay held = (
-  λ words name e. run_has run replay held words e,
+each_run : (run replay import : HeldNames) → AreHeld run replay import → AllByRecursion (HasThen (codes "run") HasTexts) (app run replay import).subs
+each_run run replay import held = (
+  λ words name e. run_has run replay import held words e,
   (
     λ words name e. let bad : 101 ≡ 117 = ap (λ xs. slice_index xs 1) name in absurd (omega arith),
     (
       λ words name e. let bad : 99 ≡ 114 = ap (λ xs. slice_index xs 0) name in absurd (omega arith),
-      (λ words name e. let bad : 104 ≡ 114 = ap (λ xs. slice_index xs 0) name in absurd (omega arith), tt),
+      (
+        λ words name e. let bad : 105 ≡ 114 = ap (λ xs. slice_index xs 0) name in absurd (omega arith),
+        (λ words name e. let bad : 104 ≡ 114 = ap (λ xs. slice_index xs 0) name in absurd (omega arith), tt),
+      ),
     ),
   ),
 )
 
-each_replay : (run replay : HeldNames) → AreHeld run replay → AllByRecursion (HasThen (codes "replay") HasReplayTexts) (app run replay).subs
-each_replay run replay held = (
+each_replay : (run replay import : HeldNames) → AreHeld run replay import → AllByRecursion (HasThen (codes "replay") HasReplayTexts) (app run replay import).subs
+each_replay run replay import held = (
   λ words name e. let bad : 117 ≡ 101 = ap (λ xs. slice_index xs 1) name in absurd (omega arith),
   (
-    λ words name e. replay_has run replay held words e,
+    λ words name e. replay_has run replay import held words e,
     (
       λ words name e. let bad : 99 ≡ 114 = ap (λ xs. slice_index xs 0) name in absurd (omega arith),
-      (λ words name e. let bad : 104 ≡ 114 = ap (λ xs. slice_index xs 0) name in absurd (omega arith), tt),
+      (
+        λ words name e. let bad : 105 ≡ 114 = ap (λ xs. slice_index xs 0) name in absurd (omega arith),
+        (λ words name e. let bad : 104 ≡ 114 = ap (λ xs. slice_index xs 0) name in absurd (omega arith), tt),
+      ),
     ),
   ),
 )
@@ -191,22 +197,22 @@ at_stop a named P each (Some p) rows is e =
     at_shape named P (find (λ s. answers_to p.0 (label_of s)) a.subs) p.1 rows (λ s found. found_has (HasThen named P) (λ x. answers_to p.0 (label_of x)) a.subs s each found) is e
 
 -- where clap's rules find a command in the words and refuse none, its options have texts that they take
-found_at : (run replay : HeldNames) (named : Text) (P : List Row → Type 0) → AllByRecursion (HasThen named P) (app run replay).subs → (words : List Text) (rows : List Row)
-    → subcommand_of (program_app run replay) words ≡ Some (named, rows) → fault_of (program_app run replay) words ≡ [] → P rows
-found_at run replay named P each words rows is e =
-    let given = argument_words (program_app run replay) words in
-    let a = app run replay in
+found_at : (run replay import : HeldNames) (named : Text) (P : List Row → Type 0) → AllByRecursion (HasThen named P) (app run replay import).subs → (words : List Text) (rows : List Row)
+    → subcommand_of (program_app run replay import) words ≡ Some (named, rows) → fault_of (program_app run replay import) words ≡ [] → P rows
+found_at run replay import named P each words rows is e =
+    let given = argument_words (program_app run replay import) words in
+    let a = app run replay import in
     let stop = stop_after a.top.rules (names_of a) given in
     let past_walk = neither (walk_fault a.top (names_of a) (walk_from nothing_held) given) _ e in
     at_stop a named P each stop rows is (neither _ _ past_walk.1).0
 
 -- what was read has them
 pub reading_has : (words : List Text) (r : Result ArgMatches Error) → ReadsWords words r → IfOk r HasTextsOfRun
-reading_has words (Ok m) reading = λ rows is. found_at reading.run reading.replay (codes "run") HasTexts (each_run reading.run reading.replay reading.are_held) words rows (sym reading.found ∙ is) reading.refused
+reading_has words (Ok m) reading = λ rows is. found_at reading.run reading.replay reading.import (codes "run") HasTexts (each_run reading.run reading.replay reading.import reading.are_held) words rows (sym reading.found ∙ is) reading.refused
 reading_has words (Err e) reading = tt
 
 pub reading_has_replay : (words : List Text) (r : Result ArgMatches Error) → ReadsWords words r → IfOk r HasTextsOfReplay
-reading_has_replay words (Ok m) reading = λ rows is. found_at reading.run reading.replay (codes "replay") HasReplayTexts (each_replay reading.run reading.replay reading.are_held) words rows (sym reading.found ∙ is) reading.refused
+reading_has_replay words (Ok m) reading = λ rows is. found_at reading.run reading.replay reading.import (codes "replay") HasReplayTexts (each_replay reading.run reading.replay reading.import reading.are_held) words rows (sym reading.found ∙ is) reading.refused
 reading_has_replay words (Err e) reading = tt
 
 -- words are read where memory runs out before them
@@ -214,7 +220,8 @@ pub refused_for_memory : (words : List Text) (e : Error) → kind_of e ≡ OutOf
 refused_for_memory words e is = record {
   run = record { ref_ptr = (0, 0); now = map held run_texts };
   replay = record { ref_ptr = (0, 0); now = map held replay_texts };
-  are_held = record { of_run = refl; of_replay = refl };
+  import = record { ref_ptr = (0, 0); now = map held import_texts };
+  are_held = record { of_run = refl; of_replay = refl; of_import = refl };
   found = tt;
   refused = inl is;
 }

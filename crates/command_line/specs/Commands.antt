@@ -30,10 +30,15 @@ replay_texts =
     codes "trace" ∷ codes "replies" ∷ codes "events"
     ∷ codes "jobs" ∷ codes "summary" ∷ codes "chart" ∷ []
 
--- the names that clap holds for the two
-pub record AreHeld (run replay : HeldNames) : Type 0 where
+-- what `--print` of `import` takes
+abbrev pub import_texts : List Text
+import_texts = codes "calls" ∷ codes "jobs" ∷ []
+
+-- the names that clap holds for the three
+pub record AreHeld (run replay import : HeldNames) : Type 0 where
   pub of_run : AreTexts run_texts run
   pub of_replay : AreTexts replay_texts replay
+  pub of_import : AreTexts import_texts import
 
 -- an option `--name TEXT` with a default
 abbrev pub option : Text → Text → Rule
@@ -106,12 +111,33 @@ compare_options =
 abbrev pub compare_app : App
 compare_app = fold with_rule (new_app (codes "compare")) compare_options
 
--- `dlsim`, which wants one of its commands `run`, `replay` and `compare`
-abbrev pub program_app : HeldNames → HeldNames → App
-program_app run replay =
+-- a time of a recording's clock, in microseconds
+abbrev pub recorded_moment : Text → Rule
+recorded_moment name = tested_option name (Unsigned 0 (2 ^ 60))
+
+-- the files and the options of `import`
+abbrev pub import_options : HeldNames → List Rule
+import_options names =
+    file (codes "TASKS") ∷ file (codes "RECORDED")
+    ∷ tested_option (codes "cpus") (Unsigned 1 64)
+    ∷ count_option (codes "rt-runtime") 1000000000 (codes "950000")
+    ∷ count_option (codes "rt-period") 1000000000 (codes "1000000")
+    ∷ recorded_moment (codes "from")
+    ∷ recorded_moment (codes "to")
+    ∷ flag (codes "any-policy")
+    ∷ record (option (codes "print") (codes "calls")) { parser = Some (Names names) }
+    ∷ []
+
+-- `dlsim import`
+abbrev pub import_app : HeldNames → App
+import_app names = fold with_rule (new_app (codes "import")) (import_options names)
+
+-- `dlsim`, which wants one of its commands `run`, `replay`, `compare` and `import`
+abbrev pub program_app : HeldNames → HeldNames → HeldNames → App
+program_app run replay import =
     let top = on_top (λ s. record s { subcommand_required = true }) (new_app (codes "dlsim")) in
     let both = with_subcommand (with_subcommand top (run_app run).top) (replay_app replay).top in
-    with_subcommand both compare_app.top
+    with_subcommand (with_subcommand both compare_app.top) (import_app import).top
 
 -- clap's command is `dlsim run`
 pub record IsRunCommand (c : Command) : Type 0 where
@@ -132,9 +158,17 @@ pub record IsCompare (c : Command) : Type 0 where
   pub app : app_of c ≡ compare_app
   pub local : (out-Command c).has_globals ≡ false
 
+-- clap's command is `dlsim import`
+pub record IsImport (c : Command) : Type 0 where
+  pub names : HeldNames
+  pub are_texts : AreTexts import_texts names
+  pub app : app_of c ≡ import_app names
+  pub local : (out-Command c).has_globals ≡ false
+
 -- clap's command is `dlsim`
 pub record IsProgram (c : Command) : Type 0 where
   pub run : HeldNames
   pub replay : HeldNames
-  pub are_held : AreHeld run replay
-  pub app : app_of c ≡ program_app run replay
+  pub import : HeldNames
+  pub are_held : AreHeld run replay import
+  pub app : app_of c ≡ program_app run replay import

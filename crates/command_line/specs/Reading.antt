@@ -46,9 +46,11 @@ pub record HasReplayTexts (rows : List Row) : Type 0 where
 pub record ReadsWords (words : List Text) (r : Result ArgMatches Error) : Type 0 where
   pub run : HeldNames
   pub replay : HeldNames
-  pub are_held : AreHeld run replay
-  pub found : IfOk r (λ m. subcommand_rows_of m ≡ subcommand_of (program_app run replay) words)
-  pub refused : FailsBy (fault_of (program_app run replay) words) r
+  pub import : HeldNames
+  pub are_held : AreHeld run replay import
+  pub found : IfOk r
+      (λ m. subcommand_rows_of m ≡ subcommand_of (program_app run replay import) words)
+  pub refused : FailsBy (fault_of (program_app run replay import) words) r
 
 -- what is found for `run`
 abbrev pub HasTextsOfRun : ArgMatches → Type 0

@@ -3,13 +3,15 @@
 ghost use Rattle.std.specs.Prelude.{◌≡◌, ◌<◌, ◌+◌, [], ◌∷◌, IfOk, OnOk, Some, false, fold, map, vec_capacity, vec_len};
 ghost use Rattle.clap.specs.declared.builder.command.Command.{Command};
 ghost use Rattle.clap.specs.Words.{new_app, rule_of, with_rule};
-ghost use Rattle.command_line.specs.Commands.{AreTexts, IsCompare, IsProgram, IsReplay, IsRunCommand, compare_options, file, flag, option, replay_options, replay_texts, run_options, run_texts, tested_option};
+ghost use Rattle.command_line.specs.Commands.{AreTexts, IsCompare, IsImport, IsProgram, IsReplay, IsRunCommand, compare_options, file, flag, import_options, import_texts, option, replay_options, replay_texts, run_options, run_texts, tested_option};
 ghost use Rattle.command_line.specs.private.Made.{AddsOne, AreInTurn, IsChoiceMade, IsOption, names_of_choices, of_choice};
 
 use crate::texts::{
-    ABOUT, ABOUT_END, CLIENTS_HELP, COMPARE_ABOUT, COMPARE_END, CPUS_HELP, DOMAINS_HELP, FROM_HELP,
+    ABOUT, ABOUT_END, ANY_POLICY_HELP, CLIENTS_HELP, COMPARE_ABOUT, COMPARE_END, COUNTS_FROM_HELP,
+    COUNTS_TO_HELP, CPUS_HELP, DOMAINS_HELP, FROM_HELP, IMPORT_ABOUT, IMPORT_CPUS_HELP, IMPORT_END,
     MODEL_HELP, NOISE_HELP, PERIOD_HELP, PRINT_HELP, RECLAIM_HELP, RECORDED_HELP, REPLAY_ABOUT,
-    REPLAY_END, RUN_ABOUT, RUN_END, RUNTIME_HELP, SHIFT_HELP, TO_HELP, WITHIN_HELP, WORKERS_HELP,
+    REPLAY_END, RUN_ABOUT, RUN_END, RUNTIME_HELP, SHIFT_HELP, TASKS_HELP, TO_HELP, WITHIN_HELP,
+    WORKERS_HELP,
 };
 use clap::builder::ValueParser;
 use clap::{Arg, ArgAction, Command};
@@ -27,6 +29,12 @@ pub const LEAST_SHIFT: i64 = -(1 << 60);
 /// See [`LEAST_SHIFT`].
 pub const MOST_SHIFT: i64 = 1 << 60;
 
+/// The last microsecond of a recording's clock that `--from` and `--to` of `import` can name: 2^60.
+pub const LAST_RECORDED: u64 = 1 << 60;
+
+/// How many CPUs a domain may have.
+pub const MOST_CPUS: u64 = 64;
+
 /// How many clients may admit tasks.
 pub const MOST_CLIENTS: u64 = 64;
 
@@ -39,6 +47,8 @@ const RUN_TEXTS: [&str; 8] = [
 
 const REPLAY_TEXTS: [&str; 6] = ["trace", "replies", "events", "jobs", "summary", "chart"];
 
+const IMPORT_TEXTS: [&str; 2] = ["calls", "jobs"];
+
 /// What a command may be told: its name, then the word that help has for its value, its default and
 /// its test, as far as it has them, and its help.
 #[derive(Clone, Copy)]
@@ -48,7 +58,7 @@ enum Choice<'a> {
     /// An option with a default, whose value passes a test.
     Checked(&'a str, &'a str, &'a str, ValueParser<'a>, &'a str),
     /// An option with no default, whose value passes a test.
-    Tested(&'a str, ValueParser<'a>, &'a str),
+    Tested(&'a str, &'a str, ValueParser<'a>, &'a str),
     /// A flag.
     Flag(&'a str, &'a str),
     /// A file, named by its place among the words.
@@ -63,6 +73,9 @@ const A_LIMIT: ValueParser<'static> = ValueParser::Unsigned(1, MOST_TIME);
 
 /// A time of the run.
 const A_MOMENT: ValueParser<'static> = ValueParser::Unsigned(0, LAST_MOMENT);
+
+/// A time of a recording's clock.
+const RECORDED_MOMENT: ValueParser<'static> = ValueParser::Unsigned(0, LAST_RECORDED);
 
 // The lists are in the order of the help. They and the long texts are no constants, which would be
 // written out, for the prover, wherever they are named.
@@ -92,8 +105,8 @@ static RUN_CHOICES: [Choice<'static>; 9] = [
         ValueParser::Names(&RUN_TEXTS),
         PRINT_HELP,
     ),
-    Choice::Tested("from", A_MOMENT, FROM_HELP),
-    Choice::Tested("to", A_MOMENT, TO_HELP),
+    Choice::Tested("from", "US", A_MOMENT, FROM_HELP),
+    Choice::Tested("to", "US", A_MOMENT, TO_HELP),
 ];
 
 static REPLAY_CHOICES: [Choice<'static>; 3] = [
@@ -104,21 +117,45 @@ static REPLAY_CHOICES: [Choice<'static>; 3] = [
         ValueParser::Names(&REPLAY_TEXTS),
         PRINT_HELP,
     ),
-    Choice::Tested("from", A_MOMENT, FROM_HELP),
-    Choice::Tested("to", A_MOMENT, TO_HELP),
+    Choice::Tested("from", "US", A_MOMENT, FROM_HELP),
+    Choice::Tested("to", "US", A_MOMENT, TO_HELP),
 ];
 
 static COMPARE_CHOICES: [Choice<'static>; 6] = [
     Choice::File("MODEL", MODEL_HELP),
     Choice::File("RECORDED", RECORDED_HELP),
     Choice::Checked("within", "US", "1000", A_TIME, WITHIN_HELP),
-    Choice::Tested("noise", A_TIME, NOISE_HELP),
+    Choice::Tested("noise", "US", A_TIME, NOISE_HELP),
     Choice::Tested(
         "shift",
+        "US",
         ValueParser::Signed(LEAST_SHIFT, MOST_SHIFT),
         SHIFT_HELP,
     ),
     Choice::Flag("cpus", CPUS_HELP),
+];
+
+static IMPORT_CHOICES: [Choice<'static>; 9] = [
+    Choice::File("TASKS", TASKS_HELP),
+    Choice::File("RECORDED", RECORDED_HELP),
+    Choice::Tested(
+        "cpus",
+        "M",
+        ValueParser::Unsigned(1, MOST_CPUS),
+        IMPORT_CPUS_HELP,
+    ),
+    Choice::Checked("rt-runtime", "N", "950000", A_LIMIT, RUNTIME_HELP),
+    Choice::Checked("rt-period", "N", "1000000", A_LIMIT, PERIOD_HELP),
+    Choice::Tested("from", "US", RECORDED_MOMENT, COUNTS_FROM_HELP),
+    Choice::Tested("to", "US", RECORDED_MOMENT, COUNTS_TO_HELP),
+    Choice::Flag("any-policy", ANY_POLICY_HELP),
+    Choice::Checked(
+        "print",
+        "TEXT",
+        "calls",
+        ValueParser::Names(&IMPORT_TEXTS),
+        PRINT_HELP,
+    ),
 ];
 
 /// An option with one value, which has a default.
@@ -178,13 +215,19 @@ fn file<'a>(alloc: Global, name: &'a str, help: &'a str) -> Arg<'a>
 }
 
 /// An option whose value passes a test, and which has no default.
-fn tested<'a>(alloc: Global, name: &'a str, test: ValueParser<'a>, help: &'a str) -> Arg<'a>
+fn tested<'a>(
+    alloc: Global,
+    name: &'a str,
+    value: &'a str,
+    test: ValueParser<'a>,
+    help: &'a str,
+) -> Arg<'a>
     ensures rule { rule_of result ≡ tested_option name.now test.entry }
     ensures local { result.global ≡ false }
 {
     Arg::new(alloc, name)
         .long(name)
-        .value_name("US")
+        .value_name(value)
         .help(help)
         .value_parser(test)
 }
@@ -198,7 +241,7 @@ fn made<'a>(alloc: Global, choice: &Choice<'a>) -> Arg<'a>
         Choice::Checked(name, value, default, test, help) => {
             checked(alloc, name, value, default, test, help)
         }
-        Choice::Tested(name, test, help) => tested(alloc, name, test, help),
+        Choice::Tested(name, value, test, help) => tested(alloc, name, value, test, help),
         Choice::Flag(name, help) => flag(alloc, name, help),
         Choice::File(name, help) => file(alloc, name, help),
     }
@@ -238,6 +281,14 @@ fn compare_choices() -> &'static [Choice<'static>]
     &COMPARE_CHOICES
 }
 
+/// What `import` may be told.
+fn import_choices() -> &'static [Choice<'static>]
+    ensures texts { AreTexts import_texts (names_of_choices result.now) }
+    ensures rules { map of_choice result.now ≡ import_options (names_of_choices result.now) }
+{
+    &IMPORT_CHOICES
+}
+
 /// Adds a command with what help says of it, and with what it may be told.
 fn add_command<'a>(
     alloc: Global,
@@ -263,13 +314,14 @@ fn add_command<'a>(
     Ok(())
 }
 
-/// The three commands, in the order of the help.
+/// The four commands, in the order of the help.
 fn subcommands<'a>(alloc: Global) -> Result<Vec<Command<'a>>, AllocError>
     ensures { IfOk result
-        (λ made. (run replay compare : Command) × IsRunCommand run × IsReplay replay
-        × IsCompare compare × (made.items ≡ run ∷ replay ∷ compare ∷ [])) }
+        (λ made. (run replay compare import : Command) × IsRunCommand run × IsReplay replay
+        × IsCompare compare × IsImport import
+        × (made.items ≡ run ∷ replay ∷ compare ∷ import ∷ [])) }
 {
-    let mut all = Vec::with_capacity(alloc, 3)?;
+    let mut all = Vec::with_capacity(alloc, 4)?;
     add_command(alloc, &mut all, "run", RUN_ABOUT, RUN_END, run_choices())?;
     add_command(
         alloc,
@@ -286,6 +338,14 @@ fn subcommands<'a>(alloc: Global) -> Result<Vec<Command<'a>>, AllocError>
         COMPARE_ABOUT,
         COMPARE_END,
         compare_choices(),
+    )?;
+    add_command(
+        alloc,
+        &mut all,
+        "import",
+        IMPORT_ABOUT,
+        IMPORT_END,
+        import_choices(),
     )?;
     Ok(all)
 }

@@ -10,7 +10,7 @@ use clap::ArgMatches;
 use compare_report::CompareOptions;
 use std::alloc::{AllocError, Global};
 
-/// Where a trace comes from.
+/// Where a trace, or a tasks file, comes from.
 #[derive(Drop)]
 pub enum Source {
     /// Standard input.
@@ -34,7 +34,7 @@ pub struct Comparison {
 ///
 /// # Errors
 /// A growth was refused.
-fn source_of(alloc: Global, text: &str) -> Result<Source, AllocError>
+pub(crate) fn source_of(alloc: Global, text: &str) -> Result<Source, AllocError>
     ensures { IfOk result (IsSource text.now) }
 {
     if text == "-" {

@@ -8,13 +8,15 @@ pub(crate) static ABOUT_END: &str = "\
 standard input. Both write a trace, with the lines of ftrace's event
 sched_switch, or with `--print` another text, as who was late and by how much,
 or a picture of who ran where.
-`dlsim compare` sets a trace beside one that a kernel recorded.
+`dlsim compare` sets a trace beside one that a kernel recorded, and
+`dlsim import` makes calls of what a kernel recorded.
 
   dlsim run < examples/periodic.json
   dlsim run --print summary < examples/periodic.json
   dlsim run --print chart < examples/periodic.json > periodic.svg
   dlsim replay < examples/reclaiming.calls
   dlsim compare model.txt recorded.txt
+  dlsim import tasks.txt recorded.txt > mine.calls
 
 Exit status: 0 done; 1 bad input; 2 wrong words; 3 reading or writing failed;
 4 out of memory. Where it is not 0, a line on standard error says why, and
@@ -160,3 +162,47 @@ where it is negative [default: that under which most runs match]";
 
 pub(crate) const CPUS_HELP: &str = "\
 Also says how many of the matched runs were on the same CPU";
+
+pub(crate) static IMPORT_ABOUT: &str = "Makes the calls of a workload from what a kernel recorded";
+
+pub(crate) static IMPORT_END: &str = "\
+In:  TASKS, a short file: the line `dltasks 1`, then for each task a line
+     `name Q D P f`, its name, dl-runtime, dl-deadline and dl-period in
+     microseconds and its flags; RECORDED, text that ftrace, `trace-cmd report`
+     or `perf script` printed, with the events sched_switch and sched_wakeup;
+     `-` is standard input, for one of the two.
+Out: the text that --print names:
+     calls    the calls of a workload: each task with the jobs that RECORDED
+              shows, how long each worked and when it was released
+     jobs     a line for each task: how many jobs, how many of them were woken,
+              how long they worked and how far apart they were released
+
+  trace-cmd record -e sched_switch -e sched_wakeup ./my-program
+  trace-cmd report > recorded.txt
+  dlsim import tasks.txt recorded.txt > mine.calls
+  dlsim replay --print summary < mine.calls
+
+Exit status: 0 done; 1 `dlsim: tasks line N in FILE` or `dlsim: trace line N in
+FILE`, the first bad line, or a line that says why there is no workload; 2 wrong
+words, `dlsim: empty window`, `dlsim: limit out of range` or `dlsim: both inputs
+are standard input`; 3 a file that cannot be opened or read, with its name, or
+`dlsim: write failed after N`; 4 `dlsim: out of memory`.
+docs/FORMATS.md explains the files, the rules and the messages.";
+
+pub(crate) const TASKS_HELP: &str = "The tasks to look for; `-` is standard input";
+
+pub(crate) const IMPORT_CPUS_HELP: &str = "\
+CPUs of the domain, 1 to 64 [default: the number of CPUs on which the tasks
+ran]";
+
+pub(crate) const COUNTS_FROM_HELP: &str = "\
+Ignores what was recorded before this microsecond of the recording's clock, 0
+to 1152921504606846976 [default: 0]";
+
+pub(crate) const COUNTS_TO_HELP: &str = "\
+Ignores what was recorded after this microsecond, which is above --from
+[default: the end]";
+
+pub(crate) const ANY_POLICY_HELP: &str = "\
+Counts a switch to a task whatever its priority; without it only one below 0,
+which is that of deadline tasks";

@@ -4,11 +4,12 @@ ghost use Rattle.std.specs.Prelude.{◌<◌, ◌≤◌, IfErr, IfOk, map, string
 ghost use Rattle.clap.specs.Words.{found_of, rows_of, subcommand_name_of, subcommand_rows_of};
 ghost use Rattle.run_options.specs.Options.{AreOptions};
 ghost use Rattle.command_line.specs.Found.{AreFound, AreMeantBy, AreSpanWordsAt, IsCutFault, IsFaultOfRows, IsPrintAt, IsReplayPrintAt};
-ghost use Rattle.command_line.specs.Tasks.{IsAsked, IsAskedBy, IsComparisonBy, IsComparisonRefusedBy, IsFit, IsMeant, IsRefusedBy, IsReplayBy, IsReplayRefusedBy, IsRunBy, IsRunRefusedBy, IsTaskOf};
+ghost use Rattle.command_line.specs.Tasks.{IsAsked, IsAskedBy, IsComparisonBy, IsComparisonRefusedBy, IsFit, IsImportBy, IsImportRefusedBy, IsMeant, IsRefusedBy, IsReplayBy, IsReplayRefusedBy, IsRunBy, IsRunRefusedBy, IsTaskOf};
 
 use crate::command::{MOST_CLIENTS, MOST_TIME, MOST_WORKERS};
 use crate::comparison::{Comparison, comparison_of, shares_stdin};
 use crate::found::{number, read_at, text_of};
+use crate::importing::{ImportCommand, import_of, shares_input};
 use crate::reading::{matches_of, not_utf8};
 use clap::{ArgMatches, Error};
 use run_options::{
@@ -27,6 +28,8 @@ pub enum Task {
     Run(Options),
     /// `compare`, with its traces and numbers.
     Compare(Comparison),
+    /// `import`, with its files and options.
+    Import(ImportCommand),
 }
 
 /// What is wrong with the words.
@@ -34,10 +37,12 @@ pub enum Task {
 pub enum Wrong {
     /// What clap has to say, of `--help` too.
     Clap(Error),
-    /// The words at the options of `run` or `replay` mean nothing, or found no memory.
+    /// The words at the options of `run`, `replay` or `import` mean nothing, or found no memory.
     Options(WordsFault),
     /// Both traces of `compare` are standard input.
     BothStdin,
+    /// Both files of `import` are standard input.
+    OneInput,
 }
 
 impl From<Error> for Wrong {
@@ -215,11 +220,33 @@ fn compare_of(alloc: Global, found: &ArgMatches<'_>) -> Result<Task, Wrong>
     }
 }
 
-/// What the matches ask for: `run` with its options, `compare` with its traces and numbers, or
-/// `replay` with what it prints.
+/// An import, with what the words at its options mean.
 ///
 /// # Errors
-/// Those of [`run_of`], [`compare_of`] and [`replay_of`].
+/// [`Wrong::Options`] with those of [`import_of`]; [`Wrong::OneInput`] if both files are standard
+/// input.
+fn import_in(alloc: Global, found: &ArgMatches<'_>) -> Result<Task, Wrong>
+    ensures fit { IfOk result IsFit }
+    ensures meant { IfOk result (IsImportBy (rows_of (found_of found.now))) }
+    ensures refused { IfErr result (IsImportRefusedBy (rows_of (found_of found.now))) }
+{
+    match import_of(alloc, found) {
+        Err(fault) => Err(Wrong::Options(fault)),
+        Ok(import) => {
+            if shares_input(&import) {
+                Err(Wrong::OneInput)
+            } else {
+                Ok(Task::Import(import))
+            }
+        }
+    }
+}
+
+/// What the matches ask for: `run` with its options, `compare` with its traces and numbers,
+/// `import` with its files and options, or `replay` with what it prints.
+///
+/// # Errors
+/// Those of [`run_of`], [`compare_of`], [`import_in`] and [`replay_of`].
 fn task_of(alloc: Global, matches: &ArgMatches<'_>) -> Result<Task, Wrong>
     ensures fit { IfOk result IsFit }
     ensures named { IfOk result (IsTaskOf (subcommand_name_of matches.now)) }
@@ -232,6 +259,9 @@ fn task_of(alloc: Global, matches: &ArgMatches<'_>) -> Result<Task, Wrong>
     if let Some(found) = matches.subcommand_matches("compare") {
         return compare_of(alloc, found);
     }
+    if let Some(found) = matches.subcommand_matches("import") {
+        return import_in(alloc, found);
+    }
     match matches.subcommand_matches("replay") {
         Some(found) => replay_of(found),
         // There is no other command.
@@ -241,7 +271,8 @@ fn task_of(alloc: Global, matches: &ArgMatches<'_>) -> Result<Task, Wrong>
 
 /// What words ask for, of which the first is the program's name; or what is wrong with them: first
 /// what clap says of them, then of `run` and `replay` the part that a chart shows, of `run` the
-/// list of domains and the limit, of `compare` that standard input is for one of its traces.
+/// list of domains and the limit, of `compare` that standard input is for one of its traces, of
+/// `import` the part that counts, the limit, and that standard input is for one of its files.
 ///
 /// # Errors
 /// [`Wrong::Clap`]: what clap says, also where it is asked for help. Then those of [`task_of`].

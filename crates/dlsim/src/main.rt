@@ -1,19 +1,23 @@
 //! dlsim: a model of SCHED_DEADLINE that writes of a scenario, or of recorded calls, the switches
 //! as a trace, also with what happens between them, the jobs, a summary, or the calls with their
-//! replies; and that compares a trace with a recorded one.
+//! replies; that compares a trace with a recorded one; and that makes calls of a recording.
 //!
 //! The program has its words read (`command_line`), and calls [`dl_session::run`] or
 //! [`dl_session::replay_as`] with standard input and standard output, or
-//! [`dl_session::compare_texts`] with two files or one, and standard input. What it says on
-//! standard error then, and its exit status, are those of the [`Ending`] or the
-//! [`ComparisonEnding`].
+//! [`dl_session::compare_texts`], [`recording_import::import_recording`] or
+//! [`recording_import::import_jobs`] with two files or one, and standard input. What it says on
+//! standard error then, and its exit status, are those of the [`Ending`], the [`ComparisonEnding`]
+//! or the [`ImportEnding`].
 #![tactic(auto)]
 
+ghost use Rattle.command_line.specs.Importing.{IsImportable};
+
 use clap::error::ErrorKind as ClapKind;
-use command_line::{Comparison, Source, Task, Wrong, read_words};
+use command_line::{Comparison, ImportCommand, ImportPrint, Source, Task, Wrong, read_words};
 use dl_session::{
     AllPass, ComparisonEnding, Ending, TraceNames, WordsFault, compare_texts, replay_as, run,
 };
+use recording_import::{ImportEnding, InputNames, import_jobs, import_recording};
 use std::fs::{self, File};
 use std::io::{self, ErrorKind, Read, Stdin};
 use std::process::ExitCode;
@@ -31,6 +35,15 @@ fn end_with(rt: &HostRuntime, ending: &Ending<'_>) -> ExitCode {
 
 /// The same of the end of a comparison.
 fn end_comparison(rt: &HostRuntime, ending: &ComparisonEnding<'_>) -> ExitCode {
+    let _ = match ending.text(rt.alloc()) {
+        Ok(text) => rt.stderr().write_all(&text),
+        Err(_) => eprint!(rt; "{ending}"),
+    };
+    ExitCode::from(ending.status())
+}
+
+/// The same of the end of an import.
+fn end_import(rt: &HostRuntime, ending: &ImportEnding<'_>) -> ExitCode {
     let _ = match ending.text(rt.alloc()) {
         Ok(text) => rt.stderr().write_all(&text),
         Err(_) => eprint!(rt; "{ending}"),
@@ -67,6 +80,11 @@ impl Read for Given {
 /// Opens a trace's file, or tells that it was not opened.
 fn open_trace(rt: &HostRuntime, name: &str) -> Result<File, ExitCode> {
     fs::open(rt, name).map_err(|_| end_comparison(rt, &ComparisonEnding::NotOpened(name)))
+}
+
+/// Opens a file of an import, or says that it was not opened.
+fn open_input(rt: &HostRuntime, name: &str) -> Result<File, ExitCode> {
+    fs::open(rt, name).map_err(|_| end_import(rt, &ImportEnding::NotOpened(name)))
 }
 
 /// How a source is called where something is told of it.
@@ -118,12 +136,64 @@ fn compare(rt: &HostRuntime, comparison: &Comparison) -> Result<ExitCode, ExitCo
     }
 }
 
+/// Imports what two readers give, and writes what is asked for to standard output.
+fn import_readers<T: Read + Drop, R: Read + Drop>(
+    rt: &HostRuntime,
+    tasks: T,
+    recorded: R,
+    import: &ImportCommand,
+) -> ExitCode
+    requires { IsImportable import.now.options }
+{
+    let names = InputNames {
+        tasks: name_of(&import.tasks),
+        recorded: name_of(&import.recorded),
+    };
+    let alloc = rt.alloc();
+    let mut tasks = Counted::new(tasks);
+    let mut recorded = Counted::new(recorded);
+    let mut writer = Counted::new(rt.stdout());
+    let options = import.options;
+    let ended = match import.print {
+        ImportPrint::Calls => {
+            import_recording(alloc, &mut tasks, &mut recorded, &mut writer, options)
+        }
+        ImportPrint::Jobs => import_jobs(alloc, &mut tasks, &mut recorded, &mut writer, options),
+    };
+    end_import(rt, &ImportEnding::of(ended, &names))
+}
+
+/// Imports a recording; both files are opened before either is read, and standard input is looked
+/// at before a file is opened.
+fn import(rt: &HostRuntime, import: &ImportCommand) -> Result<ExitCode, ExitCode>
+    requires { IsImportable import.now.options }
+{
+    match (&import.tasks, &import.recorded) {
+        (Source::File(tasks), Source::File(recorded)) => {
+            let tasks = open_input(rt, tasks)?;
+            Ok(import_readers(rt, tasks, open_input(rt, recorded)?, import))
+        }
+        (Source::File(tasks), Source::Stdin) => {
+            let recorded = Given::new(rt.stdin());
+            let tasks = open_input(rt, tasks)?;
+            Ok(import_readers(rt, tasks, recorded, import))
+        }
+        (Source::Stdin, Source::File(recorded)) => {
+            let tasks = Given::new(rt.stdin());
+            let recorded = open_input(rt, recorded)?;
+            Ok(import_readers(rt, tasks, recorded, import))
+        }
+        (Source::Stdin, Source::Stdin) => Ok(end_import(rt, &ImportEnding::BothStdin)),
+    }
+}
+
 /// Tells what is wrong with the words. What clap has to say of `--help` goes to standard output,
 /// with status 0.
 fn refuse(rt: &HostRuntime, wrong: &Wrong) -> ExitCode {
     match wrong {
         Wrong::Options(fault) => end_with(rt, &Ending::Words(*fault)),
         Wrong::BothStdin => end_comparison(rt, &ComparisonEnding::BothStdin),
+        Wrong::OneInput => end_import(rt, &ImportEnding::BothStdin),
         Wrong::Clap(error) if error.kind() == ClapKind::OutOfMemory => {
             end_with(rt, &Ending::Words(WordsFault::Memory))
         }
@@ -152,6 +222,9 @@ fn main(rt: HostRuntime) -> ExitCode {
             end_with(&rt, &Ending::of_run(&ended))
         }
         Task::Compare(comparison) => match compare(&rt, &comparison) {
+            Ok(status) | Err(status) => status,
+        },
+        Task::Import(command) => match import(&rt, &command) {
             Ok(status) | Err(status) => status,
         },
     }

@@ -35,7 +35,7 @@ abbrev pub of_choice : Choice → Rule
 of_choice (Open name value default help) = option name.now default.now
 of_choice (Checked name value default test help) =
     record (option name.now default.now) { parser = Some test }
-of_choice (Tested name test help) = tested_option name.now test
+of_choice (Tested name value test help) = tested_option name.now test
 of_choice (Flag name help) = flag name.now
 of_choice (File name help) = file name.now
 

@@ -18,6 +18,7 @@ returns-clause-reading c =
     record {
       run = made.run;
       replay = made.replay;
+      import = made.import;
       are_held = made.are_held;
       found = IfOk-weaker parse.result _ _ (λ m has. (has (ap is_simple made.app)).1 ∙ ap (λ (a : App). subcommand_of a words) made.app) parse.ensures.matches;
       refused = subst (λ (a : App). FailsBy (fault_of a words) parse.result) made.app (parse.ensures.kinds (ap is_simple_and_free made.app));

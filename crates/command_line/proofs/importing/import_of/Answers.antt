@@ -1,0 +1,9 @@
+use Rattle.command_line.proofs.importing.import_of.Goals as goal
+
+pub returns-clause-found : goal.returns-clause-found
+returns-clause-found c = record {
+  tasks = record { text = c.text_of.result.now; at = c.text_of.ensures; is = c.in_ok-source_of.ensures };
+  recorded = record { text = c.text_of-2.result.now; at = c.text_of-2.ensures; is = c.in_ok-source_of-2.ensures };
+  options = c.in_ok-options.ensures.meant;
+  print = c.print_of.ensures;
+}
