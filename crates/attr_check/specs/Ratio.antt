@@ -1,9 +1,6 @@
 -- Bandwidth as a share of one CPU.
 use Rattle.std.specs.Prelude.{ℕ, ◌*◌, ◌/◌}
-
--- one microsecond of budget at rate one, and the whole of one CPU (own: the kernel's BW_UNIT, 2^20)
-abbrev pub unit : ℕ
-unit = 1048576
+use Rattle.limits.specs.Limits.{unit}
 
 -- runtime / period, rounded down to a whole number of units (sched-deadline.rst, "Bandwidth
 -- management"; the rounding is own)

@@ -15,6 +15,7 @@ mod refusal;
 
 pub use attr::SchedAttr;
 pub use checking::check;
+pub use limits::UNIT;
 pub use params::Params;
-pub use ratio::{UNIT, to_ratio};
+pub use ratio::to_ratio;
 pub use refusal::AttrRefusal;

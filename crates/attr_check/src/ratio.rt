@@ -1,8 +1,7 @@
 ghost use Rattle.std.specs.Prelude.{◌≡◌, ◌<◌, ◌≤◌};
 ghost use Rattle.attr_check.specs.Ratio.{ratio};
 
-/// One microsecond of budget at rate one, and the bandwidth of one whole CPU.
-pub const UNIT: u64 = 1048576;
+use limits::UNIT;
 
 /// The bandwidth of a runtime in each period, in units of 1/2^20, rounded down. Runtime and period
 /// have one unit of time, which does not matter.

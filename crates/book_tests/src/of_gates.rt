@@ -1,5 +1,5 @@
 ghost use Rattle.std.specs.Prelude.{◌≡◌, ◌<◌, ◌≤◌, length, All, IfOk};
-ghost use Rattle.bw_world.specs.WorldStep.{unit};
+ghost use Rattle.limits.specs.Limits.{unit};
 ghost use Rattle.bw_gate.specs.Word.{IsLimit};
 ghost use Rattle.bw_gate.specs.Pieces.{cpus_of};
 

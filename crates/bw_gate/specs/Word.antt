@@ -2,6 +2,7 @@
 -- 2^26.
 use Rattle.std.specs.Prelude.{ℕ, ◌≡◌, ◌≤◌, ◌+◌, ◌*◌, ◌/◌, ◌%◌, ◌^◌}
 use Rattle.bw_gate.specs.declared.terms.Room.{Room}
+use Rattle.limits.specs.Limits.{unit, least_limit}
 
 -- what is used, and the cap that the word carries
 abbrev pub used_of : ℕ → ℕ
@@ -18,8 +19,8 @@ word_of cap used = cap * 2 ^ 32 + used
 -- sched_rt_runtime_us to sched_rt_period_us (sched-deadline.rst, "System wide settings"); the least
 -- is our own, a hundredth of a CPU
 pub record IsLimit (limit : ℕ) : Type 0 where
-  pub least : 10485 ≤ limit
-  pub most : limit ≤ 1048576
+  pub least : least_limit ≤ limit
+  pub most : limit ≤ unit
 
 -- a cap that so many CPUs can have: so many times some limit
 pub record IsCap (cpus cap : ℕ) : Type 0 where

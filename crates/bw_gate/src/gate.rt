@@ -48,7 +48,7 @@ impl Model for Gate {
 
 impl Gate {
     ghost use Rattle.std.specs.Prelude.{◌≡◌, ◌<◌, ◌≤◌, ◌+◌, ◌^◌, [], ℕ, length, replicate, slice_index, All, IfOk};
-    ghost use Rattle.bw_world.specs.WorldStep.{unit};
+    ghost use Rattle.limits.specs.Limits.{unit};
     ghost use Rattle.bw_gate.specs.Terms.{AreRooms, terms_of};
     ghost use Rattle.bw_gate.specs.Word.{used_of as used_part, IsCap};
     ghost use Rattle.bw_gate.specs.Pieces.{cpus_of, bw_of_tickets};

@@ -42,7 +42,7 @@ pub struct Ticket {
 
 impl Model for Ticket {
     ghost use Rattle.std.specs.Prelude.{◌≡◌, ◌<◌, ◌≤◌, [], ◌∷◌, length};
-    ghost use Rattle.bw_world.specs.WorldStep.{unit};
+    ghost use Rattle.limits.specs.Limits.{unit};
     ghost use Rattle.bw_gate.specs.Pieces.{TicketView, last_word_found};
     ghost use Rattle.bw_gate.specs.declared.view.Piece.TheVariants.{Ticket as ticket};
 
@@ -77,7 +77,7 @@ impl Blank {
 
 impl Ticket {
     ghost use Rattle.std.specs.Prelude.{◌≡◌, ◌<◌, ◌≤◌, length};
-    ghost use Rattle.bw_world.specs.WorldStep.{unit};
+    ghost use Rattle.limits.specs.Limits.{unit};
     ghost use Rattle.bw_gate.specs.Pieces.{last_word_found};
 
     /// The domain of whose word it holds bandwidth, by its index from 0.

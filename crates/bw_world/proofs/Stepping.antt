@@ -11,7 +11,8 @@ use Rattle.bw_world.specs.declared.step.Word.{Word}
 use Rattle.bw_world.specs.declared.step.Step.TheVariants.{Take, Limit}
 use Rattle.bw_world.specs.WorldView.{DomainView}
 use Rattle.bw_world.specs.DomainStep.{DomainStep, is_live_in, limited, taken}
-use Rattle.bw_world.specs.WorldStep.{WorldStep, misfit, unit, is_live, at_found, at_place, at_home, at_domain, stepped}
+use Rattle.bw_world.specs.WorldStep.{WorldStep, misfit, is_live, at_found, at_place, at_home, at_domain, stepped}
+use Rattle.limits.specs.Limits.{unit}
 
 -- what a step of a domain makes of the list
 abbrev pub written : List DomainView → ℕ → DomainStep → WorldStep

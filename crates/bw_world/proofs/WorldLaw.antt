@@ -17,7 +17,8 @@ use Rattle.bw_world.specs.declared.ticket.Ticket.{Ticket}
 use Rattle.bw_world.specs.declared.ticket.Task.{Task}
 use Rattle.bw_world.specs.WorldView.{DomainView}
 use Rattle.bw_world.specs.DomainStep.{DomainStep, unused_domain, is_live_in, loaded, taken, regraded, given, entered, released, limited}
-use Rattle.bw_world.specs.WorldStep.{unit, may_take, may_move, is_live, at_found, at_place, at_home, stepped, after_steps, outcomes_of}
+use Rattle.bw_world.specs.WorldStep.{may_take, may_move, is_live, at_found, at_place, at_home, stepped, after_steps, outcomes_of}
+use Rattle.limits.specs.Limits.{unit}
 use Rattle.bw_world.specs.Growing.{IsGrowing, IsGrowingAt}
 use Rattle.bw_world.specs.ExactWord.{IsExactDomain, IsExact, live_in, live}
 use Rattle.bw_world.proofs.Counted.{one_if, none_counted}

@@ -9,10 +9,7 @@ use Rattle.bw_world.specs.declared.ticket.Ticket.{Ticket}
 use Rattle.bw_world.specs.declared.ticket.Task.{Task}
 use Rattle.bw_world.specs.WorldView.{DomainView, WorldView}
 use Rattle.bw_world.specs.DomainStep.{DomainStep, unused_domain, in_hand_of, admitted_of, is_admitted, is_live_in, loaded, taken, regraded, given, entered, released, limited}
-
--- one whole CPU, the most that one ticket is taken for
-abbrev pub unit : ℕ
-unit = 1048576
+use Rattle.limits.specs.Limits.{unit}
 
 -- a world before its first step
 abbrev pub opened_world : List ℕ → WorldView

@@ -7,7 +7,8 @@ ghost use Rattle.bw_world.specs.WorldStep.{is_live, stepped};
 ghost use Rattle.bw_world.specs.Growing.{lengthens, IsGrowing};
 
 use crate::domain::Domain;
-use crate::step::{Outcome, Step, UNIT, WIDEST, Word};
+use crate::step::{Outcome, Step, WIDEST, Word};
+use limits::UNIT;
 use no_memory::NoMemory;
 use std::mem;
 

@@ -16,6 +16,7 @@ mod ticket;
 mod world;
 
 pub use book::Change;
+pub use limits::UNIT;
 pub use no_memory::NoMemory;
-pub use step::{Outcome, Step, UNIT, WIDEST, Word};
+pub use step::{Outcome, Step, WIDEST, Word};
 pub use world::World;

@@ -1,7 +1,3 @@
-/// The bandwidth of one whole CPU, 2^20 (own: the kernel's BW_UNIT): the most that one ticket is
-/// taken for.
-pub const UNIT: u64 = 1048576;
-
 /// The most that the cap of a word may be changed to: 2^26, which is 64 whole CPUs.
 pub const WIDEST: u64 = 67108864;
 

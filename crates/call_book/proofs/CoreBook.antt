@@ -268,16 +268,16 @@ moves_as_the_core out into old new a ticket back c e apart from_is to_is step bw
     let h : Held = record { number = number; ticket = back } in
     let taken = step.taken in
     let same : back.bw ≡ ticket.bw = step.bw ∙ sym bw in
-    let is : c.admitted ≡ map (core_task out) (taken.before ++ h ∷ taken.behind) = core_c ∙ ap (map (core_task out)) taken.old_tickets in
-    let n : Numbered (taken.before ++ h ∷ taken.behind) = subst Numbered taken.old_tickets (book_numbered old.from from_is) in
+    let is : c.admitted ≡ map (core_task out) (taken.before ++ h ∷ taken.following) = core_c ∙ ap (map (core_task out)) taken.old_tickets in
+    let n : Numbered (taken.before ++ h ∷ taken.following) = subst Numbered taken.old_tickets (book_numbered old.from from_is) in
     let granted = granted_is (state_of old.to) number a.params (sym step.came.lawful) in
     let absent = is_absent into old.to number e to_is core_e granted.fresh in
-    let there = ap (find (λ (t : Task). eqb t.ticket (out number))) is ∙ found out apart taken.before h taken.behind (others_front taken.before h taken.behind n) in
+    let there = ap (find (λ (t : Task). eqb t.ticket (out number))) is ∙ found out apart taken.before h taken.following (others_front taken.before h taken.following n) in
     record {
       fits = ap (λ (o : Option Task). fits_found number e o (in_hand_of (into number) e)) there
           ∙ ap (fits_found number e (Some (core_task out h))) hand
           ∙ all_three (eqb number number) (eqb back.bw ticket.bw) (list_any (λ (t : Task). eqb t.number number) e.admitted) (eq-eqb number number refl) (eq-eqb back.bw ticket.bw same) absent;
       leaves = subst (λ (hs : List Held). ReleasesTask out number ticket.bw hs c) (sym taken.new_tickets)
-          (subst (λ (k : ℕ). ReleasesTask out number k (taken.before ++ taken.behind) c) same (releases out apart taken.before h taken.behind c is n));
+          (subst (λ (k : ℕ). ReleasesTask out number k (taken.before ++ taken.following) c) same (releases out apart taken.before h taken.following c is n));
       comes = enters into number ticket old.to.tickets new.to.tickets e step.held core_e absent hand;
     }

@@ -20,36 +20,36 @@ use Rattle.call_book.specs.private.Ended.{IsEnding}
 use Rattle.call_book.proofs.Sifting.{advance_grows}
 
 -- what is left of a domain has its tasks, its CPUs and its limit
-left_tasks : (heard : Bool) (d : Domain) → (left_of heard d).tasks ≡ d.tasks
+left_tasks : (streamed : Bool) (d : Domain) → (left_of streamed d).tasks ≡ d.tasks
 left_tasks true d = refl
 left_tasks false d = refl
 
-left_cpus : (heard : Bool) (d : Domain) → (left_of heard d).cpus ≡ d.cpus
+left_cpus : (streamed : Bool) (d : Domain) → (left_of streamed d).cpus ≡ d.cpus
 left_cpus true d = refl
 left_cpus false d = refl
 
-left_limit : (heard : Bool) (d : Domain) → (left_of heard d).limit ≡ d.limit
+left_limit : (streamed : Bool) (d : Domain) → (left_of streamed d).limit ≡ d.limit
 left_limit true d = refl
 left_limit false d = refl
 
-pub tasks_left : (b : BookView) (heard : Bool) (state : Domain) → IsEnding b heard state → state.tasks ≡ (state_of b).tasks
-tasks_left b heard state is = ap (λ (d : Domain). d.tasks) is.left ∙ left_tasks heard (state_of b)
+pub tasks_left : (b : BookView) (streamed : Bool) (state : Domain) → IsEnding b streamed state → state.tasks ≡ (state_of b).tasks
+tasks_left b streamed state is = ap (λ (d : Domain). d.tasks) is.left ∙ left_tasks streamed (state_of b)
 
-pub holds_left : (b : BookView) (heard : Bool) (state : Domain) → IsEnding b heard state → HoldsTickets state b.tickets
-holds_left b heard state is = is.kept.held ∙ ap keys (sym (tasks_left b heard state is))
+pub holds_left : (b : BookView) (streamed : Bool) (state : Domain) → IsEnding b streamed state → HoldsTickets state b.tickets
+holds_left b streamed state is = is.kept.held ∙ ap keys (sym (tasks_left b streamed state is))
 
-pub machine_left : (b : BookView) (heard : Bool) (state : Domain) → IsEnding b heard state → (state.cpus ≡ b.cpus) × IsLimit state.limit
-machine_left b heard state is = (
-  ap (λ (d : Domain). d.cpus) is.left ∙ left_cpus heard (state_of b) ∙ is.kept.machine.0,
-  subst IsLimit (sym (ap (λ (d : Domain). d.limit) is.left ∙ left_limit heard (state_of b))) is.kept.machine.1,
+pub machine_left : (b : BookView) (streamed : Bool) (state : Domain) → IsEnding b streamed state → (state.cpus ≡ b.cpus) × IsLimit state.limit
+machine_left b streamed state is = (
+  ap (λ (d : Domain). d.cpus) is.left ∙ left_cpus streamed (state_of b) ∙ is.kept.machine.0,
+  subst IsLimit (sym (ap (λ (d : Domain). d.limit) is.left ∙ left_limit streamed (state_of b))) is.kept.machine.1,
 )
 
--- before anything was heard
-pub run_unheard : (b : BookView) (heard : Bool) (state : Domain) → IsEnding b heard state → heard ≡ false → state ≡ state_of b
-run_unheard b heard state is none = is.left ∙ ap (λ (h : Bool). left_of h (state_of b)) none
+-- before anything was streamed
+pub run_unstreamed : (b : BookView) (streamed : Bool) (state : Domain) → IsEnding b streamed state → streamed ≡ false → state ≡ state_of b
+run_unstreamed b streamed state is none = is.left ∙ ap (λ (h : Bool). left_of h (state_of b)) none
 
-pub book_unheard : (b : BookView) (heard : Bool) (state : Domain) → IsEnding b heard state → heard ≡ false → IsBook b state
-book_unheard b heard state is none = subst (IsBook b) (sym (run_unheard b heard state is none)) is.kept
+pub book_unstreamed : (b : BookView) (streamed : Bool) (state : Domain) → IsEnding b streamed state → streamed ≡ false → IsBook b state
+book_unstreamed b streamed state is none = subst (IsBook b) (sym (run_unstreamed b streamed state is none)) is.kept
 
 -- ---- the last advance: the ticks of the domain, and what is left of it then
 
@@ -65,8 +65,8 @@ pub given_alike : (s t : StockView) (next state : Domain) → state ≡ without_
     → (given : List BlankView) × (t.blanks ≡ s.blanks ++ given) × AreGiven (filter (is_gone next) s.tickets) given
 given_alike s t next state left given = subst (λ (d : Domain). (given : List BlankView) × (t.blanks ≡ s.blanks ++ given) × AreGiven (filter (is_gone d) s.tickets) given) left given
 
-pub heard_grows : (cpus limit workers : ℕ) (left : Option ℕ) (l grown : LedgerView) (s t : StockView) (d state : Domain) (k : ℕ) (p : PassView Entry) → IsBook (book_of cpus limit workers left l s) d
+pub streamed_grows : (cpus limit workers : ℕ) (left : Option ℕ) (l grown : LedgerView) (s t : StockView) (d state : Domain) (k : ℕ) (p : PassView Entry) → IsBook (book_of cpus limit workers left l s) d
     → grown ≡ record l { history = l.history ++ entry_by p (Call.Advance k) (Reply.Done k) ∷ [] } → state ≡ without_switches (ticks k d) → AreKept d.tasks state.tasks
     → t ≡ record s { tickets = filter (is_kept state) s.tickets; blanks = t.blanks } → k ≤ 60000000 → IsBook (book_of cpus limit workers left grown t) (ticks k d)
-heard_grows cpus limit workers left l grown s t d state k p is more becomes kept swept few =
+streamed_grows cpus limit workers left l grown s t d state k p is more becomes kept swept few =
     advance_grows cpus limit workers left l grown s t d (ticks k d) k p is more refl (subst (λ (x : Domain). AreKept d.tasks x.tasks) becomes kept) (swept_alike s t (ticks k d) state becomes swept) few

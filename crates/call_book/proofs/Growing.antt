@@ -47,8 +47,9 @@ run_grows cpus limit history e state next run becomes =
     let calls_more : calls_of (history ++ e ∷ []) ≡ calls_of history ++ e.call ∷ [] = map-append (λ (x : Entry). x.call) history (e ∷ []) in
     becomes ∙ ap (λ (d : Domain). after_call d e.call) run ∙ sym (after_calls_push start (calls_of history) e.call) ∙ ap (after_calls start) (sym calls_more)
 
--- The one lemma for every call: before it a book, the reply and the new state of the definition, tickets for the tasks that are
--- listed then, the word that was left, and not too many ticks; with its entry a book again.
+-- The one lemma for every call: before it a book, the reply and the new state of the definition,
+-- tickets for the tasks that are listed then, the word that was left, and not too many ticks; with
+-- its entry a book again.
 pub book_goes_on : (cpus limit workers : ℕ) (left after : Option ℕ) (l grown : LedgerView) (s t : StockView) (state next : Domain) (e : Entry) → IsBook (book_of cpus limit workers left l s) state
     → grown ≡ record l { history = l.history ++ e ∷ [] } → t ≡ record s { tickets = t.tickets; blanks = t.blanks }
     → IsLimit next.limit → HasItsLimit (book_of cpus limit workers after (record l { history = l.history ++ e ∷ [] }) t)

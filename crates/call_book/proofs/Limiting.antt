@@ -63,7 +63,7 @@ set_answer cpus domain limit blank back machine asked =
 
 -- and so has one that was refused
 pub busy_answer : (cpus domain limit : ℕ) (blank back : BlankView) (seen used : ℕ) → cpus_of blank.gate domain ≡ cpus → IsLimited blank domain limit (gate.Refused back seen) → used ≡ used_of seen → AsksForLimit cpus domain limit blank back (Some used) × (used ≤ cpus_of blank.gate domain * 1048576)
-busy_answer cpus domain limit blank back seen used machine asked told =
+busy_answer cpus domain limit blank back seen used machine asked logged =
     let words = words_of asked.races in
     let h = asked.last in
     let before = blank.found ++ found_in domain words in
@@ -73,10 +73,10 @@ busy_answer cpus domain limit blank back seen used machine asked told =
     let over : cap_by blank.gate domain limit < used_of seen = h.over in (
       record {
         asked = subst (λ (n : ℕ). IsLimited blank domain limit (gate.Refused back n)) (sym last) asked;
-        answer = (ap used_of last ∙ sym told, omega (arith, told, caps, over));
+        answer = (ap used_of last ∙ sym logged, omega (arith, logged, caps, over));
         own = ap (λ (x : BlankView). x.gate) h.blank;
       },
-      used_within (cpus_of blank.gate domain) seen used h.word (sym told),
+      used_within (cpus_of blank.gate domain) seen used h.word (sym logged),
     )
 
 -- ---- replies
@@ -120,16 +120,16 @@ pub not_refused : (d : Domain) (limit : ℕ) (word : Option ℕ) (reply : Reply)
 not_refused d limit word reply is not = either d limit word (ltb (cap d.cpus limit) (sum_of d.tasks)) (λ seen e. not seen (is ∙ e))
 
 -- the number of a refusal
-abbrev told_number : Reply → ℕ
-told_number (replies.Busy seen) = seen
-told_number r = 0
+abbrev logged_number : Reply → ℕ
+logged_number (replies.Busy seen) = seen
+logged_number r = 0
 
 same_number : (a b : ℕ) → replies.Busy a ≡ replies.Busy b → a ≡ b
-same_number a b e = ap told_number e
+same_number a b e = ap logged_number e
 
 -- ---- the book
 
--- where the limit is set, the blank was told so
+-- where the limit is set, the blank was logged so
 pub is_set : (state : Domain) (id : GateId) (domain limit : ℕ) (blank back : BlankView) (word : Option ℕ) → IsLimitAsked state id domain limit blank back word → limit_reply state limit word ≡ replies.Set
     → (word ≡ None) × (limit_reply state limit None ≡ replies.Set) × AsksForLimit state.cpus domain limit blank back None
 is_set state id domain limit blank back None (inl a) set = (refl, a.0, a.1)
@@ -248,8 +248,8 @@ limit_busy_answer b cpus limit workers left l grown s state next wanted blank ba
     let more_used = more ∙ ap (λ (n : ℕ). record l { history = l.history ++ entry_by p (Call.Limit wanted (Some used)) (replies.Busy n) ∷ [] }) same in
     let made_used = made ∙ ap (λ (n : ℕ). with_entry p (Call.Limit wanted (Some used)) (replies.Busy n)) same in
     let whole = by_the_word cpus limit workers left l grown s state next wanted blank back used p q is room more_used made_used a.0 a.1 becomes in
-    let told : IsBusyByWord (book_of cpus limit workers left l s) new p q wanted blank back seen = subst (λ (n : ℕ). IsBusyByWord (book_of cpus limit workers left l s) new p q wanted blank back n) (sym same) whole in
-    inr (subst (λ (x : BookView). IsBusyByWord x new p q wanted blank back seen) view told)
+    let logged : IsBusyByWord (book_of cpus limit workers left l s) new p q wanted blank back seen = subst (λ (n : ℕ). IsBusyByWord (book_of cpus limit workers left l s) new p q wanted blank back n) (sym same) whole in
+    inr (subst (λ (x : BookView). IsBusyByWord x new p q wanted blank back seen) view logged)
 limit_busy_answer b cpus limit workers left l grown s state next wanted blank back (Some used) seen p q view is room more made (inr a) lawful becomes = absurd (let e = a.1 in cc)
 limit_busy_answer b cpus limit workers left l grown s state next wanted blank back None seen p q view is room more made (inr a) lawful becomes =
     let new = book_of cpus limit workers left grown s in
@@ -270,7 +270,7 @@ set_state state next wanted word becomes set = becomes ∙ ap (λ (r : Reply). c
 
 -- ---- the domain is one of the gate's
 
--- what a blank was told of the domain of a book's own gate
+-- what a blank was logged of the domain of a book's own gate
 pub asked_of_book : (state : Domain) (id own : GateId) (domain place wanted : ℕ) (blank back : BlankView) (word : Option ℕ) → id ≡ own → domain ≡ place → IsLimitAsked state id domain wanted blank back word → IsLimitAsked state own place wanted blank back word
 asked_of_book state id own domain place wanted blank back word same there asked =
     subst (λ (d : ℕ). IsLimitAsked state own d wanted blank back word) there (subst (λ (i : GateId). IsLimitAsked state i domain wanted blank back word) same asked)

@@ -11,12 +11,12 @@ use Rattle.domain_run.specs.Coming.{switches_to_come}
 use Rattle.domain_run.specs.declared.happened.Happened.{Happened}
 use Rattle.domain_run.specs.Domain.{Domain}
 use Rattle.domain_run.specs.Keys.{AreKept}
-use Rattle.domain_run.specs.Logged.{IsToldUntil}
+use Rattle.domain_run.specs.LoggedRun.{IsLoggedUntil}
 use Rattle.domain_run.specs.Passing.{with_past, without_switches}
 use Rattle.domain_run.specs.Sound.{IsDomain}
 use Rattle.domain_run.specs.Switch.{Switch}
 use Rattle.domain_run.specs.Tick.{ticks}
-use Rattle.domain_run.proofs.CallerLemmas.{AreNumbered, kept_itself, kept_listed, ticks_kept, ticks_behind, ticks_time, ticks_then, to_come_after, view_where_listed}
+use Rattle.domain_run.proofs.CallerLemmas.{AreNumbered, kept_itself, kept_listed, ticks_kept, ticks_after, ticks_time, ticks_then, to_come_after, view_where_listed}
 use Rattle.calls_text.specs.declared.section.Entry.{Entry}
 use Rattle.call_book.specs.declared.book.stock.Held.{Held}
 use Rattle.call_book.specs.Pieces.{is_kept, is_gone, AreGiven}
@@ -34,14 +34,14 @@ use Rattle.call_book.proofs.Ended.{swept_alike, given_alike}
 
 -- ---- ticks, and the switches so far
 
-bare_left : (heard : Bool) (d : Domain) → without_switches (left_of heard d) ≡ without_switches d
+bare_left : (streamed : Bool) (d : Domain) → without_switches (left_of streamed d) ≡ without_switches d
 bare_left true d = refl
 bare_left false d = refl
 
 bare_ticks : (n : ℕ) (d : Domain) → without_switches (ticks n d) ≡ without_switches (ticks n (without_switches d))
 bare_ticks n d =
     let past : with_past d.switches (without_switches d) ≡ d = ap (λ (ss : List Switch). record d { switches = ss }) (append-nil d.switches) in
-    ap (λ (e : Domain). without_switches (ticks n e)) (sym past) ∙ ap without_switches (ticks_behind n d.switches (without_switches d))
+    ap (λ (e : Domain). without_switches (ticks n e)) (sym past) ∙ ap without_switches (ticks_after n d.switches (without_switches d))
 
 alike_ticks : (n : ℕ) (d e : Domain) → without_switches d ≡ without_switches e → without_switches (ticks n d) ≡ without_switches (ticks n e)
 alike_ticks n d e alike = bare_ticks n d ∙ ap (λ (x : Domain). without_switches (ticks n x)) alike ∙ sym (bare_ticks n e)
@@ -98,7 +98,7 @@ other_blanks b d blanks is = record {
 
 -- a book whose log is empty
 abbrev pub play_of : BookView → Domain → ℕ → PlayingView
-play_of b at left = record { book = b; at = at; left = left; logs = false; told = [] }
+play_of b at left = record { book = b; at = at; left = left; logs = false; logged = [] }
 
 -- if nothing is left and no switch is forgotten, the domain is the run of the history
 pub at_run : (b : BookView) (at : Domain) → LeadsOn b at 0 → HasWholeRun (play_of b at 0) → at ≡ state_of b
@@ -107,10 +107,10 @@ at_run b at is whole =
     let switches : at.switches ≡ d.switches = sym (append-nil at.switches) ∙ whole in
     ap (λ (x : Domain). record x { switches = at.switches }) is.leads ∙ ap (λ (ss : List Switch). record d { switches = ss }) switches
 
-pub playing_from : (b : BookView) (heard : Bool) (state : Domain) → IsEnding b heard state → IsDomain state → LeadsOn b state 0
-playing_from b heard state is domain = record {
+pub playing_from : (b : BookView) (streamed : Bool) (state : Domain) → IsEnding b streamed state → IsDomain state → LeadsOn b state 0
+playing_from b streamed state is domain = record {
   will_be = sifted_book b (state_of b) is.kept;
-  leads = ap without_switches is.left ∙ bare_left heard (state_of b);
+  leads = ap without_switches is.left ∙ bare_left streamed (state_of b);
   early = omega (arith, domain.steady.early);
 }
 
@@ -188,8 +188,8 @@ some_made n left d e is full none some = elim (cases_lt left n) [ inl less ↦ l
         omega (arith, full (omega (arith, some, most)), ap (λ (ss : List Switch). length ss) empty)
 
 -- what waits in the log, of another domain at the same time
-pub until_same : (d e : Domain) (hs gs : List Happened) → e.time ≡ d.time → gs ≡ hs → All (IsToldUntil d.time) hs → All (IsToldUntil e.time) gs
-until_same d e hs gs time same all = subst (λ (t : ℕ). All (IsToldUntil t) gs) (sym time) (subst (All (IsToldUntil d.time)) (sym same) all)
+pub until_same : (d e : Domain) (hs gs : List Happened) → e.time ≡ d.time → gs ≡ hs → All (IsLoggedUntil d.time) hs → All (IsLoggedUntil e.time) gs
+until_same d e hs gs time same all = subst (λ (t : ℕ). All (IsLoggedUntil t) gs) (sym time) (subst (All (IsLoggedUntil d.time)) (sym same) all)
 
 -- and some switches fewer
 pub playing_after : (b : BookView) (at other : Domain) (left : ℕ) → LeadsOn b at left

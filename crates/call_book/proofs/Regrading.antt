@@ -30,7 +30,7 @@ use Rattle.call_book.specs.private.Ledger.{LedgerView}
 use Rattle.call_book.specs.private.Stock.{StockView}
 use Rattle.call_book.specs.private.Kept.{book_of, IsBook, IsRegradeAsked}
 use Rattle.call_book.proofs.Growing.{book_grows}
-use Rattle.call_book.proofs.Asking.{all_behind}
+use Rattle.call_book.proofs.Asking.{all_after}
 
 -- ---- a task that is listed has a ticket
 
@@ -81,12 +81,12 @@ none_at : (number : ℕ) (front : List (ℕ × ℕ)) (k : ℕ × ℕ) (bs : List
 none_at number [] k bs none = none.0
 none_at number (a ∷ front) k bs none = none_at number front k bs none.1
 
-with_bw_one : (number was bw : ℕ) (front behind : List (ℕ × ℕ)) → AreApart (front ++ (number, was) ∷ behind) → map (key_with_bw number bw) (front ++ (number, was) ∷ behind) ≡ front ++ (number, bw) ∷ behind
-with_bw_one number was bw [] behind apart =
-    ap (λ (b : Bool). cond b (number, bw) (number, was) ∷ map (key_with_bw number bw) behind) (eq-eqb number number refl) ∙ ap (λ (xs : List (ℕ × ℕ)). (number, bw) ∷ xs) (with_bw_none number bw behind apart.0)
-with_bw_one number was bw (a ∷ front) behind apart =
-    let differ = none_at a.0 front (number, was) behind apart.0 in
-    ap (λ (b : Bool). cond b (a.0, bw) a ∷ map (key_with_bw number bw) (front ++ (number, was) ∷ behind)) (not_equal a.0 number (λ e. differ (sym e))) ∙ ap (λ (xs : List (ℕ × ℕ)). a ∷ xs) (with_bw_one number was bw front behind apart.1)
+with_bw_one : (number was bw : ℕ) (front following : List (ℕ × ℕ)) → AreApart (front ++ (number, was) ∷ following) → map (key_with_bw number bw) (front ++ (number, was) ∷ following) ≡ front ++ (number, bw) ∷ following
+with_bw_one number was bw [] following apart =
+    ap (λ (b : Bool). cond b (number, bw) (number, was) ∷ map (key_with_bw number bw) following) (eq-eqb number number refl) ∙ ap (λ (xs : List (ℕ × ℕ)). (number, bw) ∷ xs) (with_bw_none number bw following apart.0)
+with_bw_one number was bw (a ∷ front) following apart =
+    let differ = none_at a.0 front (number, was) following apart.0 in
+    ap (λ (b : Bool). cond b (a.0, bw) a ∷ map (key_with_bw number bw) (front ++ (number, was) ∷ following)) (not_equal a.0 number (λ e. differ (sym e))) ∙ ap (λ (xs : List (ℕ × ℕ)). a ∷ xs) (with_bw_one number was bw front following apart.1)
 
 -- where the word has room, the ticket's key has the new bandwidth
 asked_keys : (number bw : ℕ) (old new : List Held) → AsksTheWord number bw old new None → AreApart (map held_key old) → map held_key new ≡ map (key_with_bw number bw) (map held_key old)
@@ -94,10 +94,10 @@ asked_keys number bw old new asked apart =
     let x : Held = record { number = number; ticket = asked.was } in
     let y : Held = record { number = number; ticket = asked.becomes } in
     let front = map held_key asked.before in
-    let behind = map held_key asked.behind in
-    let was : map held_key old ≡ front ++ (number, asked.was.bw) ∷ behind = ap (map held_key) asked.old_tickets ∙ map-append held_key asked.before (x ∷ asked.behind) in
-    let is : map held_key new ≡ front ++ (number, asked.becomes.bw) ∷ behind = ap (map held_key) asked.new_tickets ∙ map-append held_key asked.before (y ∷ asked.behind) in
-    is ∙ ap (λ (n : ℕ). front ++ (number, n) ∷ behind) asked.answered.answer ∙ sym (with_bw_one number asked.was.bw bw front behind (subst AreApart was apart)) ∙ ap (map (key_with_bw number bw)) (sym was)
+    let following = map held_key asked.following in
+    let was : map held_key old ≡ front ++ (number, asked.was.bw) ∷ following = ap (map held_key) asked.old_tickets ∙ map-append held_key asked.before (x ∷ asked.following) in
+    let is : map held_key new ≡ front ++ (number, asked.becomes.bw) ∷ following = ap (map held_key) asked.new_tickets ∙ map-append held_key asked.before (y ∷ asked.following) in
+    is ∙ ap (λ (n : ℕ). front ++ (number, n) ∷ following) asked.answered.answer ∙ sym (with_bw_one number asked.was.bw bw front following (subst AreApart was apart)) ∙ ap (map (key_with_bw number bw)) (sym was)
 
 -- where it has none, the keys stay
 refused_keys : (number bw seen : ℕ) (old new : List Held) → AsksTheWord number bw old new (Some seen) → map held_key new ≡ map held_key old
@@ -105,10 +105,10 @@ refused_keys number bw seen old new asked =
     let x : Held = record { number = number; ticket = asked.was } in
     let y : Held = record { number = number; ticket = asked.becomes } in
     let front = map held_key asked.before in
-    let behind = map held_key asked.behind in
-    let was : map held_key old ≡ front ++ (number, asked.was.bw) ∷ behind = ap (map held_key) asked.old_tickets ∙ map-append held_key asked.before (x ∷ asked.behind) in
-    let is : map held_key new ≡ front ++ (number, asked.becomes.bw) ∷ behind = ap (map held_key) asked.new_tickets ∙ map-append held_key asked.before (y ∷ asked.behind) in
-    is ∙ ap (λ (n : ℕ). front ++ (number, n) ∷ behind) asked.answered.answer.0 ∙ sym was
+    let following = map held_key asked.following in
+    let was : map held_key old ≡ front ++ (number, asked.was.bw) ∷ following = ap (map held_key) asked.old_tickets ∙ map-append held_key asked.before (x ∷ asked.following) in
+    let is : map held_key new ≡ front ++ (number, asked.becomes.bw) ∷ following = ap (map held_key) asked.new_tickets ∙ map-append held_key asked.before (y ∷ asked.following) in
+    is ∙ ap (λ (n : ℕ). front ++ (number, n) ∷ following) asked.answered.answer.0 ∙ sym was
 
 -- what is used of a word is at most what its CPUs have
 pub used_within : (cpus word used : ℕ) → IsWord cpus word → used_of word ≡ used → used ≤ cpus * 1048576
@@ -122,7 +122,7 @@ asked_within gate domain number bw old new None asked all = tt
 asked_within gate domain number bw old new (Some seen) asked all =
     let P : Held → Type 0 = λ h. IsTicketOf gate domain h.ticket in
     let x : Held = record { number = number; ticket = asked.was } in
-    let tail : All P (x ∷ asked.behind) = all_behind P asked.before (x ∷ asked.behind) (subst (All P) asked.old_tickets all) in
+    let tail : All P (x ∷ asked.following) = all_after P asked.before (x ∷ asked.following) (subst (All P) asked.old_tickets all) in
     let was : IsTicketOf gate domain asked.was = tail 0 x (omega arith) in
     let answer = asked.answered.answer in
     let within = used_within (cpus_of asked.was.gate asked.was.domain) (word_at asked.becomes) seen answer.2 answer.1 in

@@ -26,21 +26,21 @@ given_push [] (y ∷ blanks) h b are give = absurd are
 given_push (x ∷ tickets) [] h b are give = absurd are
 given_push (x ∷ tickets) (y ∷ blanks) h b are give = (are.0, given_push tickets blanks h b are.1 give)
 
--- the tickets before a place stay, those behind it are still to be looked at
+-- the tickets before a place stay, those after it are still to be looked at
 pub record IsSwept (kept : Held → Bool) (all : List Held) (first : List BlankView) (items : List Held) (place : ℕ) (blanks : List BlankView) : Type 0 where
   pub front : List Held
-  pub behind : List Held
+  pub following : List Held
   pub gone : List Held
   pub given : List BlankView
-  pub items_are : items ≡ front ++ behind
+  pub items_are : items ≡ front ++ following
   pub place_is : length front ≡ place
-  pub kept_are : front ++ filter kept behind ≡ filter kept all
-  pub gone_are : gone ++ gone_by kept behind ≡ gone_by kept all
+  pub kept_are : front ++ filter kept following ≡ filter kept all
+  pub gone_are : gone ++ gone_by kept following ≡ gone_by kept all
   pub blanks_are : blanks ≡ first ++ given
   pub are_given : AreGiven gone given
 
 pub swept_none : (kept : Held → Bool) (all : List Held) (first : List BlankView) → IsSwept kept all first all 0 first
-swept_none kept all first = record { front = []; behind = all; gone = []; given = []; items_are = refl; place_is = refl; kept_are = refl; gone_are = refl; blanks_are = sym (append-nil first); are_given = tt }
+swept_none kept all first = record { front = []; following = all; gone = []; given = []; items_are = refl; place_is = refl; kept_are = refl; gone_are = refl; blanks_are = sym (append-nil first); are_given = tt }
 
 at_front : (front rest : List Held) (x h : Held) → get_or (front ++ x ∷ rest) (length front) h ≡ x
 at_front [] rest x h = refl
@@ -50,17 +50,17 @@ remove_front : (front rest : List Held) (x : Held) → remove (front ++ x ∷ re
 remove_front [] rest x = refl
 remove_front (y ∷ front) rest x = ap (λ (xs : List Held). y ∷ xs) (remove_front front rest x)
 
--- the next ticket: what stands behind the place begins with it
-pub record IsNext (front behind : List Held) (h : Held) : Type 0 where
+-- the next ticket: what stands after the place begins with it
+pub record IsNext (front following : List Held) (h : Held) : Type 0 where
   pub rest : List Held
-  pub behind_is : behind ≡ h ∷ rest
+  pub after_is : following ≡ h ∷ rest
 
-next_at : (front behind items : List Held) (place : ℕ) (h : Held) → items ≡ front ++ behind → length front ≡ place → place < length items → h ≡ get_or items place h → IsNext front behind h
+next_at : (front following items : List Held) (place : ℕ) (h : Held) → items ≡ front ++ following → length front ≡ place → place < length items → h ≡ get_or items place h → IsNext front following h
 next_at front [] items place h is at within read =
     let e : length items ≡ length front = ap length is ∙ ap length (append-nil front) in absurd (omega (arith, e, at, within))
 next_at front (x ∷ rest) items place h is at within read =
     let same : h ≡ x = read ∙ ap (λ (xs : List Held). get_or xs place h) is ∙ ap (λ (i : ℕ). get_or (front ++ x ∷ rest) i h) (sym at) ∙ at_front front rest x h in
-    record { rest = rest; behind_is = ap (λ (y : Held). y ∷ rest) (sym same) }
+    record { rest = rest; after_is = ap (λ (y : Held). y ∷ rest) (sym same) }
 
 kept_first : (kept : Held → Bool) (h : Held) (rest : List Held) → kept h ≡ true → (filter kept (h ∷ rest) ≡ h ∷ filter kept rest) × (gone_by kept (h ∷ rest) ≡ gone_by kept rest)
 kept_first kept h rest e = (rw e refl, rw e refl)
@@ -70,34 +70,34 @@ gone_first kept h rest e = (rw e refl, rw e refl)
 
 pub swept_keep : (kept : Held → Bool) (all : List Held) (first : List BlankView) (items : List Held) (place : ℕ) (blanks : List BlankView) (h : Held) → IsSwept kept all first items place blanks → place < length items → h ≡ get_or items place h → kept h ≡ true → IsSwept kept all first items (place + 1) blanks
 swept_keep kept all first items place blanks h is within read stays =
-    let next = next_at is.front is.behind items place h is.items_are is.place_is within read in
+    let next = next_at is.front is.following items place h is.items_are is.place_is within read in
     let step = kept_first kept h next.rest stays in
     record {
       front = is.front ++ h ∷ [];
-      behind = next.rest;
+      following = next.rest;
       gone = is.gone;
       given = is.given;
-      items_are = is.items_are ∙ ap (λ (xs : List Held). is.front ++ xs) next.behind_is ∙ sym (append_assoc is.front (h ∷ []) next.rest);
+      items_are = is.items_are ∙ ap (λ (xs : List Held). is.front ++ xs) next.after_is ∙ sym (append_assoc is.front (h ∷ []) next.rest);
       place_is = length_push is.front h ∙ ap (λ (n : ℕ). n + 1) is.place_is;
-      kept_are = append_assoc is.front (h ∷ []) (filter kept next.rest) ∙ ap (λ (xs : List Held). is.front ++ xs) (sym step.0) ∙ ap (λ (xs : List Held). is.front ++ filter kept xs) (sym next.behind_is) ∙ is.kept_are;
-      gone_are = ap (λ (xs : List Held). is.gone ++ xs) (sym step.1) ∙ ap (λ (xs : List Held). is.gone ++ gone_by kept xs) (sym next.behind_is) ∙ is.gone_are;
+      kept_are = append_assoc is.front (h ∷ []) (filter kept next.rest) ∙ ap (λ (xs : List Held). is.front ++ xs) (sym step.0) ∙ ap (λ (xs : List Held). is.front ++ filter kept xs) (sym next.after_is) ∙ is.kept_are;
+      gone_are = ap (λ (xs : List Held). is.gone ++ xs) (sym step.1) ∙ ap (λ (xs : List Held). is.gone ++ gone_by kept xs) (sym next.after_is) ∙ is.gone_are;
       blanks_are = is.blanks_are;
       are_given = is.are_given;
     }
 
 pub swept_give : (kept : Held → Bool) (all : List Held) (first : List BlankView) (items : List Held) (place : ℕ) (blanks : List BlankView) (h : Held) (left : List Held) (more : List BlankView) (b : BlankView) → IsSwept kept all first items place blanks → place < length items → h ≡ get_or items place h → kept h ≡ false → left ≡ remove items place → more ≡ blanks ++ b ∷ [] → IsGive h.ticket b → IsSwept kept all first left place more
 swept_give kept all first items place blanks h left more b is within read goes removed pushed give =
-    let next = next_at is.front is.behind items place h is.items_are is.place_is within read in
+    let next = next_at is.front is.following items place h is.items_are is.place_is within read in
     let step = gone_first kept h next.rest goes in
     record {
       front = is.front;
-      behind = next.rest;
+      following = next.rest;
       gone = is.gone ++ h ∷ [];
       given = is.given ++ b ∷ [];
-      items_are = removed ∙ ap (λ (xs : List Held). remove xs place) (is.items_are ∙ ap (λ (xs : List Held). is.front ++ xs) next.behind_is) ∙ ap (λ (i : ℕ). remove (is.front ++ h ∷ next.rest) i) (sym is.place_is) ∙ remove_front is.front next.rest h;
+      items_are = removed ∙ ap (λ (xs : List Held). remove xs place) (is.items_are ∙ ap (λ (xs : List Held). is.front ++ xs) next.after_is) ∙ ap (λ (i : ℕ). remove (is.front ++ h ∷ next.rest) i) (sym is.place_is) ∙ remove_front is.front next.rest h;
       place_is = is.place_is;
-      kept_are = ap (λ (xs : List Held). is.front ++ xs) (sym step.0) ∙ ap (λ (xs : List Held). is.front ++ filter kept xs) (sym next.behind_is) ∙ is.kept_are;
-      gone_are = append_assoc is.gone (h ∷ []) (gone_by kept next.rest) ∙ ap (λ (xs : List Held). is.gone ++ xs) (sym step.1) ∙ ap (λ (xs : List Held). is.gone ++ gone_by kept xs) (sym next.behind_is) ∙ is.gone_are;
+      kept_are = ap (λ (xs : List Held). is.front ++ xs) (sym step.0) ∙ ap (λ (xs : List Held). is.front ++ filter kept xs) (sym next.after_is) ∙ is.kept_are;
+      gone_are = append_assoc is.gone (h ∷ []) (gone_by kept next.rest) ∙ ap (λ (xs : List Held). is.gone ++ xs) (sym step.1) ∙ ap (λ (xs : List Held). is.gone ++ gone_by kept xs) (sym next.after_is) ∙ is.gone_are;
       blanks_are = pushed ∙ ap (λ (xs : List BlankView). xs ++ b ∷ []) is.blanks_are ∙ append_assoc first is.given (b ∷ []);
       are_given = given_push is.gone is.given h b is.are_given give;
     }
@@ -115,7 +115,7 @@ abbrev later_keys : List (ℕ × ℕ) → List (ℕ × ℕ)
 later_keys [] = []
 later_keys (k ∷ ks) = ks
 
--- the ticket behind some that stay, where these tickets are those of the tasks
+-- the ticket after some that stay, where these tickets are those of the tasks
 stays_here : (front rest : List Held) (h : Held) (tasks : List Task) → map held_key (front ++ h ∷ rest) ≡ keys tasks → listed_at tasks (length front) ≡ Some h.number
 stays_here [] rest h [] same = absurd (omega (arith, ap length same))
 stays_here [] rest h (t ∷ tasks) same = ap (λ (ks : List (ℕ × ℕ)). Some (first_key ks).0) (sym same)
@@ -141,11 +141,11 @@ kept_there state place h here = view_where_listed state h.number ∙ listed_here
 -- a ticket that stays is that of the task at its place
 there_kept : (state : Domain) (all : List Held) (first : List BlankView) (items : List Held) (place : ℕ) (blanks : List BlankView) (h : Held) → HoldsTickets state (filter (is_kept state) all) → IsSwept (is_kept state) all first items place blanks → place < length items → h ≡ get_or items place h → is_kept state h ≡ true → number_in state place ≡ Some h.number
 there_kept state all first items place blanks h held is within read stays =
-    let next = next_at is.front is.behind items place h is.items_are is.place_is within read in
+    let next = next_at is.front is.following items place h is.items_are is.place_is within read in
     let step = kept_first (is_kept state) h next.rest stays in
-    let behind : filter (is_kept state) is.behind ≡ h ∷ filter (is_kept state) next.rest = ap (filter (is_kept state)) next.behind_is ∙ step.0 in
+    let following : filter (is_kept state) is.following ≡ h ∷ filter (is_kept state) next.rest = ap (filter (is_kept state)) next.after_is ∙ step.0 in
     let same : map held_key (is.front ++ h ∷ filter (is_kept state) next.rest) ≡ keys state.tasks =
-    ap (map held_key) (ap (λ (xs : List Held). is.front ++ xs) (sym behind) ∙ is.kept_are) ∙ held in
+    ap (map held_key) (ap (λ (xs : List Held). is.front ++ xs) (sym following) ∙ is.kept_are) ∙ held in
     ap (listed_at state.tasks) (sym is.place_is) ∙ stays_here is.front (filter (is_kept state) next.rest) h state.tasks same
 
 -- so any other goes
@@ -162,8 +162,8 @@ gone_there state all first items place blanks h held is within read other =
 -- all have been looked at
 pub swept_all : (kept : Held → Bool) (all : List Held) (first : List BlankView) (items : List Held) (place : ℕ) (blanks : List BlankView) → IsSwept kept all first items place blanks → length items ≤ place → (items ≡ filter kept all) × ((given : List BlankView) × (blanks ≡ first ++ given) × AreGiven (gone_by kept all) given)
 swept_all kept all first items place blanks is past =
-    let long : length items ≡ length is.front + length is.behind = ap length is.items_are ∙ length-append is.front is.behind in
-    let none : is.behind ≡ [] = empty is.behind (omega (arith, long, is.place_is, past)) in
+    let long : length items ≡ length is.front + length is.following = ap length is.items_are ∙ length-append is.front is.following in
+    let none : is.following ≡ [] = empty is.following (omega (arith, long, is.place_is, past)) in
     let gone : is.gone ≡ gone_by kept all = sym (append-nil is.gone) ∙ ap (λ (xs : List Held). is.gone ++ gone_by kept xs) (sym none) ∙ is.gone_are in
     (is.items_are ∙ ap (λ (xs : List Held). is.front ++ xs) none ∙ ap (λ (xs : List Held). is.front ++ filter kept xs) (sym none) ∙ is.kept_are, (is.given, is.blanks_are, subst (λ (xs : List Held). AreGiven xs is.given) gone is.are_given))
   where

@@ -17,7 +17,7 @@ use Rattle.domain_run.proofs.CallerLemmas.{AreNumbered, live_key, keys_apart, on
 use Rattle.call_book.specs.declared.book.stock.Held.{Held}
 use Rattle.call_book.specs.Pieces.{held_key, is_held, IsTicketOf, HoldsTickets}
 use Rattle.call_book.specs.MoveAnswers.{IsTakenOut}
-use Rattle.call_book.proofs.Asking.{all_front, all_behind}
+use Rattle.call_book.proofs.Asking.{all_front, all_after}
 use Rattle.call_book.proofs.Regrading.{keyed_any}
 
 abbrev held_for : ℕ → TicketView → Held
@@ -28,17 +28,17 @@ pub taken_keeps : (gate : GateId) (domain number : ℕ) (old new : List Held) (t
 taken_keeps gate domain number old new ticket taken all =
     let P : Held → Type 0 = λ h. IsTicketOf gate domain h.ticket in
     let x : Held = held_for number ticket in
-    let parts : All P (taken.before ++ x ∷ taken.behind) = subst (All P) taken.old_tickets all in
-    let tail : All P (x ∷ taken.behind) = all_behind P taken.before (x ∷ taken.behind) parts in
-    let rest : All P taken.behind = λ k d h. tail (suc k) d (omega arith) in
-    (subst (All P) (sym taken.new_tickets) (All-append P taken.before taken.behind (all_front P taken.before (x ∷ taken.behind) parts) rest), tail 0 x (omega arith))
+    let parts : All P (taken.before ++ x ∷ taken.following) = subst (All P) taken.old_tickets all in
+    let tail : All P (x ∷ taken.following) = all_after P taken.before (x ∷ taken.following) parts in
+    let rest : All P taken.following = λ k d h. tail (suc k) d (omega arith) in
+    (subst (All P) (sym taken.new_tickets) (All-append P taken.before taken.following (all_front P taken.before (x ∷ taken.following) parts) rest), tail 0 x (omega arith))
 
 pub taken_length : (number : ℕ) (old new : List Held) (ticket : TicketView) → IsTakenOut number old new ticket → length old ≡ length new + 1
 taken_length number old new ticket taken =
     let a = ap length taken.old_tickets in
     let b = ap length taken.new_tickets in
-    let c = length-append taken.before (held_for number ticket ∷ taken.behind) in
-    let d = length-append taken.before taken.behind in
+    let c = length-append taken.before (held_for number ticket ∷ taken.following) in
+    let d = length-append taken.before taken.following in
     omega (arith, a, b, c, d)
 
 -- a task that may depart
@@ -57,12 +57,12 @@ departing_is_held state tickets number held e =
 pub taken_holds : (state : Domain) (number : ℕ) (old new : List Held) (ticket : TicketView) → IsTakenOut number old new ticket → AreNumbered state.tasks → HoldsTickets state old → reply_to state (Call.Depart number) ≡ Reply.Departed → HoldsTickets (after_call state (Call.Depart number)) new
 taken_holds state number old new ticket taken numbered held e =
     let front = map held_key taken.before in
-    let behind = map held_key taken.behind in
-    let was : map held_key old ≡ front ++ (number, ticket.bw) ∷ behind = ap (map held_key) taken.old_tickets ∙ map-append held_key taken.before (held_for number ticket ∷ taken.behind) in
-    let is : map held_key new ≡ front ++ behind = ap (map held_key) taken.new_tickets ∙ map-append held_key taken.before taken.behind in
-    let same : keys state.tasks ≡ front ++ (number, ticket.bw) ∷ behind = sym held ∙ was in
+    let following = map held_key taken.following in
+    let was : map held_key old ≡ front ++ (number, ticket.bw) ∷ following = ap (map held_key) taken.old_tickets ∙ map-append held_key taken.before (held_for number ticket ∷ taken.following) in
+    let is : map held_key new ≡ front ++ following = ap (map held_key) taken.new_tickets ∙ map-append held_key taken.before taken.following in
+    let same : keys state.tasks ≡ front ++ (number, ticket.bw) ∷ following = sym held ∙ was in
     let apart = subst (AllPairs (λ (k l : ℕ × ℕ). k.0 ≢ l.0)) same (keys_apart state.tasks numbered) in
-    is ∙ sym (without_between number ticket.bw front behind apart) ∙ ap (filter (λ (k : ℕ × ℕ). not (eqb k.0 number))) (sym same) ∙ sym (departed_keys state number e)
+    is ∙ sym (without_between number ticket.bw front following apart) ∙ ap (filter (λ (k : ℕ × ℕ). not (eqb k.0 number))) (sym same) ∙ sym (departed_keys state number e)
 
 -- the ticket has the bandwidth of its task
 bw_by : (state : Domain) (number bw : ℕ) (o : Option Task) → task_of state number ≡ o → AreNumbered state.tasks → Contains (keys state.tasks) (number, bw) → IfSome (option_map moving_of o) (λ m. bw ≡ m.params.bw)
@@ -72,12 +72,12 @@ bw_by state number bw (Some t) is numbered there = one_bw (keys state.tasks) num
 pub taken_bw : (state : Domain) (number : ℕ) (old new : List Held) (ticket : TicketView) → IsTakenOut number old new ticket → AreNumbered state.tasks → HoldsTickets state old → IfSome (moving_in state number) (λ m. ticket.bw ≡ m.params.bw)
 taken_bw state number old new ticket taken numbered held =
     let front = map held_key taken.before in
-    let behind = map held_key taken.behind in
+    let following = map held_key taken.following in
     let key : ℕ × ℕ = (number, ticket.bw) in
-    let same : front ++ key ∷ behind ≡ keys state.tasks = sym (ap (map held_key) taken.old_tickets ∙ map-append held_key taken.before (held_for number ticket ∷ taken.behind)) ∙ held in
-    let inside : Contains (front ++ key ∷ behind) key = contains_at front key behind in
+    let same : front ++ key ∷ following ≡ keys state.tasks = sym (ap (map held_key) taken.old_tickets ∙ map-append held_key taken.before (held_for number ticket ∷ taken.following)) ∙ held in
+    let inside : Contains (front ++ key ∷ following) key = contains_at front key following in
     bw_by state number ticket.bw (task_of state number) refl numbered (subst (λ (ks : List (ℕ × ℕ)). Contains ks key) same inside)
   where
-    contains_at : (front : List (ℕ × ℕ)) (k : ℕ × ℕ) (behind : List (ℕ × ℕ)) → Contains (front ++ k ∷ behind) k
-    contains_at [] k behind = (0, omega arith, refl)
-    contains_at (f ∷ front) k behind = let rest = contains_at front k behind in (suc rest.0, omega (arith, rest.1), rest.2)
+    contains_at : (front : List (ℕ × ℕ)) (k : ℕ × ℕ) (following : List (ℕ × ℕ)) → Contains (front ++ k ∷ following) k
+    contains_at [] k following = (0, omega arith, refl)
+    contains_at (f ∷ front) k following = let rest = contains_at front k following in (suc rest.0, omega (arith, rest.1), rest.2)

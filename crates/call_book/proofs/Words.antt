@@ -19,19 +19,19 @@ in_more d (n ∷ words) more = ap (λ (found : List Found). record { domain = d;
 
 -- a ticket that the gate refused has its answer
 pub refused_answer : (t u : TicketView) (bw seen used : ℕ) → IsRegrade t bw (Refused u seen) → used ≡ used_of seen → IsTicketAnswered t bw u (Some used)
-refused_answer t u bw seen used asked told =
+refused_answer t u bw seen used asked logged =
     let words = words_of asked.races in
     let h = asked.last in
     let before = found_in t.domain words in
     let found : u.found ≡ (t.found ++ before) ++ found_in t.domain (seen ∷ []) = ap (λ (x : TicketView). x.found) h.ticket in
     let last : last_word_found u.found ≡ seen = ap last_word_found found ∙ last_of_push (t.found ++ before) t.domain seen in
-    let over : cap_of seen < used - t.bw + bw = subst (λ (n : ℕ). cap_of seen < n - t.bw + bw) (sym told) h.over in
+    let over : cap_of seen < used - t.bw + bw = subst (λ (n : ℕ). cap_of seen < n - t.bw + bw) (sym logged) h.over in
     record {
       words = words ++ seen ∷ [];
       some = omega (arith, length_push words seen);
       found = found ∙ append_assoc t.found before (found_in t.domain (seen ∷ [])) ∙ ap (λ (f : List Found). t.found ++ f) (sym (in_more t.domain words (seen ∷ [])));
       own = record { own = ap (λ (x : TicketView). x.gate) h.ticket; inside = ap (λ (x : TicketView). x.domain) h.ticket };
-      answer = (ap (λ (x : TicketView). x.bw) h.ticket, ap used_of last ∙ sym told, subst (IsWord (cpus_of t.gate t.domain)) (sym last) h.word, subst (λ (n : ℕ). cap_of n < used - t.bw + bw) (sym last) over);
+      answer = (ap (λ (x : TicketView). x.bw) h.ticket, ap used_of last ∙ sym logged, subst (IsWord (cpus_of t.gate t.domain)) (sym last) h.word, subst (λ (n : ℕ). cap_of n < used - t.bw + bw) (sym last) over);
       asked = subst (λ (n : ℕ). IsRegrade t bw (Refused u n)) (sym last) asked;
     }
 

@@ -19,6 +19,7 @@ use Rattle.calls_text.specs.Limits.{IsEntry}
 use Rattle.calls_text.specs.OwnCalls.{IsNumbered}
 use Rattle.calls_text.specs.Histories.{IsLegal, calls_of}
 use Rattle.call_book.specs.declared.book.stock.Held.{Held}
+use Rattle.limits.specs.Limits.{max_history}
 
 -- ---- what a contract sees of a book
 
@@ -72,7 +73,7 @@ pub record IsBookHistory (b : BookView) : Type 0 where
   pub members : All (λ e. IsMember b.clients e.client) b.history
   pub spelled : All IsEntry b.history
   pub within : length b.history ≤ b.room
-  pub short : b.room ≤ 65536
+  pub short : b.room ≤ max_history
 
 -- The limit and the word do not part as far as the book's own calls go: before any change of the
 -- limit it is that of the opening, and after one the word that was left carries CPUs times the
@@ -100,8 +101,8 @@ with_entry p call reply = record p { entries = p.entries ++ entry_by p call repl
 abbrev pub IsFull : BookView → Type 0
 IsFull b = length b.history ≡ b.room
 
--- the call is answered as the definition of calls says, and stands behind the history and behind
--- the pass's list; of the book nothing else changes but tickets and blanks
+-- the call is answered as the definition of calls says, and stands after the history and after the
+-- pass's list; of the book nothing else changes but tickets and blanks
 pub record Enters (old new : BookView) (p q : PassView Entry) (call : Call)
     (reply : Reply) : Type 0 where
   pub free : length old.history < old.room

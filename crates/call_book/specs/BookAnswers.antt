@@ -9,8 +9,8 @@ use Rattle.domain_run.specs.declared.call.Call.TheVariants.{Regrade, Advance}
 use Rattle.domain_run.specs.declared.call.Reply.{Reply}
 use Rattle.domain_run.specs.declared.call.Reply.TheVariants as replies
 use Rattle.domain_run.specs.Domain.{IsLimit}
-use Rattle.domain_run.specs.Happened.{told_by_ticks}
-use Rattle.domain_run.specs.Log.{LogView, Tells}
+use Rattle.domain_run.specs.Happened.{logged_by_ticks}
+use Rattle.domain_run.specs.Log.{LogView, HasLogged}
 use Rattle.domain_run.specs.Calls.{reply_to}
 use Rattle.calls_text.specs.declared.section.Entry.{Entry}
 use Rattle.call_book.specs.declared.book.domain.AdvanceError.{AdvanceError}
@@ -91,8 +91,8 @@ abbrev pub IsNotAdvanced : BookView → BookView → PassView Entry → PassView
 IsNotAdvanced old new p q stops.Full = IsRefusedFull old new p q
 IsNotAdvanced old new p q stops.Memory = (length old.history < old.room) × Stays old new p q
 
--- a log was told what happened in the ticks that an advance made
-pub record TellsAdvance (old : BookView) (before after : LogView) (reply : Reply) : Type 0 where
+-- a log has what happened in the ticks that an advance made
+pub record LogsAdvance (old : BookView) (before after : LogView) (reply : Reply) : Type 0 where
   pub made : ℕ
   pub done : reply ≡ replies.Done made
-  pub told : Tells before (told_by_ticks made (state_of old)) after
+  pub logged : HasLogged before (logged_by_ticks made (state_of old)) after

@@ -24,9 +24,9 @@ word_of_blank b = last_word_found b.found
 
 -- the gate's answer to a blank that asked for a limit: set, or refused with the whole word that it
 -- found last
-abbrev pub limit_told_as : BlankView → Option ℕ → GateLimit
-limit_told_as back None = gate.Set back
-limit_told_as back (Some used) = gate.Refused back (word_of_blank back)
+abbrev pub limit_logged_as : BlankView → Option ℕ → GateLimit
+limit_logged_as back None = gate.Set back
+limit_logged_as back (Some used) = gate.Refused back (word_of_blank back)
 
 -- what a blank asked of the word by one call of the gate: it is set, and the last word that it
 -- found is the word that this call left, which carries the new cap; or so much is used of the last
@@ -39,13 +39,13 @@ IsLimitWord most back (Some used) = (used_of (word_of_blank back) ≡ used) × (
 -- a blank asks the word of a domain for a limit, and stays a blank of its gate
 pub record AsksForLimit (cpus domain limit : ℕ) (blank back : BlankView)
     (word : Option ℕ) : Type 0 where
-  pub asked : IsLimited blank domain limit (limit_told_as back word)
+  pub asked : IsLimited blank domain limit (limit_logged_as back word)
   pub answer : IsLimitWord (cap cpus limit) back word
   pub own : back.gate ≡ blank.gate
 
 -- SET. The sum of bandwidths is at most CPUs times the new limit, and the word carries that cap
 -- since this call; the state has the new limit, and of it nothing else has changed; the call stands
--- behind the history and behind the pass's list; and the book keeps the word that was left
+-- after the history and after the pass's list; and the book keeps the word that was left
 pub record IsLimitSet (old new : BookView) (p q : PassView Entry) (limit : ℕ)
     (blank back : BlankView) : Type 0 where
   pub free : length old.history < old.room

@@ -55,7 +55,7 @@ pub record IsStale (from : BookView) (a : AdmissionView) (now : ParamsView) : Ty
   pub task : Moving
   pub found : moving_in (state_of from) a.number ≡ Some task
   pub differs : task ≢ moving_as a
-  pub told : now ≡ task.params
+  pub logged : now ≡ task.params
 
 -- the sum of bandwidths where it comes to has no room for it
 pub record LacksRoom (to : BookView) (a : AdmissionView) (seen : ℕ) : Type 0 where
@@ -69,9 +69,9 @@ pub record LacksRoom (to : BookView) (a : AdmissionView) (seen : ℕ) : Type 0 w
 -- a ticket is taken out of a list of tickets, and no other one moves
 pub record IsTakenOut (number : ℕ) (old new : List Held) (ticket : TicketView) : Type 0 where
   pub before : List Held
-  pub behind : List Held
-  pub old_tickets : old ≡ before ++ record { number = number; ticket = ticket } ∷ behind
-  pub new_tickets : new ≡ before ++ behind
+  pub following : List Held
+  pub old_tickets : old ≡ before ++ record { number = number; ticket = ticket } ∷ following
+  pub new_tickets : new ≡ before ++ following
 
 -- One departure stands in the one book and one arrival in the other, each in its pass too. The new
 -- ticket is held for the task, the old one is handed out, and a blank that is kept there comes here

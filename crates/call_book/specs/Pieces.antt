@@ -60,9 +60,9 @@ IsWordAnswer t bw u (Some used) =
 
 -- the gate's answer to a ticket that asked for another bandwidth: changed, or refused with the
 -- whole word that it found last
-abbrev pub told_as : TicketView → Option ℕ → Regrade
-told_as u None = regrades.Changed u
-told_as u (Some used) = regrades.Refused u (word_at u)
+abbrev pub logged_as : TicketView → Option ℕ → Regrade
+logged_as u None = regrades.Changed u
+logged_as u (Some used) = regrades.Refused u (word_at u)
 
 -- a ticket that asked for another bandwidth, by one call of the gate that ended as its last try
 -- did: it has found words of its domain, and is of its gate and domain still
@@ -73,14 +73,14 @@ pub record IsTicketAnswered (t : TicketView) (bw : ℕ) (u : TicketView)
   pub found : u.found ≡ t.found ++ found_in t.domain words
   pub own : IsTicketOf t.gate t.domain u
   pub answer : IsWordAnswer t bw u word
-  pub asked : IsRegrade t bw (told_as u word)
+  pub asked : IsRegrade t bw (logged_as u word)
 
 -- the ticket of a task asks the word for another bandwidth, and no other ticket changes
 pub record AsksTheWord (number bw : ℕ) (old new : List Held) (word : Option ℕ) : Type 0 where
   pub before : List Held
-  pub behind : List Held
+  pub following : List Held
   pub was : TicketView
   pub becomes : TicketView
-  pub old_tickets : old ≡ before ++ record { number = number; ticket = was } ∷ behind
-  pub new_tickets : new ≡ before ++ record { number = number; ticket = becomes } ∷ behind
+  pub old_tickets : old ≡ before ++ record { number = number; ticket = was } ∷ following
+  pub new_tickets : new ≡ before ++ record { number = number; ticket = becomes } ∷ following
   pub answered : IsTicketAnswered was bw becomes word

@@ -7,7 +7,7 @@ use Rattle.domain_run.specs.declared.call.Reply.TheVariants.{Done}
 use Rattle.domain_run.specs.Coming.{switches_to_come}
 use Rattle.domain_run.specs.declared.happened.Happened.{Happened}
 use Rattle.domain_run.specs.Domain.{Domain}
-use Rattle.domain_run.specs.Happened.{told_by_ticks}
+use Rattle.domain_run.specs.Happened.{logged_by_ticks}
 use Rattle.domain_run.specs.Passing.{without_switches}
 use Rattle.domain_run.specs.Switch.{Switch}
 use Rattle.domain_run.specs.Tick.{ticks}
@@ -27,11 +27,11 @@ pub record PlayingView : Type 0 where
   -- whether what happens is logged
   pub logs : Bool
   -- what happened and waits in the log
-  pub told : List Happened
+  pub logged : List Happened
 
 -- before an advance is entered: nothing is left to be made, and the log is empty
 abbrev pub played_from : Bool → EndingView → PlayingView
-played_from logs e = record { book = e.book; at = state_left e; left = 0; logs = logs; told = [] }
+played_from logs e = record { book = e.book; at = state_left e; left = 0; logs = logs; logged = [] }
 
 -- the switches that are still to come
 abbrev pub switches_ahead : PlayingView → List Switch
@@ -41,17 +41,17 @@ switches_ahead p = switches_to_come p.left p.at
 abbrev pub all_switches : PlayingView → List Switch
 all_switches p = p.at.switches ++ switches_ahead p
 
--- what so many ticks tell, if it is logged
-abbrev pub told_if : Bool → ℕ → Domain → List Happened
-told_if logs n d = if logs then told_by_ticks n d else []
+-- what so many ticks log, if it is logged
+abbrev pub logged_if : Bool → ℕ → Domain → List Happened
+logged_if logs n d = if logs then logged_by_ticks n d else []
 
--- what the ticks that are left will tell
-abbrev pub told_ahead : PlayingView → List Happened
-told_ahead p = told_if p.logs p.left p.at
+-- what the ticks that are left will log
+abbrev pub logged_ahead : PlayingView → List Happened
+logged_ahead p = logged_if p.logs p.left p.at
 
--- what waits in the log, and then what is still to be told
-abbrev pub all_told : PlayingView → List Happened
-all_told p = p.told ++ told_ahead p
+-- what waits in the log, and then what is still to be logged
+abbrev pub all_logged : PlayingView → List Happened
+all_logged p = p.logged ++ logged_ahead p
 
 -- the switches are those of the whole run: none of them was forgotten
 abbrev pub HasWholeRun : PlayingView → Type 0
@@ -61,12 +61,12 @@ HasWholeRun p = all_switches p ≡ (state_of p.book).switches
 abbrev pub LeadsToRun : PlayingView → Type 0
 LeadsToRun p = without_switches (ticks p.left p.at) ≡ without_switches (state_of p.book)
 
--- some of the ticks that were left are made, and nothing else has changed but what was told
+-- some of the ticks that were left are made, and nothing else has changed but what was logged
 pub record IsFurther (old new : PlayingView) : Type 0 where
   pub made : ℕ
   pub most : made ≤ old.left
   pub play : new
-      ≡ record old { at = ticks made old.at; left = old.left - made; told = new.told }
+      ≡ record old { at = ticks made old.at; left = old.left - made; logged = new.logged }
 
 -- the tickets of tasks that the advance took off the list were given back and their blanks kept,
 -- and no others

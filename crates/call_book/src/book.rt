@@ -8,8 +8,8 @@ mod same;
 mod stock;
 
 pub use domain::{
-    Admit, AdvanceError, Closed, Domain, EndingBook, Full, HeardAdvance, Limit, Move, MoveFault,
-    PlayingBook, move_task, playing_is_advancing,
+    Admit, AdvanceError, Closed, Domain, DrawnAdvance, EndingBook, Full, Limit, Move, MoveFault,
+    PlayingBook, StreamedAdvance, move_task, playing_is_advancing,
 };
 pub use prepared::{Prepared, prepare};
 

@@ -11,9 +11,9 @@ use Rattle.calls_text.proofs.Cuts.{rest_is, front_byte, cut_again}
 use Rattle.calls_text.proofs.Numbers.{none_by}
 use Rattle.calls_text.proofs.Scripts.{event_again, event_lacks, comma, reads_events}
 
--- what stands behind the first byte
-abbrev pub behind_first : List ℕ → List ℕ
-behind_first text = take (length text - 1) (drop 1 text)
+-- what stands after the first byte
+abbrev pub later_first : List ℕ → List ℕ
+later_first text = take (length text - 1) (drop 1 text)
 
 -- the byte that an event begins with
 abbrev letter : Event → ℕ
@@ -28,39 +28,39 @@ begins text (Sleep n) rest f = ap (λ (xs : List ℕ). get_or xs 0 0) f.text_is
 begins text (Timer n) rest f = ap (λ (xs : List ℕ). get_or xs 0 0) f.text_is
 begins text Wait rest f = ap (λ (xs : List ℕ). get_or xs 0 0) f.text_is
 
--- behind the letter this number stands, and then the rest: no other, whichever may follow
+-- after the letter this number stands, and then the rest: no other, whichever may follow
 abbrev pub Numbered : List ℕ → ℕ → List ℕ → Type 0
-Numbered text m tail = (n : ℕ) (rest : List ℕ) → IsFirstNumber 1 1000000000 (behind_first text) n rest → NoDigit rest → (m ≡ n) × (tail ≡ rest)
+Numbered text m tail = (n : ℕ) (rest : List ℕ) → IsFirstNumber 1 1000000000 (later_first text) n rest → NoDigit rest → (m ≡ n) × (tail ≡ rest)
 
-number_behind : (c n : ℕ) (text rest : List ℕ) → text ≡ c ∷ (decimal n ++ rest) → (0 < n) × (n ≤ 1000000000) → IsFirstNumber 1 1000000000 (behind_first text) n rest
-number_behind c n text rest is within = record { text_is = ap behind_first is ∙ rest_is 1 (c ∷ (decimal n ++ rest)); low = omega (arith, within.0); high = within.1 }
+number_after : (c n : ℕ) (text rest : List ℕ) → text ≡ c ∷ (decimal n ++ rest) → (0 < n) × (n ≤ 1000000000) → IsFirstNumber 1 1000000000 (later_first text) n rest
+number_after c n text rest is within = record { text_is = ap later_first is ∙ rest_is 1 (c ∷ (decimal n ++ rest)); low = omega (arith, within.0); high = within.1 }
 
 pub run_found : (text : List ℕ) (m : ℕ) (tail : List ℕ) → get_or text 0 0 ≡ 114 → Numbered text m tail → (e : Event) (rest : List ℕ) → IsFirstEvent text e rest → NoDigit rest → (Run m ≡ e) × (tail ≡ rest)
-run_found text m tail is number (Run n) rest f none = let r = number n rest (number_behind 114 n text rest f.text_is f.is) none in (ap (λ (k : ℕ). Run k) r.0, r.1)
+run_found text m tail is number (Run n) rest f none = let r = number n rest (number_after 114 n text rest f.text_is f.is) none in (ap (λ (k : ℕ). Run k) r.0, r.1)
 run_found text m tail is number (Sleep n) rest f none = absurd (omega (arith, is, begins text (Sleep n) rest f))
 run_found text m tail is number (Timer n) rest f none = absurd (omega (arith, is, begins text (Timer n) rest f))
 run_found text m tail is number Wait rest f none = absurd (omega (arith, is, begins text Wait rest f))
 
 pub sleep_found : (text : List ℕ) (m : ℕ) (tail : List ℕ) → get_or text 0 0 ≡ 115 → Numbered text m tail → (e : Event) (rest : List ℕ) → IsFirstEvent text e rest → NoDigit rest → (Sleep m ≡ e) × (tail ≡ rest)
-sleep_found text m tail is number (Sleep n) rest f none = let r = number n rest (number_behind 115 n text rest f.text_is f.is) none in (ap (λ (k : ℕ). Sleep k) r.0, r.1)
+sleep_found text m tail is number (Sleep n) rest f none = let r = number n rest (number_after 115 n text rest f.text_is f.is) none in (ap (λ (k : ℕ). Sleep k) r.0, r.1)
 sleep_found text m tail is number (Run n) rest f none = absurd (omega (arith, is, begins text (Run n) rest f))
 sleep_found text m tail is number (Timer n) rest f none = absurd (omega (arith, is, begins text (Timer n) rest f))
 sleep_found text m tail is number Wait rest f none = absurd (omega (arith, is, begins text Wait rest f))
 
 pub timer_found : (text : List ℕ) (m : ℕ) (tail : List ℕ) → get_or text 0 0 ≡ 116 → Numbered text m tail → (e : Event) (rest : List ℕ) → IsFirstEvent text e rest → NoDigit rest → (Timer m ≡ e) × (tail ≡ rest)
-timer_found text m tail is number (Timer n) rest f none = let r = number n rest (number_behind 116 n text rest f.text_is f.is) none in (ap (λ (k : ℕ). Timer k) r.0, r.1)
+timer_found text m tail is number (Timer n) rest f none = let r = number n rest (number_after 116 n text rest f.text_is f.is) none in (ap (λ (k : ℕ). Timer k) r.0, r.1)
 timer_found text m tail is number (Run n) rest f none = absurd (omega (arith, is, begins text (Run n) rest f))
 timer_found text m tail is number (Sleep n) rest f none = absurd (omega (arith, is, begins text (Sleep n) rest f))
 timer_found text m tail is number Wait rest f none = absurd (omega (arith, is, begins text Wait rest f))
 
-pub wait_found : (text : List ℕ) → get_or text 0 0 ≡ 119 → (e : Event) (rest : List ℕ) → IsFirstEvent text e rest → NoDigit rest → (Wait ≡ e) × (behind_first text ≡ rest)
-wait_found text is Wait rest f none = (refl, ap behind_first f.text_is ∙ rest_is 1 (119 ∷ rest))
+pub wait_found : (text : List ℕ) → get_or text 0 0 ≡ 119 → (e : Event) (rest : List ℕ) → IsFirstEvent text e rest → NoDigit rest → (Wait ≡ e) × (later_first text ≡ rest)
+wait_found text is Wait rest f none = (refl, ap later_first f.text_is ∙ rest_is 1 (119 ∷ rest))
 wait_found text is (Run n) rest f none = absurd (omega (arith, is, begins text (Run n) rest f))
 wait_found text is (Sleep n) rest f none = absurd (omega (arith, is, begins text (Sleep n) rest f))
 wait_found text is (Timer n) rest f none = absurd (omega (arith, is, begins text (Timer n) rest f))
 
 -- a letter, a number and the rest
-pub spelled_by : (c m : ℕ) (text tail : List ℕ) → 1 ≤ length text → get_or text 0 0 ≡ c → IsFirstNumber 1 1000000000 (behind_first text) m tail → text ≡ c ∷ (decimal m ++ tail)
+pub spelled_by : (c m : ℕ) (text tail : List ℕ) → 1 ≤ length text → get_or text 0 0 ≡ c → IsFirstNumber 1 1000000000 (later_first text) m tail → text ≡ c ∷ (decimal m ++ tail)
 spelled_by c m text tail some is number = front_byte c text some is ∙ ap (λ (xs : List ℕ). c ∷ xs) number.text_is
 
 pub within_by : (m : ℕ) (text tail : List ℕ) → IsFirstNumber 1 1000000000 text m tail → (0 < m) × (m ≤ 1000000000)
@@ -73,13 +73,13 @@ pub alone : (text : List ℕ) (e : Event) (rest : List ℕ) → length rest < 1 
 alone text e [] none f = ap event_first_at (f.text_is ∙ append-nil (event_text e)) ∙ reads_events.last e f.is
 alone text e (x ∷ rest) none f = absurd (omega (arith, none))
 
-pub before_comma : (text : List ℕ) (e : Event) (after : List ℕ) → 1 ≤ length after → get_or after 0 0 ≡ 44 → IsFirstEvent text e after → event_first_at text ≡ found_with e (Some (behind_first after))
+pub before_comma : (text : List ℕ) (e : Event) (after : List ℕ) → 1 ≤ length after → get_or after 0 0 ≡ 44 → IsFirstEvent text e after → event_first_at text ≡ found_with e (Some (later_first after))
 unfolding event_first_at
 before_comma text e after some first f =
-    let whole : text ≡ event_text e ++ 44 ∷ behind_first after = f.text_is ∙ ap (λ (xs : List ℕ). event_text e ++ xs) (front_byte 44 after some first) in
-    rw (whole, cut_again 44 (event_text e) (behind_first after) (event_lacks 44 e comma f.is), event_again e f.is) refl
+    let whole : text ≡ event_text e ++ 44 ∷ later_first after = f.text_is ∙ ap (λ (xs : List ℕ). event_text e ++ xs) (front_byte 44 after some first) in
+    rw (whole, cut_again 44 (event_text e) (later_first after) (event_lacks 44 e comma f.is), event_again e f.is) refl
 
--- an event stands at the front, and nothing or a comma behind it
+-- an event stands at the front, and nothing or a comma after it
 pub record Took (text : List ℕ) (e : Event) (rest : List ℕ) : Type 0 where
   pub first : IsFirstEvent text e rest
   pub none : NoDigit rest

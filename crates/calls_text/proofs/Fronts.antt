@@ -31,7 +31,7 @@ pub header_lacks : (later : Bool) → Lacks 10 (header_line later)
 header_lacks false = Lacks-written 10 (codes "dlcalls 1") refl
 header_lacks true = Lacks-written 10 (codes "dlcalls 2") refl
 
--- the lines of sections, behind either header
+-- the lines of sections, after either header
 pub headed_lines : (later : Bool) (sections : List SectionView) → AllByRecursion IsSectionRead sections → AreLines (header_line later ∷ flat_map section_lines sections)
 headed_lines later sections each = (header_lacks later, body_lines sections each)
 
@@ -42,7 +42,7 @@ pub front_lines : (front more : List (List ℕ)) → AreLines (front ++ more) �
 front_lines [] more all = tt
 front_lines (l ∷ front) more all = (all.0, front_lines front more all.1)
 
--- a further line stands behind the shorter of two fronts
+-- a further line stands after the shorter of two fronts
 pub record GoesOn (front other : List (List ℕ)) (rest : List ℕ) : Type 0 where
   pub line : List ℕ
   pub after : List ℕ

@@ -58,7 +58,7 @@ pub field_front : (least most : ℕ) (text : List ℕ) (n : ℕ) (after rest : L
 field_front least most text n after rest small e is =
     ap (field_at least most) (is.text_is ∙ ap (λ (xs : List ℕ). decimal n ++ xs) e) ∙ field_again least most n rest is.low is.high (omega arith)
 
--- a field that is read is a number at the front, and a space behind it
+-- a field that is read is a number at the front, and a space after it
 pub front_field : (least most : ℕ) (text : List ℕ) (f : ℕ × List ℕ) → field_at least most text ≡ Some f → IsFirstNumber least most text f.0 (32 ∷ f.1)
 front_field least most text f h = let t = field_takes least most text f h in record { text_is = t.text_is; low = t.low; high = t.high }
 
@@ -66,7 +66,7 @@ pub bad_field : (least most : ℕ) (text : List ℕ) (fault : PartFault) → ((n
 bad_field least most text Memory none = tt
 bad_field least most text Bad none = none_by (field_at least most text) (λ f h. none f.0 f.1 (front_field least most text f h))
 
--- ---- the flag and the space behind it
+-- ---- the flag and the space after it
 
 pub flagged_takes : (text : List ℕ) (f : Bool × List ℕ) → flagged_at text ≡ Some f → text ≡ flag_word f.0 ++ 32 ∷ f.1
 unfolding flagged_at
@@ -340,7 +340,7 @@ arrive_again number name params script is =
 
 -- ---- regrades
 
--- what was read behind the flag of a regrade that the bandwidth word refused
+-- what was read after the flag of a regrade that the bandwidth word refused
 seen_takes : (text : List ℕ) (seen : ℕ) → seen_at text ≡ Some seen → (text ≡ seen_text seen) × (seen ≤ 67108864)
 unfolding seen_at
 seen_takes text seen h =
@@ -359,16 +359,16 @@ bind_same : {A : Type 0} (o : Option A) → (o >>= λ x. Some x) ≡ o
 bind_same None = refl
 bind_same (Some x) = refl
 
-pub seen_behind : (text rest : List ℕ) → text ≡ codes "busy " ++ rest → seen_at text ≡ number_within_at 0 67108864 rest
+pub seen_later : (text rest : List ℕ) → text ≡ codes "busy " ++ rest → seen_at text ≡ number_within_at 0 67108864 rest
 unfolding seen_at
-seen_behind text rest e =
+seen_later text rest e =
     let cut : cut_at 32 text ≡ Some (codes "busy", rest) = ap (cut_at 32) e ∙ cut_again 32 (codes "busy") rest (Lacks-written 32 (codes "busy") refl) in
     rw cut (bind_same (number_within_at 0 67108864 rest))
 
 pub seen_none : (text : List ℕ) → ((rest : List ℕ) → text ≡ codes "busy " ++ rest → ⊥) → seen_at text ≡ None
 seen_none text none = none_by (seen_at text) (λ seen h. none (decimal seen) (seen_takes text seen h).0)
 
--- what was read behind the times of a regrade
+-- what was read after the times of a regrade
 record TookAnswer (text : List ℕ) (reclaim : Bool) (word : Option ℕ) : Type 0 where
   text_is : (p : ParamsView) → p.reclaim ≡ reclaim → text ≡ answer_text p word
   high : IfSome word (λ seen. seen ≤ 2 ^ 26)
@@ -475,7 +475,7 @@ advance_takes text call h =
 
 -- ---- changes of the limit
 
--- what was read behind the client of a change
+-- what was read after the client of a change
 record TookChange (text : List ℕ) (limit : ℕ) (word : Option ℕ) : Type 0 where
   text_is : text ≡ change_text limit word
   low : 10485 ≤ limit
@@ -653,14 +653,14 @@ call_none line none =
 front_lacks : (w : Word) → Lacks 32 (word_spelled w)
 front_lacks w = letters_lack 32 (word_spelled w) (omega arith) (elim w as (λ v. list_all (λ b. leb 97 b) (word_spelled v) ≡ true) [ word.Admit ↦ refl | word.Regrade ↦ refl | word.Wake ↦ refl | word.Leave ↦ refl | word.Advance ↦ refl | word.Limit ↦ refl | word.Depart ↦ refl | word.Arrive ↦ refl ])
 
--- the call of a line is that behind its word
-pub call_behind : (line : List ℕ) (w : Word) (rest : List ℕ) → line ≡ front_of w ++ rest → call_at line ≡ called_at (word_spelled w) rest
+-- the call of a line is that after its word
+pub call_after : (line : List ℕ) (w : Word) (rest : List ℕ) → line ≡ front_of w ++ rest → call_at line ≡ called_at (word_spelled w) rest
 unfolding call_at
-call_behind line w rest e =
+call_after line w rest e =
     let cut : cut_at 32 line ≡ Some (word_spelled w, rest) = ap (cut_at 32) (e ∙ append_assoc (word_spelled w) (codes " ") rest) ∙ cut_again 32 (word_spelled w) rest (front_lacks w) in
     rw cut refl
 
--- ---- behind a header
+-- ---- after a header
 
 -- a call is read where the header has such calls
 known_by : (later has : Bool) (p q : ℕ × Call) → has ≡ is_later p.1 → cond (has && not later) None (Some p) ≡ Some q → (p ≡ q) × KnowsLater later (is_later q.1)

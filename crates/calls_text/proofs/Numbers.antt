@@ -141,7 +141,7 @@ front_again n (d ∷ ds) rest h none =
     let p = and_parts (is_ascii_digit d) (all_ascii_digits ds) h in
     rw p.0 (front_again (n * 10 + (d - 48)) ds rest p.1 none)
 
--- a number and no digit behind it is what the digits at the front spell
+-- a number and no digit after it is what the digits at the front spell
 pub front_is : (least most : ℕ) (text : List ℕ) (n : ℕ) (rest : List ℕ) → most < 1000000000000000000 → IsFirstNumber least most text n rest → NoDigit rest → digits_front 0 text ≡ counted n rest
 front_is least most text n rest small is none =
     let h : n < 18446744073709551616 = omega (arith, is.high) in
@@ -150,10 +150,10 @@ front_is least most text n rest small is none =
 front_cons : (c : ℕ) (cs : List ℕ) → is_ascii_digit c ≡ true → digits_front 0 (c ∷ cs) ≡ digits_front (c - 48) cs
 front_cons c cs is = let zero : 0 * 10 + (c - 48) ≡ c - 48 = omega arith in rw is (ap (λ (m : ℕ). digits_front m cs) zero)
 
--- what the first digit spells, and those behind it
-pub front_behind : (first : ℕ) (text : List ℕ) → 1 ≤ length text → 49 ≤ get_or text 0 0 → get_or text 0 0 ≤ 57 → first ≡ get_or text 0 0 - 48 → digits_front first (take (length text - 1) (drop 1 text)) ≡ digits_front 0 text
-front_behind first [] some low high e = absurd (omega arith)
-front_behind first (c ∷ cs) some low high e =
+-- what the first digit spells, and those after it
+pub front_after : (first : ℕ) (text : List ℕ) → 1 ≤ length text → 49 ≤ get_or text 0 0 → get_or text 0 0 ≤ 57 → first ≡ get_or text 0 0 - 48 → digits_front first (take (length text - 1) (drop 1 text)) ≡ digits_front 0 text
+front_after first [] some low high e = absurd (omega arith)
+front_after first (c ∷ cs) some low high e =
     let is : is_ascii_digit c ≡ true = and_from _ _ (le-leb 48 c (omega arith)) (le-leb c 57 high) in
     ap (λ (m : ℕ). digits_front m (take (length (c ∷ cs) - 1) (drop 1 (c ∷ cs)))) e ∙ (ap (digits_front (c - 48)) (rest_is 1 (c ∷ cs)) ∙ sym (front_cons c cs is))
 

@@ -9,7 +9,7 @@ use Rattle.calls_text.specs.Spelling.{entry_line, is_later, some_later, has_late
 use Rattle.calls_text.specs.Limits.{IsSection, AreRead}
 use Rattle.calls_text.specs.BadLine.{IsBadLine}
 use Rattle.calls_text.specs.declared.calls_reader.CallsReader.TheInside.{Inside}
-use Rattle.calls_text.specs.Reader.{ReaderView, IsBehind, IsWithin, IsNextDomain, IsNextEntry}
+use Rattle.calls_text.specs.Reader.{ReaderView, IsAfter, IsWithin, IsNextDomain, IsNextEntry}
 use Rattle.calls_text.specs.ReadSoFar.{IsSectionRead, LacksEntry, last_full}
 use Rattle.calls_text.specs.private.Reading.{cut_at, AreSectionsOf, IsFirstSection, LacksDomain, bad_place, is_whole_text}
 use Rattle.calls_text.proofs.Cuts.{cut_takes}
@@ -71,7 +71,7 @@ none_made k =
           rw (get_or_past {X = ℕ} zeros k 0 (omega (arith, long, past))) (omega arith)
     ]
 
--- behind a line less is left
+-- after a line less is left
 pub cut_less : (text line after : List ℕ) → cut_at 10 text ≡ Some (line, after) → length after < length text
 cut_less text line after cut = let e = ap length (cut_takes 10 text (line, after) cut) in omega (arith, e, length-append line (10 ∷ after))
 
@@ -81,13 +81,13 @@ bad_is lines n b stuck same is = ap (λ (m : ℕ). m + cond b 1 2) same ∙ ap (
 
 -- ---- where no section follows
 
-are_sections : (text : List ℕ) (done : List SectionView) (r : ReaderView) (b : IsBehind text done r) → (length done < 8 → LacksDomain r.rest) → AreSectionsOf r.later b.body r.rest done
+are_sections : (text : List ℕ) (done : List SectionView) (r : ReaderView) (b : IsAfter text done r) → (length done < 8 → LacksDomain r.rest) → AreSectionsOf r.later b.body r.rest done
 are_sections text done r b ends = record { so_far = b.so_far; most = b.few; ends = ends }
 
-pub whole_at_end : (text : List ℕ) (done : List SectionView) (r : ReaderView) → IsBehind text done r → (length done < 8 → LacksDomain r.rest) → is_whole_text r.later r.rest done ≡ true → AreRead done × (text ≡ spelling done)
+pub whole_at_end : (text : List ℕ) (done : List SectionView) (r : ReaderView) → IsAfter text done r → (length done < 8 → LacksDomain r.rest) → is_whole_text r.later r.rest done ≡ true → AreRead done × (text ≡ spelling done)
 whole_at_end text done r b ends whole = sections_found r.later text b.body r.rest done b.header (are_sections text done r b ends) whole
 
-pub bad_at_end : (text : List ℕ) (done : List SectionView) (r : ReaderView) (n : ℕ) → IsBehind text done r → (length done < 8 → LacksDomain r.rest) → is_whole_text r.later r.rest done ≡ false → n ≡ bad_place r.later done → IsBadLine text n
+pub bad_at_end : (text : List ℕ) (done : List SectionView) (r : ReaderView) (n : ℕ) → IsAfter text done r → (length done < 8 → LacksDomain r.rest) → is_whole_text r.later r.rest done ≡ false → n ≡ bad_place r.later done → IsBadLine text n
 bad_at_end text done r n b ends part place = subst (IsBadLine text) (sym place) (sections_stop r.later text b.body r.rest done b.header (are_sections text done r b ends) part)
 
 -- ---- at the end of a section
@@ -95,8 +95,8 @@ bad_at_end text done r n b ends part place = subst (IsBadLine text) (sym place) 
 read_so_far : (text : List ℕ) (before : List SectionView) (s : SectionView) (r : ReaderView) → IsWithin text before s r → IsSectionRead s
 read_so_far text before s r w = record { some = w.some; most = w.most; low = w.low; high = w.high; few = w.short; each = w.entries.each; numbered = w.entries.numbered }
 
-pub behind_from : (text : List ℕ) (before : List SectionView) (s : SectionView) (r : ReaderView) → IsWithin text before s r → (length s.entries < 65536 → LacksEntry r.later r.rest) → IsBehind text (before ++ s ∷ []) r
-behind_from text before s r w stops =
+pub after_from : (text : List ℕ) (before : List SectionView) (s : SectionView) (r : ReaderView) → IsWithin text before s r → (length s.entries < 65536 → LacksEntry r.later r.rest) → IsAfter text (before ++ s ∷ []) r
+after_from text before s r w stops =
     let first : IsFirstSection r.later w.from r.rest s = first_section r.later w.from w.after r.rest s (read_so_far text before s r w) w.domain w.entries stops in
     record {
       body = w.body;
@@ -114,8 +114,8 @@ pub section_within : (text : List ℕ) (before : List SectionView) (s : SectionV
 section_within text before s r w = is_section s (read_so_far text before s r w)
 
 -- where no entry came
-pub behind_none : (text : List ℕ) (before : List SectionView) (s : SectionView) (r : ReaderView) (found : Option Entry) → found ≡ None → IsNextEntry text before s r (Ok found) → IsBehind text (before ++ s ∷ []) r
-behind_none text before s r found none next = subst (λ (o : Option Entry). IsNextEntry text before s r (Ok o)) none next
+pub after_none : (text : List ℕ) (before : List SectionView) (s : SectionView) (r : ReaderView) (found : Option Entry) → found ≡ None → IsNextEntry text before s r (Ok found) → IsAfter text (before ++ s ∷ []) r
+after_none text before s r found none next = subst (λ (o : Option Entry). IsNextEntry text before s r (Ok o)) none next
 
 -- where no section came
 pub whole_none : (text : List ℕ) (done : List SectionView) (r : ReaderView) (found : Option (ℕ × ℕ)) → found ≡ None → IsNextDomain text done r (Ok found) → AreRead done × (text ≡ spelling done)

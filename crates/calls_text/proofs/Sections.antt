@@ -228,14 +228,14 @@ same_bodies (s ∷ ss) (t ∷ ts) each each' e =
       | inr longer ↦ absurd (not_anew (flat_map section_lines ss) longer.more longer.entry (sections_anew ss) (sym longer.next))
     ]
 
--- the lines behind the first
-pub behind : (x y : List ℕ) (a b : List (List ℕ)) → x ∷ a ≡ y ∷ b → a ≡ b
-behind x y a b e = cc
+-- the lines after the first
+pub following : (x y : List ℕ) (a b : List (List ℕ)) → x ∷ a ≡ y ∷ b → a ≡ b
+following x y a b e = cc
 
 pub same_sections : (ss ts : List SectionView) → AreRead ss → AreRead ts → spelling ss ≡ spelling ts → ss ≡ ts
 same_sections ss ts are are' e =
     let each = each_read ss are in
     let each' = each_read ts are' in
     let lines : header_line (has_later ss) ∷ flat_map section_lines ss ≡ header_line (has_later ts) ∷ flat_map section_lines ts = same_lines (lines_of ss) (lines_of ts) (sections_lines ss each) (sections_lines ts each') e in
-    let bodies : flat_map section_lines ss ≡ flat_map section_lines ts = behind (header_line (has_later ss)) (header_line (has_later ts)) (flat_map section_lines ss) (flat_map section_lines ts) lines in
+    let bodies : flat_map section_lines ss ≡ flat_map section_lines ts = following (header_line (has_later ss)) (header_line (has_later ts)) (flat_map section_lines ss) (flat_map section_lines ts) lines in
     same_bodies ss ts each each' bodies

@@ -22,12 +22,12 @@ use Rattle.calls_text.proofs.Cuts.{cut_takes, cut_again}
 use Rattle.calls_text.proofs.Lines.{line_lacks}
 use Rattle.calls_text.proofs.Entries.{each_more as entries_more, numbered_more}
 use Rattle.calls_text.proofs.Fronts.{AreLines, compared, front_lines, no_line, header_lacks, headed_lines, sections_lines}
-use Rattle.calls_text.proofs.Sections.{section_from, are_read, each_read, each_more, lines_more, behind, follows, same_bodies, more_room}
+use Rattle.calls_text.proofs.Sections.{section_from, are_read, each_read, each_more, lines_more, following, follows, same_bodies, more_room}
 
 abbrev body : List SectionView → List (List ℕ)
 body sections = flat_map section_lines sections
 
--- the lines of sections behind a header
+-- the lines of sections after a header
 abbrev headed : Bool → List SectionView → List (List ℕ)
 headed later sections = header_line later ∷ body sections
 
@@ -76,7 +76,7 @@ change seq = record { client = 1; seq = seq; call = Limit 10485 None; reply = No
 change_is : (seq : ℕ) → IsEntryRead (change seq)
 change_is seq = record { within = record { client = (omega arith, omega arith); call = (omega arith, omega arith, tt) }; no_reply = refl }
 
--- sections whose lines go on behind those of others, and in which the limit changes
+-- sections whose lines go on after those of others, and in which the limit changes
 record Changed (sections : List SectionView) : Type 0 where
   others : List SectionView
   each : AllByRecursion IsSectionRead others
@@ -97,8 +97,8 @@ changed_has : has_later (changed_sample ∷ []) ≡ true
 unfolding changed_sample
 changed_has = refl
 
-changed_behind : (sections : List SectionView) → AllByRecursion IsSectionRead sections → length sections < 8 → Changed sections
-changed_behind sections each few = record {
+changed_after : (sections : List SectionView) → AllByRecursion IsSectionRead sections → length sections < 8 → Changed sections
+changed_after sections each few = record {
   others = sections ++ changed_sample ∷ [];
   each = each_more sections changed_sample each changed_is;
   most = omega (arith, few, length-append sections (changed_sample ∷ []));
@@ -107,7 +107,7 @@ changed_behind sections each few = record {
   has = list_any-append (λ (x : SectionView). some_later x.entries) sections (changed_sample ∷ []) ∙ by_second (has_later sections) (has_later (changed_sample ∷ [])) changed_has;
 }
 
--- by a call behind those of the last section
+-- by a call after those of the last section
 abbrev longer_by : SectionView → Entry → SectionView
 longer_by s e = section_from s.cpus s.limit (s.entries ++ e ∷ [])
 
@@ -209,7 +209,7 @@ plain_begins [] each most has = header_begins
 plain_begins (s ∷ sections) each most has = itself_begins false (s ∷ sections) each (omega arith) most has
 
 may_change : (sections : List SectionView) (eight : Bool) → eqb (length sections) 8 ≡ eight → AllByRecursion IsSectionRead sections → length sections ≤ 8 → (eight && last_full sections) ≡ false → Changed sections
-may_change sections false e each most free = changed_behind sections each (let differ = eqb-false (length sections) 8 e in omega (arith, differ, most))
+may_change sections false e each most free = changed_after sections each (let differ = eqb-false (length sections) 8 e in omega (arith, differ, most))
 may_change sections true e each most free =
     elim (has_room sections each (let n = eqb-true (length sections) 8 e in omega (arith, n))) [
       | inl room ↦ in_last sections each most room
@@ -223,7 +223,7 @@ begins_headed true false sections e each most knows free = changed_begins sectio
 
 -- ---- what follows such lines
 
--- a text that begins so goes on behind these sections, or is theirs
+-- a text that begins so goes on after these sections, or is theirs
 record Follows (later : Bool) (sections : List SectionView) (more : List (List ℕ)) : Type 0 where
   others : List SectionView
   each : AllByRecursion IsSectionRead others
@@ -239,10 +239,10 @@ follows_from later sections more others are e =
       each = each_read others are;
       most = are.within.most;
       has = header_same (has_later others) later (first_same (header_line (has_later others)) (header_line later) (body others) (body sections ++ more) whole);
-      lines = behind (header_line (has_later others)) (header_line later) (body others) (body sections ++ more) whole;
+      lines = following (header_line (has_later others)) (header_line later) (body others) (body sections ++ more) whole;
     }
 
--- no line behind these sections goes on as in an accepted text
+-- no line after these sections goes on as in an accepted text
 abbrev NoLineFollows : Bool → List ℕ → List SectionView → Type 0
 NoLineFollows later rest sections = (line after : List ℕ) → rest ≡ line ++ 10 ∷ after → BeginsSections (headed later sections ++ line ∷ []) → ⊥
 
@@ -273,7 +273,7 @@ full_ends later sections (line ∷ more) each eight full f =
       | inr g ↦ absurd (let most = f.most in omega (arith, g.within, most, eight))
     ]
 
--- ---- the first bad line behind sections
+-- ---- the first bad line after sections
 
 -- the text is not accepted where nothing goes on and these sections are not what the header says
 never_accepted : (later : Bool) (text rest : List ℕ) (sections : List SectionView) → text ≡ text_of (headed later sections) ++ rest → AllByRecursion IsSectionRead sections → (length rest ≡ 0 → 0 < length sections → has_later sections ≡ later → ⊥) → NoLineFollows later rest sections → IsAccepted text → ⊥
@@ -427,10 +427,10 @@ bad_by true false false full text text_body rest sections n a b c header are unf
 bad_by true true eight full text text_body rest sections n a b c header are unfit place stuck = bad_next true text text_body rest sections n header are unfit stuck place
 bad_by false has eight full text text_body rest sections n a b c header are unfit place stuck = bad_next false text text_body rest sections n header are unfit stuck place
 
--- the bad line of a text that goes on behind these sections, or has none, or not the changes that its
--- header has
-bad_behind : (later : Bool) (text text_body rest : List ℕ) (sections : List SectionView) → text ≡ header_line later ++ (10 ∷ text_body) → AreSectionsOf later text_body rest sections → (length rest ≡ 0 → 0 < length sections → has_later sections ≡ later → ⊥) → IsBadLine text (bad_place later sections)
-bad_behind later text text_body rest sections header are unfit =
+-- the bad line of a text that goes on after these sections, or has none, or not the changes that
+-- its header has
+bad_after : (later : Bool) (text text_body rest : List ℕ) (sections : List SectionView) → text ≡ header_line later ++ (10 ∷ text_body) → AreSectionsOf later text_body rest sections → (length rest ≡ 0 → 0 < length sections → has_later sections ≡ later → ⊥) → IsBadLine text (bad_place later sections)
+bad_after later text text_body rest sections header are unfit =
     bad_by later (has_later sections) (eqb (length sections) 8) (last_full sections) text text_body rest sections (bad_place later sections) refl refl refl header are unfit refl refl
 
 -- ---- the header
@@ -475,7 +475,7 @@ some_by : (sections : List SectionView) → not (eqb (length sections) 0) ≡ tr
 some_by [] some = absurd cc
 some_by (s ∷ sections) some = omega arith
 
--- sections behind the header that they ask for are what the text spells
+-- sections after the header that they ask for are what the text spells
 spelled_all : (later : Bool) (text text_body rest : List ℕ) (sections : List SectionView) → text ≡ header_line later ++ (10 ∷ text_body) → AreSectionsOf later text_body rest sections → length rest ≡ 0 → 0 < length sections → has_later sections ≡ later → AreRead sections × (text ≡ spelling sections)
 spelled_all later text text_body [] sections header are none some has =
     let parts : text ≡ text_of (headed later sections) ++ [] = header ∙ ap (λ (b : List ℕ). header_line later ++ (10 ∷ b)) are.so_far.parts ∙ headed_text later sections [] in
@@ -495,7 +495,7 @@ whole_by later rest sections none some has =
 -- else they stop at the bad line
 pub sections_stop : (later : Bool) (text text_body rest : List ℕ) (sections : List SectionView) → text ≡ header_line later ++ (10 ∷ text_body) → AreSectionsOf later text_body rest sections → is_whole_text later rest sections ≡ false → IsBadLine text (bad_place later sections)
 sections_stop later text text_body rest sections header are part =
-    bad_behind later text text_body rest sections header are (λ none some has. never_true (is_whole_text later rest sections) part (whole_by later rest sections none some has))
+    bad_after later text text_body rest sections header are (λ none some has. never_true (is_whole_text later rest sections) part (whole_by later rest sections none some has))
 
 -- ---- the last section
 

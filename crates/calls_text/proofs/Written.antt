@@ -23,7 +23,7 @@ pub joined_first : {X : Type 0} (spell : X → List ℕ) (x : X) (xs : List X) �
 joined_first spell x [] = sym (append-nil (spell x))
 joined_first spell x (y ∷ ys) = ap (λ (r : List ℕ). spell x ++ (44 ∷ r)) (joined_first spell y ys)
 
--- the first event and the others, as they were put behind what stood before
+-- the first event and the others, as they were put after what stood before
 pub events_put : (events : List Event) (d : Event) (before begun out : DraftView) (i : ℕ) → 1 ≤ length events → Adds before begun (event_text (get_or events 0 d)) → length (take (length events - 1) (drop 1 events)) ≤ i
     → Adds begun out (flat_map (λ e. 44 ∷ event_text e) (take i (take (length events - 1) (drop 1 events)))) → Adds before out (events_text events)
 events_put [] d before begun out i some first past e = absurd (omega arith)

@@ -19,7 +19,7 @@ BeginsSections lines =
 -- Line n is the first at which the text stops being a front of whole lines of an accepted text: the
 -- lines before it begin an accepted text, with line n they begin none, and the text itself is not
 -- accepted. So an unfinished last line is bad, and where a text ends too early, the line that is
--- missing. Behind the header 2, lines with no change of a limit begin an accepted text as long as
+-- missing. After the header 2, lines with no change of a limit begin an accepted text as long as
 -- such a change may follow.
 pub record IsBadLine (text : List ℕ) (n : ℕ) : Type 0 where
   -- the lines before line n, and what follows them

@@ -1,8 +1,8 @@
 -- The history of a domain, and histories of several: the states that they lead to, and what they
--- tell (own).
+-- log (own).
 use Rattle.std.specs.Prelude.{◌≡◌, ℕ, ◌<◌, Bool, IsTrue, List, Some, length, map, All, slice_index_or}
 use Rattle.domain_run.specs.Domain.{Domain, empty_domain}
-use Rattle.domain_run.specs.Happened.{told_by_calls}
+use Rattle.domain_run.specs.Happened.{logged_by_calls}
 use Rattle.domain_run.specs.Log.{LogView}
 use Rattle.calls_text.specs.SectionView.{SectionView}
 use Rattle.domain_run.specs.declared.call.Call.{Call}
@@ -28,13 +28,13 @@ AreRuns histories states =
     → let h = slice_index_or histories d s in
     slice_index_or states d x ≡ run_of h.cpus h.limit (calls_of h.entries)
 
--- the logs are of one kind, and one that keeps what it is told has what the history of its domain
--- tells, and nothing else
-pub record AreTold (wanted : Bool) (histories : List SectionView) (logs : List LogView)
+-- the logs are of one kind, and one that keeps what it logs has what the history of its domain
+-- logs, and nothing else
+pub record AreLogged (wanted : Bool) (histories : List SectionView) (logs : List LogView)
     : Type 0 where
   pub alike : (d : ℕ) (x : LogView) → d < length histories
       → (slice_index_or logs d x).wanted ≡ wanted
-  pub told : (d : ℕ) (s : SectionView) (x : LogView) → d < length histories → IsTrue wanted
+  pub logged : (d : ℕ) (s : SectionView) (x : LogView) → d < length histories → IsTrue wanted
       → let h = slice_index_or histories d s in
       (slice_index_or logs d x).happened
-      ≡ told_by_calls (empty_domain h.cpus h.limit) (calls_of h.entries)
+      ≡ logged_by_calls (empty_domain h.cpus h.limit) (calls_of h.entries)

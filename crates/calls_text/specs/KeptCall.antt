@@ -7,7 +7,7 @@ use Rattle.calls_text.specs.declared.kept_call.Kept.{Kept}
 use Rattle.calls_text.specs.declared.kept_call.Kept.TheVariants.{Wake, Leave, Depart, Advance, Long}
 use Rattle.calls_text.specs.declared.section.Entry.{Entry}
 use Rattle.calls_text.specs.SectionView.{SectionView}
-use Rattle.calls_text.specs.Reader.{ReaderView, IsBehind, IsWithin, section_with_entries}
+use Rattle.calls_text.specs.Reader.{ReaderView, IsAfter, IsWithin, section_with_entries}
 
 -- the call that is kept
 abbrev pub call_kept : Kept → Call
@@ -29,5 +29,5 @@ pub record IsNextCall (text : List ℕ) (before : List SectionView) (s : Section
 abbrev pub IsNextKept : List ℕ → List SectionView → SectionView → ReaderView
     → Result (Option Kept) CallsFault → Type 0
 IsNextKept text before s r (Ok (Some kept)) = IsNextCall text before s r kept
-IsNextKept text before s r (Ok None) = IsBehind text (before ++ s ∷ []) r
+IsNextKept text before s r (Ok None) = IsAfter text (before ++ s ∷ []) r
 IsNextKept text before s r (Err e) = IsWithin text before s r

@@ -10,6 +10,8 @@ use Rattle.domain_run.specs.declared.call.Call.TheVariants.{Admit, Regrade, Wake
 use Rattle.calls_text.specs.declared.section.Entry.{Entry}
 use Rattle.calls_text.specs.SectionView.{SectionView}
 use Rattle.calls_text.specs.OwnCalls.{IsNumbered}
+use Rattle.limits.specs.Limits as limits
+use Rattle.limits.specs.Limits.{unit, max_advance, max_script_number, max_history}
 
 -- ---- calls
 
@@ -40,7 +42,7 @@ pub record IsAdmission (number : ℕ) (name : List ℕ) (params : ParamsView) (d
   pub numbered : IsTaskNumber number
   pub named : IsName name
   pub checked : IsChecked params
-  pub soon : delay ≤ 1000000000
+  pub soon : delay ≤ max_script_number
   pub scripted : IsScript script
 
 abbrev pub IsCall : Call → Type 0
@@ -49,9 +51,9 @@ IsCall (Regrade number params word) =
     IsTaskNumber number × IsChecked params × IfSome word (λ seen. seen ≤ 2 ^ 26)
 IsCall (Wake number) = IsTaskNumber number
 IsCall (Leave number) = IsTaskNumber number
-IsCall (Advance ticks) = (0 < ticks) × (ticks ≤ 60000000)
+IsCall (Advance ticks) = (0 < ticks) × (ticks ≤ max_advance)
 IsCall (Limit limit word) =
-    (10485 ≤ limit) × (limit ≤ 1048576) × IfSome word (λ seen. seen ≤ 2 ^ 26)
+    (limits.least_limit ≤ limit) × (limit ≤ unit) × IfSome word (λ seen. seen ≤ 2 ^ 26)
 IsCall (Depart number) = IsTaskNumber number
 IsCall (Arrive number name params script) = IsAdmission number name params 0 script
 
@@ -66,9 +68,9 @@ pub record IsEntry (e : Entry) : Type 0 where
 pub record IsSection (s : SectionView) : Type 0 where
   pub some_cpus : 0 < s.cpus
   pub most_cpus : s.cpus ≤ 64
-  pub least_limit : 10485 ≤ s.limit
-  pub most_limit : s.limit ≤ 1048576
-  pub most_entries : length s.entries ≤ 65536
+  pub least_limit : limits.least_limit ≤ s.limit
+  pub most_limit : s.limit ≤ unit
+  pub most_entries : length s.entries ≤ max_history
   pub entries : All IsEntry s.entries
   pub numbered : IsNumbered s.entries
 

@@ -1,4 +1,4 @@
--- Entries and sections that stand at the front of a calls text, and the rest behind them (own).
+-- Entries and sections that stand at the front of a calls text, and the rest after them (own).
 use Rattle.std.specs.Prelude.{◌≡◌, ℕ, ◌≤◌, ◌<◌, ◌-◌, Bool, false, ◌==◌, List, [], ◌∷◌, ◌++◌, map, length, slice_index, None}
 use Rattle.std.specs.List.{flat_map, AllByRecursion}
 use Rattle.calls_text.specs.declared.section.Entry.{Entry}
@@ -6,10 +6,11 @@ use Rattle.calls_text.specs.SectionView.{SectionView}
 use Rattle.calls_text.specs.Spelling.{entry_line, section_lines, is_later, some_later, has_later, text_of}
 use Rattle.calls_text.specs.OwnCalls.{IsNumbered, count_made_by}
 use Rattle.calls_text.specs.Limits.{IsClient, IsEntry}
+use Rattle.limits.specs.Limits.{unit, least_limit, max_history}
 
 -- ---- entries
 
--- behind a header that has no calls of the second form there is none
+-- after a header that has no calls of the second form there is none
 abbrev pub KnowsLater : Bool → Bool → Type 0
 KnowsLater later has = later ≡ false → has ≡ false
 
@@ -46,9 +47,9 @@ LacksEntry later text =
 pub record IsSectionRead (s : SectionView) : Type 0 where
   pub some : 0 < s.cpus
   pub most : s.cpus ≤ 64
-  pub low : 10485 ≤ s.limit
-  pub high : s.limit ≤ 1048576
-  pub few : length s.entries ≤ 65536
+  pub low : least_limit ≤ s.limit
+  pub high : s.limit ≤ unit
+  pub few : length s.entries ≤ max_history
   pub each : AllByRecursion IsEntryRead s.entries
   pub numbered : IsNumbered s.entries
 
@@ -59,7 +60,7 @@ sections_text sections = text_of (flat_map section_lines sections)
 -- there is a last section, and it may have one more entry
 abbrev pub LastHasRoom : List SectionView → Type 0
 LastHasRoom [] = ⊥
-LastHasRoom (s ∷ []) = length s.entries < 65536
+LastHasRoom (s ∷ []) = length s.entries < max_history
 LastHasRoom (s ∷ t ∷ sections) = LastHasRoom (t ∷ sections)
 
 -- the text is that of these sections, and then the rest, which does not go on with the last of them
@@ -73,5 +74,5 @@ pub record SectionsSoFar (later : Bool) (text rest : List ℕ) (sections : List 
 -- the last section has as many calls as it may have
 abbrev pub last_full : List SectionView → Bool
 last_full [] = false
-last_full (s ∷ []) = length s.entries == 65536
+last_full (s ∷ []) = length s.entries == max_history
 last_full (s ∷ t ∷ sections) = last_full (t ∷ sections)

@@ -4,6 +4,7 @@ ghost use Rattle.std.specs.Prelude.{◌≡◌, ◌+◌, ◌-◌, ◌≤◌, ℕ,
 ghost use Rattle.calls_text.specs.Limits.{IsClient};
 ghost use Rattle.calls_text.specs.private.Reading.{PartFails, known_at, IsNext};
 ghost use Rattle.calls_text.specs.private.Numbered.{numbered_entry, IsNextNumbered};
+ghost use Rattle.limits.specs.Limits.{max_history};
 
 use crate::cut::cut_line;
 use crate::fault::{CallsFault, PartFault};
@@ -23,7 +24,7 @@ const MOST_SECTIONS: u64 = 8;
 /// Counts a call of a client, and answers how many it made before.
 fn counted(made: &mut [u64; 64], client: u32) -> u64
     requires client { IsClient client }
-    requires few { (k : ℕ) → slice_index made.old k ≤ 65536 }
+    requires few { (k : ℕ) → slice_index made.old k ≤ max_history }
     ensures seq { result ≡ slice_index made.old (client - 1) }
     ensures made { made.new ≡ slice_set made.old (client - 1) (result + 1) }
 {
@@ -68,7 +69,7 @@ fn numbered_of<'t>(
     made: &mut [u64; 64],
     reused: &mut Reused<'t>,
 ) -> Result<Numbered, PartFault>
-    requires { (k : ℕ) → slice_index made.old k ≤ 65536 }
+    requires { (k : ℕ) → slice_index made.old k ≤ max_history }
     ensures found { IfOk result (λ n. IsNext later line.now made.old (numbered_entry n)) }
     ensures made { IfOk result (λ n. made.new ≡ slice_set made.old (n.client - 1) (n.seq + 1)) }
     ensures kept { IfErr result (λ _. made.new ≡ made.old) }
@@ -85,12 +86,12 @@ fn numbered_of<'t>(
 /// A calls text that is read call by call, so that each call can be made, and let go, before the
 /// next is read: [`CallsReader::next_domain`] begins a section, [`CallsReader::next_entry`] reads
 /// its entries, until it answers none, or [`CallsReader::next_kept`] their calls alone. Both take
-/// what earlier calls leave to be used again ([`Reused`]). What stands behind the last section that
+/// what earlier calls leave to be used again ([`Reused`]). What stands after the last section that
 /// was read may still be bad: that a text is one is known where [`CallsReader::next_domain`]
 /// answers none.
 #[derive(Drop)]
 pub struct CallsReader<'t> {
-    /// The text behind what was read.
+    /// The text after what was read.
     rest: &'t [u8],
     /// Whether the header is that of calls of the second form.
     later: bool,
@@ -130,17 +131,17 @@ impl<'t> CallsReader<'t> {
     ghost use Rattle.calls_text.specs.SectionView.{SectionView};
     ghost use Rattle.calls_text.specs.Limits.{IsCall, IsEntry};
     ghost use Rattle.calls_text.specs.BadLine.{IsReadFault};
-    ghost use Rattle.calls_text.specs.Reader.{IsBehind, IsWithin, IsNextDomain, IsNextEntry, AreOthers, bytes_left};
+    ghost use Rattle.calls_text.specs.Reader.{IsAfter, IsWithin, IsNextDomain, IsNextEntry, AreOthers, bytes_left};
     ghost use Rattle.calls_text.specs.KeptCall.{IsNextKept, call_kept};
     ghost use Rattle.calls_text.specs.private.Reading.{LacksDomain, bad_place, is_stuck, is_whole_text};
 
-    /// A reader behind the header of a text.
+    /// A reader after the header of a text.
     ///
     /// # Errors
     /// 30 [`CallsFault::BadLine`] where the text has no header: line 1 is bad.
     pub fn open(text: &'t [u8]) -> Result<CallsReader<'t>, CallsFault>
         // It has read no section.
-        ensures behind { IfOk result (IsBehind text.now []) }
+        ensures following { IfOk result (IsAfter text.now []) }
         ensures fault { IfErr result (IsReadFault text.now) }
     {
         let Some((header, rest)) = cut_line(text) else {
@@ -160,15 +161,15 @@ impl<'t> CallsReader<'t> {
         })
     }
 
-    /// Begins the next section: its CPUs and its limit; none behind the last one, where the text is
+    /// Begins the next section: its CPUs and its limit; none after the last one, where the text is
     /// whole. The entries of the section before it are read, until none came.
     ///
     /// # Errors
     /// As [`read_calls`](crate::read_calls), where no section follows and the text is none that is
     /// read. The reader stays as it was.
     pub fn next_domain(&mut self) -> Result<Option<(u32, u64)>, CallsFault>
-        // Behind sections of a text a section begins, or they are all of it, or it has a bad line.
-        ensures next { (text : List ℕ) (done : List SectionView) → IsBehind text done self.old
+        // After sections of a text a section begins, or they are all of it, or it has a bad line.
+        ensures next { (text : List ℕ) (done : List SectionView) → IsAfter text done self.old
             → IsNextDomain text done self.new result }
         // Where a section begins, less is left.
         ensures less { IfOk result
@@ -194,7 +195,7 @@ impl<'t> CallsReader<'t> {
         }
     }
 
-    /// The next call of the section, as it is numbered; none behind its last one.
+    /// The next call of the section, as it is numbered; none after its last one.
     #[inline(always)]
     fn next_numbered(
         &mut self,
@@ -229,7 +230,7 @@ impl<'t> CallsReader<'t> {
         }
     }
 
-    /// The next entry of the section; none behind its last one.
+    /// The next entry of the section; none after its last one.
     ///
     /// # Errors
     /// 31 [`CallsFault::Memory`]: a growth was refused. The reader stays as it was.
@@ -325,7 +326,7 @@ impl<'t> CallsReader<'t> {
 
     /// Whether the sections so far are all of the text, and what its header says of them.
     fn is_whole(&self) -> bool
-        ensures { (text : List ℕ) (done : List SectionView) → IsBehind text done self.now
+        ensures { (text : List ℕ) (done : List SectionView) → IsAfter text done self.now
             → result ≡ is_whole_text self.now.later self.now.rest done }
     {
         self.rest.is_empty() && self.sections > 0 && (!self.later || self.found_later)
@@ -334,7 +335,7 @@ impl<'t> CallsReader<'t> {
     /// Whether the header is that of calls of the second form, these sections have none, and none
     /// can follow.
     fn is_stuck(&self) -> bool
-        ensures { (text : List ℕ) (done : List SectionView) → IsBehind text done self.now
+        ensures { (text : List ℕ) (done : List SectionView) → IsAfter text done self.now
             → result ≡ is_stuck self.now.later done }
     {
         self.later
@@ -343,10 +344,10 @@ impl<'t> CallsReader<'t> {
             && self.calls == MOST_CALLS
     }
 
-    /// The first bad line of a text that goes on behind these sections, or has none, or none of the
+    /// The first bad line of a text that goes on after these sections, or has none, or none of the
     /// calls that its header tells of.
     fn bad_line(&self) -> u64
-        ensures { (text : List ℕ) (done : List SectionView) → IsBehind text done self.now
+        ensures { (text : List ℕ) (done : List SectionView) → IsAfter text done self.now
             → result ≡ bad_place self.now.later done }
     {
         if self.is_stuck() {
@@ -357,7 +358,7 @@ impl<'t> CallsReader<'t> {
 
     /// What is said of a text where no section follows.
     fn end(&self) -> Result<Option<(u32, u64)>, CallsFault>
-        ensures next { (text : List ℕ) (done : List SectionView) → IsBehind text done self.now
+        ensures next { (text : List ℕ) (done : List SectionView) → IsAfter text done self.now
             → (length done < 8 → LacksDomain self.now.rest)
             → IsNextDomain text done self.now result }
         ensures none { IfOk result (λ found. found ≡ None) }

@@ -16,7 +16,7 @@ pub(crate) fn cut(text: &[u8], at: u8) -> Option<(&[u8], &[u8])>
     None
 }
 
-/// As `cut`. It searches by many bytes at a time, for a byte that may be far behind.
+/// As `cut`. It searches by many bytes at a time, for a byte that may be far after.
 #[inline(always)]
 pub(crate) fn cut_far(text: &[u8], at: u8) -> Option<(&[u8], &[u8])>
     ensures { option_map (λ p. (p.0.now, p.1.now)) result ≡ cut_at at text.now }
@@ -37,7 +37,7 @@ pub(crate) fn cut_line(text: &[u8]) -> Option<(&[u8], &[u8])>
 
 /// What follows these bytes at the front of a text, or nothing where it does not begin with them.
 #[inline(always)]
-pub(crate) fn behind<'t>(front: &[u8], text: &'t [u8]) -> Option<&'t [u8]>
+pub(crate) fn following<'t>(front: &[u8], text: &'t [u8]) -> Option<&'t [u8]>
     ensures { MatchOption result ((rest : List ℕ) → text.now ≡ front.now ++ rest → ⊥)
         (λ rest. text.now ≡ front.now ++ rest.now) }
 {

@@ -5,7 +5,8 @@
 //! `specs/Limits.antt`: which sections have one; `specs/BadLine.antt`: the first bad line of every
 //! other text; `specs/ReadSoFar.antt`, `specs/Reader.antt`: how far it is read;
 //! `specs/KeptCall.antt`: its calls in little room; `specs/RoundTrip.antt`: what a written text is
-//! read as) and "A client's own calls" (`specs/OwnCalls.antt`). To the crates above it promises that [`read_calls`] accepts exactly the
+//! read as) and "A client's own calls" (`specs/OwnCalls.antt`). To the crates above it promises
+//! that [`read_calls`] accepts exactly the
 //! texts of 1 to 8 sections, gives back the very sections, and names the first bad line of every
 //! other text, as a [`CallsReader`] does call by call, and that [`write_calls`] writes the one text
 //! of its sections, which is read as these again.

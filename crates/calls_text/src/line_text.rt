@@ -1,8 +1,9 @@
 ghost use Rattle.std.specs.Prelude.{◌≡◌, ℕ, ◌<◌, ◌≤◌, List, ◌++◌, IfOk, MatchOption};
 ghost use Rattle.calls_text.specs.private.Reading.{PartGives, field_at, name_at, times_at, AreTimes, flag_at, flagged_at, params_at, plan_at, newcomer_at, admit_at, arrive_at, seen_at, answer_at, regrade_at, numbered_at, change_at, limit_at, word_spelled, front_of, worded_at, called_at, call_at, known_at, domain_at};
 ghost use Rattle.calls_text.specs.KeptCall.{call_kept};
+ghost use Rattle.limits.specs.Limits.{max_advance};
 
-use crate::cut::{behind, cut};
+use crate::cut::{cut, following};
 use crate::fault::PartFault;
 use crate::kept_call::Kept;
 use crate::number::{number_first, number_within};
@@ -97,10 +98,10 @@ fn reclaim_of(flag: &[u8]) -> Result<bool, PartFault>
 fn reclaim_first(text: &[u8]) -> Result<(bool, &[u8]), PartFault>
     ensures { PartGives (λ p. (p.0, p.1.now)) result (flagged_at text.now) }
 {
-    if let Some(rest) = behind(b"R ".as_slice(), text) {
+    if let Some(rest) = following(b"R ".as_slice(), text) {
         return Ok((true, rest));
     }
-    if let Some(rest) = behind(b"- ".as_slice(), text) {
+    if let Some(rest) = following(b"- ".as_slice(), text) {
         return Ok((false, rest));
     }
     Err(PartFault::Bad)
@@ -214,12 +215,12 @@ fn arrive_of<'t>(alloc: Global, text: &'t [u8], reused: &mut Reused<'t>) -> Resu
     reused.long(alloc, call)
 }
 
-/// The number with which the bandwidth word refused, from what stands behind the flag of a
-/// `regrade` line, and behind the limit of a `limit` line.
+/// The number with which the bandwidth word refused, from what stands after the flag of a `regrade`
+/// line, and after the limit of a `limit` line.
 fn seen_of(text: &[u8]) -> Result<u64, PartFault>
     ensures { PartGives (λ n. n) result (seen_at text.now) }
 {
-    match behind(b"busy ".as_slice(), text) {
+    match following(b"busy ".as_slice(), text) {
         Some(digits) => number_within(digits, 0, MOST_WORD),
         None => Err(PartFault::Bad),
     }
@@ -288,7 +289,7 @@ fn depart_of(text: &[u8]) -> Result<Kept, PartFault>
 /// What follows the client in an `advance` line.
 #[tactic(auto, unfolding(crate::specs::private::Reading::numbered_at))]
 fn advance_of(text: &[u8]) -> Result<Kept, PartFault>
-    ensures { PartGives call_kept result (numbered_at 60000000 (λ n. Call.Advance n) text.now) }
+    ensures { PartGives call_kept result (numbered_at max_advance (λ n. Call.Advance n) text.now) }
 {
     let ticks = number_within(text, 1, MOST_TICKS)?;
     Ok(Kept::Advance { ticks })
@@ -331,7 +332,7 @@ enum Word {
     Arrive,
 }
 
-/// The word at the front of a line, and what follows the space behind it. Words that stand in most
+/// The word at the front of a line, and what follows the space after it. Words that stand in most
 /// lines are looked for first.
 #[inline(always)]
 fn word_first(line: &[u8]) -> Option<(Word, &[u8])>
@@ -339,28 +340,28 @@ fn word_first(line: &[u8]) -> Option<(Word, &[u8])>
         ((word : Word) (rest : List ℕ) → line.now ≡ front_of word ++ rest → ⊥)
         (λ p. line.now ≡ front_of p.0 ++ p.1.now) }
 {
-    if let Some(rest) = behind(b"wake ".as_slice(), line) {
+    if let Some(rest) = following(b"wake ".as_slice(), line) {
         return Some((Word::Wake, rest));
     }
-    if let Some(rest) = behind(b"advance ".as_slice(), line) {
+    if let Some(rest) = following(b"advance ".as_slice(), line) {
         return Some((Word::Advance, rest));
     }
-    if let Some(rest) = behind(b"admit ".as_slice(), line) {
+    if let Some(rest) = following(b"admit ".as_slice(), line) {
         return Some((Word::Admit, rest));
     }
-    if let Some(rest) = behind(b"leave ".as_slice(), line) {
+    if let Some(rest) = following(b"leave ".as_slice(), line) {
         return Some((Word::Leave, rest));
     }
-    if let Some(rest) = behind(b"regrade ".as_slice(), line) {
+    if let Some(rest) = following(b"regrade ".as_slice(), line) {
         return Some((Word::Regrade, rest));
     }
-    if let Some(rest) = behind(b"limit ".as_slice(), line) {
+    if let Some(rest) = following(b"limit ".as_slice(), line) {
         return Some((Word::Limit, rest));
     }
-    if let Some(rest) = behind(b"depart ".as_slice(), line) {
+    if let Some(rest) = following(b"depart ".as_slice(), line) {
         return Some((Word::Depart, rest));
     }
-    if let Some(rest) = behind(b"arrive ".as_slice(), line) {
+    if let Some(rest) = following(b"arrive ".as_slice(), line) {
         return Some((Word::Arrive, rest));
     }
     None
@@ -389,7 +390,7 @@ fn worded<'t>(
     }
 }
 
-/// The client and the call that stand behind this word and its space.
+/// The client and the call that stand after this word and its space.
 #[inline(always)]
 fn called<'t>(
     alloc: Global,
@@ -422,7 +423,7 @@ fn kept_of<'t>(
     }
 }
 
-/// The client and the call that a line spells, behind a header that has calls of the second form or
+/// The client and the call that a line spells, after a header that has calls of the second form or
 /// has none.
 #[inline(always)]
 #[tactic(auto, unfolding(crate::specs::private::Reading::known_at))]

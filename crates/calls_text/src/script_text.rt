@@ -18,7 +18,7 @@ const MOST_ITEMS: u64 = 64;
 /// Room for so many events, and so many phases, is taken at first where there are more than one:
 /// most have no more.
 const ROOM: usize = 2;
-/// The most events behind the first ones.
+/// The most events after the first ones.
 const MOST_MORE: usize = 62;
 /// Commas are counted in pieces of so many bytes.
 const PIECE: usize = 255;
@@ -88,23 +88,23 @@ fn commas(text: &[u8]) -> usize
     let mut count: usize = 0;
     let mut rest = text;
     while rest.len() > PIECE {
-        let (piece, behind) = rest.split_at(PIECE);
+        let (piece, following) = rest.split_at(PIECE);
         count = count.saturating_add(usize::from(few_commas(piece)));
-        rest = behind;
+        rest = following;
     }
     count
         .saturating_add(usize::from(few_commas(rest)))
         .min(MOST_MORE)
 }
 
-/// Room for the events from the third on: one, and those behind it. Room for a long phase is made
+/// Room for the events from the third on: one, and those after it. Room for a long phase is made
 /// once.
 #[inline(never)]
-fn make_room(events: &mut Vec<Event>, behind: Option<&[u8]>) -> Result<(), PartFault>
+fn make_room(events: &mut Vec<Event>, following: Option<&[u8]>) -> Result<(), PartFault>
     ensures items { IfOk result (λ _. events.new.items ≡ events.old.items) }
     ensures fault { IfErr result (λ e. e ≡ PartFault.Memory) }
 {
-    let others = match behind {
+    let others = match following {
         Some(text) => 1 + commas(text),
         None => 0,
     };
@@ -112,17 +112,17 @@ fn make_room(events: &mut Vec<Event>, behind: Option<&[u8]>) -> Result<(), PartF
     Ok(())
 }
 
-/// One event more, with others behind it or none.
+/// One event more, with others after it or none.
 #[inline(always)]
-fn put(events: &mut Vec<Event>, event: Event, behind: Option<&[u8]>) -> Result<(), PartFault>
+fn put(events: &mut Vec<Event>, event: Event, following: Option<&[u8]>) -> Result<(), PartFault>
     ensures items { IfOk result (λ _. events.new.items ≡ events.old.items ++ event ∷ []) }
     ensures fault { IfErr result (λ e. e ≡ PartFault.Memory) }
 {
     if events.len() == events.capacity() {
         if events.is_empty() {
-            events.try_reserve_exact(if behind.is_none() { 1 } else { ROOM })?;
+            events.try_reserve_exact(if following.is_none() { 1 } else { ROOM })?;
         } else {
-            make_room(events, behind)?;
+            make_room(events, following)?;
         }
     }
     events.push(event)?;

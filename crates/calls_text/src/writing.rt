@@ -1,4 +1,4 @@
-//! The text of sections, put behind one another piece by piece.
+//! The text of sections, put after one another piece by piece.
 
 ghost use Rattle.std.specs.Prelude.{◌≡◌, ◌∷◌, ◌++◌, map, codes, decimal, IfOk};
 ghost use Rattle.std.specs.List.{flat_map};
@@ -142,8 +142,7 @@ fn put_plan(out: &mut Draft, delay: u64, script: &Script)
     put_script(out, script);
 }
 
-/// Puts the line of a client's call behind a text, as calls text has it (own), without a line
-/// break.
+/// Puts the line of a client's call after a text, as calls text has it (own), without a line break.
 pub fn put_call(out: &mut Draft, client: u32, call: &Call)
     ensures { Adds out.old out.new (line_of (call_fields client call.now)) }
 {
@@ -206,7 +205,7 @@ fn put_entries(out: &mut Draft, entries: &[Entry])
     }
 }
 
-/// Puts the line of a section's domain behind a text, as calls text has it (own), without a line
+/// Puts the line of a section's domain after a text, as calls text has it (own), without a line
 /// break.
 pub fn put_domain(out: &mut Draft, section: &Section)
     ensures { Adds out.old out.new (domain_line section.now) }

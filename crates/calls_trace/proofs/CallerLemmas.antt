@@ -1,4 +1,5 @@
--- The calls text of a run's histories can be replayed, to the same trace; and their switches are few enough to be written.
+-- The calls text of a run's histories can be replayed, to the same trace; and their switches are
+-- few enough to be written.
 use Rattle.std.proofs.Common.{◌≡◌, ℕ, eqb, cond, ◌+◌, ◌^◌, ◌≤◌, ◌<◌, None, List, [], ◌∷◌, ◌++◌, length, map, get_or, All, refl, sym, ap, subst, ◌∙◌, arith}
 use Rattle.std.proofs.lemmas.List.{map-append, length-map}
 use Rattle.std.proofs.lemmas.List.Sums.{sum_by-cons}
@@ -13,11 +14,11 @@ use Rattle.calls_text.specs.Limits.{IsEntry, IsSection, AreRead}
 use Rattle.calls_text.specs.RoundTrip.{without_reply, without_replies}
 use Rattle.switch_text.specs.Trace.{SwitchesView, trace_of}
 use Rattle.calls_trace.specs.Replay.{names_of, no_names, run_view, runs_from, trace_of_sections}
-use Rattle.calls_trace.specs.Told.{domain_of}
+use Rattle.calls_trace.specs.DomainEvents.{domain_of}
 use Rattle.calls_trace.proofs.Rising.{section_trace}
-use Rattle.calls_trace.proofs.ToldLines.{section_time}
+use Rattle.calls_trace.proofs.LoggedLines.{section_time}
 pub use Rattle.calls_trace.proofs.Leading.{all_few}
-pub use Rattle.calls_trace.proofs.ToldLines.{told_lines, told_rises}
+pub use Rattle.calls_trace.proofs.LoggedLines.{logged_lines, logged_rises}
 
 -- the switches of a section are at most 2 ^ 48
 pub switches_few : (s : SectionView) → IsSection s → length (domain_of s).switches ≤ 2 ^ 48

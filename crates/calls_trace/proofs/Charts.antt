@@ -23,7 +23,7 @@ use Rattle.chart.specs.Chart.{chart_text}
 use Rattle.calls_trace.specs.declared.placed_run.PlacedRun.{PlacedRun}
 use Rattle.calls_trace.specs.declared.run_text.RunText.TheVariants.{Chart}
 use Rattle.calls_trace.specs.Replay.{calls_in_section}
-use Rattle.calls_trace.specs.Told.{domain_of}
+use Rattle.calls_trace.specs.DomainEvents.{domain_of}
 use Rattle.calls_trace.specs.Charted.{last_time, cpus_of_sections, rows_at, rows_from, chart_of_sections}
 use Rattle.calls_trace.specs.private.Replaying.{PlacedView, placed_view_of, views_from, end_in, cpus_of_placed, rows_in, chart_of_placed, text_of_runs}
 use Rattle.calls_trace.proofs.Written.{calls_cpus}
@@ -101,7 +101,7 @@ run_more {X} {A} f xs i x before after inside is so_far more =
 -- ---- how many
 
 -- numbers below 65536 of which no two are the same are at most so many
-few_numbers : (ns : List ℕ) → All (λ n. n < 65536) ns → AllPairs (λ a b. a ≢ b) ns → length ns ≤ 65536
+pub few_numbers : (ns : List ℕ) → All (λ n. n < 65536) ns → AllPairs (λ a b. a ≢ b) ns → length ns ≤ 65536
 few_numbers ns small apart =
     length-le_from_distinct_below ns 65536 (IsDistinct-from_AllPairs Decides-eqb ns apart) (λ q has. All-contains (λ n. n < 65536) ns q small (Contains-from_any eqb-true q ns has))
 

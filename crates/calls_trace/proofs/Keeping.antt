@@ -12,7 +12,7 @@ use Rattle.domain_run.specs.Domain.{Domain}
 use Rattle.domain_run.specs.Tick.{sum_of, ticked, ticks}
 use Rattle.domain_run.specs.Switch.{Switch}
 use Rattle.domain_run.specs.Passing.{with_past}
-use Rattle.domain_run.proofs.CallerLemmas.{after_call_behind, with_number_contains}
+use Rattle.domain_run.proofs.CallerLemmas.{after_call_after, with_number_contains}
 use Rattle.domain_run.specs.Run.{after_calls}
 use Rattle.domain_run.specs.Calls.{admit_reply, reply_to, is_refusal, after_granted, after_call}
 use Rattle.domain_run.specs.Sound.{IsAdmitted}
@@ -31,7 +31,7 @@ either_used : (b : Bool) (d e : Domain) (n : ℕ) → IsAdmitted d.used n → Is
 either_used true d e n old new = old
 either_used false d e n old new = new
 
--- whoever was admitted, was admitted behind a call
+-- whoever was admitted, was admitted after a call
 pub used_after : (d : Domain) (c : Call) (n : ℕ) → IsAdmitted d.used n → IsAdmitted (after_call d c).used n
 used_after d (Admit number name params delay script) n there =
     let more : IsAdmitted (after_granted d (Admit number name params delay script)).used n = with_number_contains number n d.used ∙ or_true (eqb number n) _ there in
@@ -83,24 +83,24 @@ names_kept d [] names n there = refl
 names_kept d (c ∷ cs) names n there = names_kept (after_call d c) cs (names_after d c names) n (used_after d c n there) ∙ kept_after d c names n there
 
 -- nor do names depend on the switches that were
-pub reply_behind : (past : List Switch) (d : Domain) (c : Call) → reply_to (with_past past d) c ≡ reply_to d c
-reply_behind past d (Admit number name params delay script) = refl
-reply_behind past d (Regrade number params word) = refl
-reply_behind past d (Wake number) = refl
-reply_behind past d (Leave number) = refl
-reply_behind past d (Advance k) = refl
-reply_behind past d (Limit limit word) = refl
-reply_behind past d (Depart number) = refl
-reply_behind past d (Arrive number name params script) = refl
+pub reply_after : (past : List Switch) (d : Domain) (c : Call) → reply_to (with_past past d) c ≡ reply_to d c
+reply_after past d (Admit number name params delay script) = refl
+reply_after past d (Regrade number params word) = refl
+reply_after past d (Wake number) = refl
+reply_after past d (Leave number) = refl
+reply_after past d (Advance k) = refl
+reply_after past d (Limit limit word) = refl
+reply_after past d (Depart number) = refl
+reply_after past d (Arrive number name params script) = refl
 
-pub names_behind : (past : List Switch) (d : Domain) (cs : List Call) (names : ℕ → List ℕ) → names_of (with_past past d) cs names ≡ names_of d cs names
-names_behind past d [] names = refl
-names_behind past d (c ∷ cs) names =
-    ap (λ (r : Reply). names_of (after_call (with_past past d) c) cs (cond (is_refusal r) names (named_by c names))) (reply_behind past d c)
-    ∙ ap (λ (e : Domain). names_of e cs (names_after d c names)) (after_call_behind past d c)
-    ∙ names_behind past (after_call d c) cs (names_after d c names)
+pub names_later : (past : List Switch) (d : Domain) (cs : List Call) (names : ℕ → List ℕ) → names_of (with_past past d) cs names ≡ names_of d cs names
+names_later past d [] names = refl
+names_later past d (c ∷ cs) names =
+    ap (λ (r : Reply). names_of (after_call (with_past past d) c) cs (cond (is_refusal r) names (named_by c names))) (reply_after past d c)
+    ∙ ap (λ (e : Domain). names_of e cs (names_after d c names)) (after_call_after past d c)
+    ∙ names_later past (after_call d c) cs (names_after d c names)
 
--- a number of ticks, and the others behind them
+-- a number of ticks, and the others after them
 advanced_on : (m k : ℕ) (d : Domain) → ticks k (ticks m d) ≡ ticks (m + k) d
 advanced_on m zero d = let same : m ≡ m + 0 = omega arith in ap (λ n. ticks n d) same
 advanced_on m (suc k) d = let next : suc (m + k) ≡ m + suc k = omega arith in ap ticked (advanced_on m k d) ∙ ap (λ n. ticks n d) next

@@ -12,7 +12,7 @@ use Rattle.switch_text.specs.Trace.{SwitchesView, entry_of, entries_of, trace_of
 use Rattle.calls_trace.specs.declared.playing.Playing.{Playing}
 use Rattle.calls_trace.specs.declared.playing_so_far.PlayingSoFar.{PlayingSoFar}
 use Rattle.calls_trace.specs.Replay.{run_view, runs_from}
-use Rattle.calls_trace.specs.Told.{domain_of}
+use Rattle.calls_trace.specs.DomainEvents.{domain_of}
 use Rattle.calls_trace.specs.private.Playing.{sliced_of}
 use Rattle.calls_trace.specs.private.ReadText.{ArePlayingFor, ArePlaying}
 use Rattle.run_options.specs.declared.replay_print.ReplayPrint.TheVariants as prints
@@ -20,7 +20,7 @@ use Rattle.calls_trace.specs.declared.run_text.RunText.TheVariants.{Trace}
 use Rattle.calls_trace.specs.private.RunTexts.{text_of_all}
 use Rattle.calls_trace.proofs.Texts.{text_is}
 use Rattle.calls_trace.proofs.Rising.{section_trace}
-use Rattle.calls_trace.proofs.ToldLines.{section_time}
+use Rattle.calls_trace.proofs.LoggedLines.{section_time}
 
 runs_push : (base : ℕ) (done : List SectionView) (s : SectionView) → runs_from base (done ++ s ∷ []) ≡ runs_from base done ++ run_view (base + sum_by (λ (t : SectionView). t.cpus) done) s ∷ []
 runs_push base [] s = ap (λ (b : ℕ). run_view b s ∷ []) (omega arith)

@@ -1,7 +1,7 @@
 mod Naming
 mod Keeping
 mod Sections
-mod ToldLines
+mod LoggedLines
 mod Rising
 mod LittleRoom
 mod Ready
@@ -12,15 +12,15 @@ mod Starting
 mod Charts
 mod Texts
 mod Leading
-mod ToldSoFar
-mod ToldCount
+mod LoggedSoFar
+mod LoggedCount
 mod EventPieces
 mod EventsLeading
 mod Replayed
 mod Figured
 mod Recorded
-mod Foretold
-mod HeardCalls
-mod HeardJobs
+mod Forelogged
+mod StreamedCalls
+mod StreamedJobs
 mod Sketches
 pub mod CallerLemmas

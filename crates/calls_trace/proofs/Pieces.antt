@@ -10,13 +10,13 @@ use Rattle.domain_run.specs.Passing.{with_past, without_front, without_switches}
 use Rattle.domain_run.specs.Run.{after_calls}
 use Rattle.domain_run.specs.Tick.{ticks}
 use Rattle.domain_run.specs.Sound.{IsAdmitted, IsDomain, IsSwitch}
-use Rattle.domain_run.proofs.CallerLemmas.{after_calls_behind}
+use Rattle.domain_run.proofs.CallerLemmas.{after_calls_after}
 use Rattle.switch_text.specs.Names.{Names, name_of_task, HasName, HasLine}
 use Rattle.switch_text.specs.Names.{SameNames}
 use Rattle.switch_text.specs.Trace.{SwitchesView}
 use Rattle.calls_trace.specs.Replay.{names_of}
 use Rattle.calls_trace.specs.private.Replaying.{AdmittedHaveNames}
-use Rattle.calls_trace.proofs.Keeping.{names_behind, names_kept, rest_advanced, names_advanced}
+use Rattle.calls_trace.proofs.Keeping.{names_later, names_kept, rest_advanced, names_advanced}
 
 -- ---- the switches at hand, and those that are left
 
@@ -27,11 +27,11 @@ restored d = ap (λ (ss : List Switch). record d { switches = ss }) (append-nil 
 pub switches_left : (d : Domain) (cs : List Call) → (after_calls d cs).switches ≡ d.switches ++ (after_calls (without_switches d) cs).switches
 switches_left d cs =
     ap (λ (e : Domain). (after_calls e cs).switches) (sym (restored d))
-    ∙ ap (λ (e : Domain). e.switches) (after_calls_behind d.switches (without_switches d) cs)
+    ∙ ap (λ (e : Domain). e.switches) (after_calls_after d.switches (without_switches d) cs)
 
 pub names_left : (d : Domain) (cs : List Call) (names : ℕ → List ℕ) (n : ℕ) → names_of (without_switches d) cs names n ≡ names_of d cs names n
 names_left d cs names n =
-    ap (λ (f : ℕ → List ℕ). f n) (sym (names_behind d.switches (without_switches d) cs names) ∙ ap (λ (e : Domain). names_of e cs names) (restored d))
+    ap (λ (f : ℕ → List ℕ). f n) (sym (names_later d.switches (without_switches d) cs names) ∙ ap (λ (e : Domain). names_of e cs names) (restored d))
 
 -- nothing is left
 pub nothing_left : (d : Domain) (left : ℕ) (cs : List Call) → left ≡ 0 → cs ≡ [] → (after_calls (without_switches d) (Advance left ∷ cs)).switches ≡ []

@@ -21,7 +21,7 @@ use Rattle.calls_trace.specs.Upward.{of_trace, of_calls}
 use Rattle.calls_trace.specs.Written.{IsUnwritten, IsWritten}
 use Rattle.calls_trace.specs.private.Replayed.{IsReplayed, IsUnreplayed}
 use Rattle.calls_trace.specs.private.Replaying.{text_of_runs}
-use Rattle.calls_trace.specs.private.RunTexts.{is_told_text, text_of_all}
+use Rattle.calls_trace.specs.private.RunTexts.{is_logged_text, text_of_all}
 use Rattle.calls_trace.proofs.Texts.{of_all, text_is}
 
 pub one_section : (s : SectionView) → AreRead (s ∷ []) → IsSection s

@@ -1,4 +1,5 @@
--- The switches of the whole run of a section rise strictly by time and CPU, and are few: by the rules alone, whoever keeps them.
+-- The switches of the whole run of a section rise strictly by time and CPU, and are few: by the
+-- rules alone, whoever keeps them.
 use Rattle.std.proofs.Common.{◌≡◌, ℕ, zero, suc, ◌+◌, ◌*◌, ◌^◌, ◌<◌, ◌≤◌, Bool, true, false, cond, ltb, ◌||◌, Option, List, [], ◌∷◌, ◌++◌, length, get_or, refl, sym, arith, eq-eqb, length-append}
 use Rattle.std.specs.Prelude.{All, AllPairs, IsTrue}
 use Rattle.std.proofs.lemmas.Bool.{lt-ltb}
@@ -18,8 +19,8 @@ use Rattle.domain_run.proofs.CallerLemmas.{AllPairs-append, before_time, HasKnow
 use Rattle.calls_text.specs.SectionView.{SectionView}
 use Rattle.calls_text.specs.Limits.{IsSection}
 use Rattle.calls_trace.specs.Replay.{calls_in_section}
-use Rattle.calls_trace.specs.Told.{domain_of}
-use Rattle.calls_trace.proofs.ToldLines.{section_time}
+use Rattle.calls_trace.specs.DomainEvents.{domain_of}
+use Rattle.calls_trace.proofs.LoggedLines.{section_time}
 
 abbrev Rises : Switch → Switch → Type 0
 Rises a b = IsTrue (is_switch_before a b)

@@ -7,8 +7,8 @@ use Rattle.domain_run.specs.Domain.{Domain}
 use Rattle.domain_run.specs.Calls.{after_call}
 use Rattle.domain_run.specs.Log.{LogView}
 use Rattle.calls_trace.specs.Replay.{names_of, names_after}
-use Rattle.calls_trace.specs.Told.{no_params}
-use Rattle.calls_trace.specs.private.Replaying.{heard}
+use Rattle.calls_trace.specs.DomainEvents.{no_params}
+use Rattle.calls_trace.specs.private.Replaying.{streamed}
 
 pub left_names : (d r : Domain) (c : Call) (cs all : List Call) (was is end : ℕ → List ℕ) → all ≡ c ∷ cs → r ≡ after_call d c → ((n : ℕ) → is n ≡ names_after d c was n) → ((n : ℕ) → names_of d all was n ≡ end n) → (n : ℕ) → names_of r cs is n ≡ end n
 left_names d r c cs all was is end same made each left n =
@@ -22,6 +22,6 @@ none_kept w all was is silent each none n = each n ∙ ap (λ (b : Bool). cond b
 -- ---- what a log keeps
 
 -- a log that wants it has nothing at first, and one that does not never has
-pub unheard : (log : LogView) (w : Bool) → log.wanted ≡ w → (IsTrue w → log.happened ≡ []) → heard log ≡ []
-unheard log true is none = ap (λ (w : Bool). cond w log.happened []) is ∙ none refl
-unheard log false is none = ap (λ (w : Bool). cond w log.happened []) is
+pub unstreamed : (log : LogView) (w : Bool) → log.wanted ≡ w → (IsTrue w → log.happened ≡ []) → streamed log ≡ []
+unstreamed log true is none = ap (λ (w : Bool). cond w log.happened []) is ∙ none refl
+unstreamed log false is none = ap (λ (w : Bool). cond w log.happened []) is

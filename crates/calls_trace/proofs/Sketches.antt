@@ -11,13 +11,14 @@ use Rattle.domain_run.specs.declared.call.Call.TheVariants.{Admit, Regrade, Wake
 use Rattle.domain_run.specs.declared.happened.Happened.{Happened}
 use Rattle.domain_run.specs.Calls.{after_call}
 use Rattle.domain_run.specs.Domain.{Domain, IsLimit, empty_domain}
+use Rattle.domain_run.specs.Passing.{without_switches}
 use Rattle.domain_run.specs.Run.{after_calls}
 use Rattle.domain_run.specs.Switch.{Switch}
 use Rattle.domain_run.proofs.CallerLemmas.{call_time, ticks_of}
 use Rattle.calls_text.specs.SectionView.{SectionView}
 use Rattle.calls_text.specs.Limits.{IsSection}
 use Rattle.run_figures.specs.declared.run.Admitted.{Admitted}
-use Rattle.run_figures.specs.Accounting.{AccountingView, heard_run}
+use Rattle.run_figures.specs.Accounting.{AccountingView, streamed_run}
 use Rattle.run_figures.specs.Places.{IsAbsent}
 use Rattle.run_figures.specs.Runs.{AreTasks}
 use Rattle.run_options.specs.declared.replay_print.ReplayPrint.TheVariants as prints
@@ -30,21 +31,22 @@ use Rattle.chart.specs.Rows.{ChartRowView}
 use Rattle.chart.specs.Chart.{chart_text}
 use Rattle.switch_text.specs.Names.{name_of_task}
 use Rattle.calls_trace.specs.declared.foreseen_text.ForeseenSection.{ForeseenSection}
-use Rattle.calls_trace.specs.declared.hearing.Hearing.{Hearing}
+use Rattle.calls_trace.specs.declared.streaming.Streaming.{Streaming}
 use Rattle.calls_trace.specs.declared.run_text.RunText.TheVariants.{Chart}
 use Rattle.calls_trace.specs.declared.sketch.Sketch.{Sketch}
-use Rattle.calls_trace.specs.Charted.{chart_row_of, cpus_of_sections, last_time, rows_at, rows_from}
+use Rattle.calls_trace.specs.Charted.{chart_in, chart_row_of, cpus_of_sections, last_time, rows_at, rows_from}
 use Rattle.calls_trace.specs.Replay.{calls_in_section}
-use Rattle.calls_trace.specs.Told.{admitted_with_params, domain_of, no_params}
+use Rattle.calls_trace.specs.Streamed.{section_streamed}
+use Rattle.calls_trace.specs.DomainEvents.{admitted_with_params, domain_of, names_in, no_params, params_in}
 use Rattle.calls_trace.specs.private.Calls.{ticks_given}
 use Rattle.calls_trace.specs.private.Foreseen.{AreCallsOf, IsForeseen, all_ticks}
-use Rattle.calls_trace.specs.private.Hearing.{figures_led, led_by, led_to}
+use Rattle.calls_trace.specs.private.Streaming.{figures_led, led_by, led_to}
 use Rattle.calls_trace.specs.private.Replaying.{given_in}
 use Rattle.calls_trace.specs.private.RunTexts.{text_of_all}
 use Rattle.calls_trace.specs.private.Sketched.{AheadView, IsReadyToRun, SketchView, ahead_as, ahead_in, chart_ahead, chart_sketched, charted_from, cpus_sketched, end_ahead, no_row, row_in, sketch_ahead, sketch_as, sketch_led}
 use Rattle.calls_trace.proofs.Charts.{few_tasks}
 use Rattle.calls_trace.proofs.Figured.{numbers_are}
-use Rattle.calls_trace.proofs.Foretold.{calls_few}
+use Rattle.calls_trace.proofs.Forelogged.{calls_few}
 use Rattle.calls_trace.proofs.Texts.{both, text_is}
 use Rattle.calls_trace.proofs.Written.{calls_cpus}
 
@@ -87,41 +89,51 @@ pub picked_few : (f : ℕ → RowView) (index places : List ℕ) (tasks : List A
 picked_few f index places tasks are picked =
     omega (arith, length-map places (row_in (map f index)), ap length picked, length-map tasks (λ (t : Admitted). f t.number), few_tasks tasks are)
 
+-- the rows in the first places
+pub places_next : (rows : List RowView) (k : ℕ) (places after : List ℕ) → k < length rows → map (row_in rows) places ≡ take k rows → after ≡ places ++ k ∷ [] → map (row_in rows) after ≡ take (k + 1) rows
+places_next rows k places after inside was more =
+    let next : suc k ≡ k + 1 = omega arith in
+    ap (map (row_in rows)) more
+    ∙ map-append (row_in rows) places (k ∷ [])
+    ∙ ap (λ (rs : List RowView). rs ++ row_in rows k ∷ []) was
+    ∙ sym (take-suc rows k no_row inside)
+    ∙ ap (λ (n : ℕ). take n rows) next
+
 -- ---- the rows at the end
 
--- those of the tasks, of the run that was heard
-pub rows_led : (w : Window) (h : Hearing) (tasks : List Admitted) → h.calls ≡ [] → h.run.log.happened ≡ [] → h.run.state.switches ≡ [] → h.accounting.time ≡ h.run.state.time → tasks ≡ map (admitted_with_params (given_in h.run.given)) h.run.state.used
-    → rows_of w (heard_run h.accounting tasks) ≡ rows_of w (figures_led (led_to h))
-rows_led w h tasks calls untold bare time are =
+-- those of the tasks, of the run that was streamed
+pub rows_led : (w : Window) (h : Streaming) (tasks : List Admitted) → h.calls ≡ [] → h.run.log.happened ≡ [] → h.run.state.switches ≡ [] → h.accounting.time ≡ h.run.state.time → tasks ≡ map (admitted_with_params (given_in h.run.given)) h.run.state.used
+    → rows_of w (streamed_run h.accounting tasks) ≡ rows_of w (figures_led (led_to h))
+rows_led w h tasks calls unlogged bare time are =
     let a = h.accounting in
     let d = h.run.state in
-    let hs : a.happened ≡ (a.happened ++ h.run.log.happened) ++ [] = sym (append-nil (a.happened ++ h.run.log.happened) ∙ ap (λ (gs : List Happened). a.happened ++ gs) untold ∙ append-nil a.happened) in
+    let hs : a.happened ≡ (a.happened ++ h.run.log.happened) ++ [] = sym (append-nil (a.happened ++ h.run.log.happened) ∙ ap (λ (gs : List Happened). a.happened ++ gs) unlogged ∙ append-nil a.happened) in
     let ss : a.switches ≡ a.switches ++ d.switches = sym (ap (λ (gs : List Switch). a.switches ++ gs) bare ∙ append-nil a.switches) in
     let run : List RowView = rows_of w (figures_led (led_by h [])) in
-    let same : rows_of w (heard_run a tasks) ≡ run = λ i. rows_of w (record { cpus = d.cpus; time = time i; tasks = are i; happened = hs i; switches = ss i }) in
+    let same : rows_of w (streamed_run a tasks) ≡ run = λ i. rows_of w (record { cpus = d.cpus; time = time i; tasks = are i; happened = hs i; switches = ss i }) in
     same ∙ ap (λ (xs : List Call). rows_of w (figures_led (led_by h xs))) (sym calls)
 
 -- the rows of all numbers, whatever their parameters
-pub rows_of_numbers : (w : Window) (a : AccountingView) (numbers : List ℕ) (rows : List RowView) → a.tasks ≡ numbers → ((tasks : List Admitted) → map (λ t. t.number) tasks ≡ a.tasks → rows ≡ rows_of w (heard_run a tasks)) → rows ≡ map (row_of w (heard_run a [])) numbers
+pub rows_of_numbers : (w : Window) (a : AccountingView) (numbers : List ℕ) (rows : List RowView) → a.tasks ≡ numbers → ((tasks : List Admitted) → map (λ t. t.number) tasks ≡ a.tasks → rows ≡ rows_of w (streamed_run a tasks)) → rows ≡ map (row_of w (streamed_run a [])) numbers
 rows_of_numbers w a numbers rows same are =
     let known = map (admitted_with_params no_params) numbers in
-    let f : ℕ → RowView = row_of w (heard_run a []) in
+    let f : ℕ → RowView = row_of w (streamed_run a []) in
     are known (numbers_are no_params numbers ∙ sym same) ∙ both (λ (t : Admitted). t.number) f known ∙ ap (map f) (numbers_are no_params numbers)
 
-pub sketch_is : (w : Window) (h : Hearing) (numbers places : List ℕ) (rows : List RowView) → h.calls ≡ [] → h.run.log.happened ≡ [] → h.run.state.switches ≡ [] → h.accounting.time ≡ h.run.state.time → h.accounting.tasks ≡ numbers
-    → ((f : ℕ → RowView) → map (row_in (map f numbers)) places ≡ map f h.run.state.used) → ((tasks : List Admitted) → map (λ t. t.number) tasks ≡ h.accounting.tasks → rows ≡ rows_of w (heard_run h.accounting tasks))
+pub sketch_is : (w : Window) (h : Streaming) (numbers places : List ℕ) (rows : List RowView) → h.calls ≡ [] → h.run.log.happened ≡ [] → h.run.state.switches ≡ [] → h.accounting.time ≡ h.run.state.time → h.accounting.tasks ≡ numbers
+    → ((f : ℕ → RowView) → map (row_in (map f numbers)) places ≡ map f h.run.state.used) → ((tasks : List Admitted) → map (λ t. t.number) tasks ≡ h.accounting.tasks → rows ≡ rows_of w (streamed_run h.accounting tasks))
     → record { names = name_of_task h.run.names; cpus = h.run.state.cpus; rows = map (row_in rows) places } ≡ sketch_led w (led_to h)
-sketch_is w h numbers places rows calls untold bare time same picked are =
+sketch_is w h numbers places rows calls unlogged bare time same picked are =
     let a = h.accounting in
     let used = h.run.state.used in
     let given = given_in h.run.given in
-    let f : ℕ → RowView = row_of w (heard_run a []) in
+    let f : ℕ → RowView = row_of w (streamed_run a []) in
     let tasks = map (admitted_with_params given) used in
-    let all : map (row_in rows) places ≡ rows_of w (heard_run a tasks) =
+    let all : map (row_in rows) places ≡ rows_of w (streamed_run a tasks) =
     ap (λ (rs : List RowView). map (row_in rs) places) (rows_of_numbers w a numbers rows same are)
     ∙ picked f
     ∙ both (admitted_with_params given) (λ (t : Admitted). f t.number) used in
-    let led = all ∙ rows_led w h tasks calls untold bare time refl in
+    let led = all ∙ rows_led w h tasks calls unlogged bare time refl in
     ap (λ (rs : List RowView). record { names = name_of_task h.run.names; cpus = h.run.state.cpus; rows = rs }) led
     ∙ ap (λ (xs : List Call). record { names = (led_by h xs).names; cpus = (led_by h xs).domain.cpus; rows = rows_of w (figures_led (led_to h)) }) (sym calls)
 
@@ -234,6 +246,52 @@ chart_is_ahead span w end fs sketches shown last ready made =
     ap (chart_sketched w) (made ∙ both ahead_as (sketch_ahead w) fs)
     ∙ ap (λ (x : Window). chart_sketched x (map (sketch_ahead x) ahead)) at
 
+-- ---- histories that were drawn
+
+-- a row for each task
+pub rows_long : (w : Window) (s : SectionView) (d : Domain) (a : AccountingView) (rows : List RowView) → without_switches d ≡ without_switches (domain_of s) → a ≡ section_streamed s
+    → ((tasks : List Admitted) → map (λ t. t.number) tasks ≡ a.tasks → rows ≡ rows_of w (streamed_run a tasks)) → length rows ≡ length d.used
+rows_long w s d a rows state whole are =
+    let same : a.tasks ≡ d.used = ap (λ (x : AccountingView). x.tasks) whole ∙ sym (ap (λ (x : Domain). x.used) state) in
+    ap length (rows_of_numbers w a d.used rows same are) ∙ length-map d.used (row_of w (streamed_run a []))
+
+-- a sketch is of the calls of its history
+pub sketch_drawn : (w : Window) (s : SectionView) (d : Domain) (a : AccountingView) (names : ℕ → List ℕ) (cpus : ℕ) (rows : List RowView) (places : List ℕ) → without_switches d ≡ without_switches (domain_of s) → a ≡ section_streamed s → names ≡ names_in s → cpus ≡ d.cpus
+    → map (row_in rows) places ≡ rows → ((tasks : List Admitted) → map (λ t. t.number) tasks ≡ a.tasks → rows ≡ rows_of w (streamed_run a tasks))
+    → record { names = names; cpus = cpus; rows = map (row_in rows) places } ≡ sketch_ahead w (ahead_in s)
+sketch_drawn w s d a names cpus rows places state whole named same picked are =
+    let used = (domain_of s).used in
+    let tasks = map (admitted_with_params (params_in s)) used in
+    let among : map (λ (t : Admitted). t.number) tasks ≡ a.tasks = numbers_are (params_in s) used ∙ sym (ap (λ (x : AccountingView). x.tasks) whole) in
+    let machine : cpus ≡ (domain_of s).cpus = same ∙ ap (λ (x : Domain). x.cpus) state in
+    let all : map (row_in rows) places ≡ rows_of w (streamed_run (section_streamed s) tasks) = picked ∙ are tasks among ∙ ap (λ (x : AccountingView). rows_of w (streamed_run x tasks)) whole in
+    λ i. record { names = named i; cpus = machine i; rows = all i }
+
+pub chart_drawn : (w : Window) (sketches : List SketchView) (ss : List SectionView) → sketches ≡ map (λ s. sketch_ahead w (ahead_in s)) ss → chart_sketched w sketches ≡ chart_in w ss
+chart_drawn w sketches ss made =
+    let ahead = map ahead_in ss in
+    ap (chart_sketched w) (made ∙ both ahead_in (sketch_ahead w) ss)
+    ∙ ap (λ (n : ℕ). chart_text w n (charted_from 0 (map (sketch_ahead w) ahead))) (sym (cpus_is w 0 ss))
+    ∙ ap (chart_text w (cpus_of_sections ss)) (sym (rows_ahead w 0 ss))
+
+-- the next of those that are left
+pub record IsNextLeft {X : Type 0} (xs : List X) (k : ℕ) (x : X) (left : List X) : Type 0 where
+  pub inside : k < length xs
+  pub is : (y : X) → get_or xs k y ≡ x
+  pub rest : left ≡ drop (k + 1) xs
+
+pub next_left : {X : Type 0} (xs : List X) (k : ℕ) (x : X) (left : List X) → x ∷ left ≡ drop k xs → IsNextLeft xs k x left
+next_left [] zero x left same = absurd cc
+next_left [] (suc k) x left same = absurd cc
+next_left (y ∷ xs) zero x left same =
+    let head : x ≡ y = cc in
+    let tail : left ≡ xs = cc in
+    record { inside = omega arith; is = λ z. sym head; rest = tail }
+next_left (y ∷ xs) (suc k) x left same =
+    let more = next_left xs k x left same in
+    let next : suc (k + 1) ≡ suc k + 1 = omega arith in
+    record { inside = omega (arith, more.inside); is = λ z. more.is z; rest = more.rest ∙ ap (λ (n : ℕ). drop n (y ∷ xs)) next }
+
 -- ---- several in turn
 
 -- one that is made, of those that are left
@@ -269,3 +327,7 @@ chart_made w cpus sketches rows many are = ap (chart_text w cpus) are ∙ ap (λ
 pub as_many_made : (w : Window) (fs : List ForeseenSection) (sketches lent : List Sketch) → lent ≡ sketches → map sketch_as sketches ≡ map (λ f. sketch_ahead w (ahead_as f)) fs → length fs ≤ 8 → length lent ≤ 8
 as_many_made w fs sketches lent same made few =
     omega (arith, ap length same, length-map sketches sketch_as, ap length made, length-map fs (λ (f : ForeseenSection). sketch_ahead w (ahead_as f)), few)
+
+pub as_many_drawn : (w : Window) (ss : List SectionView) (sketches lent : List Sketch) → lent ≡ sketches → map sketch_as sketches ≡ map (λ s. sketch_ahead w (ahead_in s)) ss → length ss ≤ 8 → length lent ≤ 8
+as_many_drawn w ss sketches lent same made few =
+    omega (arith, ap length same, length-map sketches sketch_as, ap length made, length-map ss (λ (s : SectionView). sketch_ahead w (ahead_in s)), few)

@@ -16,7 +16,7 @@ use Rattle.calls_text.specs.Reader.{section_with_entries}
 use Rattle.switch_text.specs.Names.{name_of_task}
 use Rattle.calls_trace.specs.declared.kept_section.KeptSection.{KeptSection}
 use Rattle.calls_trace.specs.Replay.{calls_in_section, names_of, names_after, no_names}
-use Rattle.calls_trace.specs.Told.{domain_of, names_in}
+use Rattle.calls_trace.specs.DomainEvents.{domain_of, names_in}
 use Rattle.calls_trace.specs.private.Calls.{ticks_given}
 use Rattle.calls_trace.specs.private.Kept.{IsMadeUpTo, IsOneMore, IsMadeOrKept, IsBegunBy}
 use Rattle.calls_trace.proofs.ReadRuns.{calls_push, after_push, names_push}

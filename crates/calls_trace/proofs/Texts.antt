@@ -8,11 +8,11 @@ use Rattle.attr_check.specs.ParamsView.{ParamsView}
 use Rattle.domain_run.specs.declared.happened.Happened.{Happened}
 use Rattle.calls_text.specs.SectionView.{SectionView}
 use Rattle.switch_text.specs.declared.run.Run.{Run as Lent}
-use Rattle.switch_text.specs.declared.told.Told.{Told}
+use Rattle.switch_text.specs.declared.logged.DomainEvents.{DomainEvents}
 use Rattle.switch_text.specs.Runs as lent
-use Rattle.switch_text.specs.Telling.{told_views}
+use Rattle.switch_text.specs.EventLines.{logged_views}
 use Rattle.switch_text.specs.Trace.{SwitchesView, trace_of}
-use Rattle.switch_text.specs.Events.{ToldView, events_of}
+use Rattle.switch_text.specs.Events.{LoggedView, events_of}
 use Rattle.run_figures.specs.declared.run.Run.{Run}
 use Rattle.run_figures.specs.declared.run.Admitted.{Admitted}
 use Rattle.run_figures.specs.declared.figures.CpuFigures.{CpuFigures}
@@ -30,12 +30,12 @@ use Rattle.run_options.specs.declared.replay_print.ReplayPrint.TheVariants as pr
 use Rattle.calls_trace.specs.declared.run_text.RunText.{RunText}
 use Rattle.calls_trace.specs.declared.run_text.RunText.TheVariants.{Trace, Events, Jobs, Summary, Chart}
 use Rattle.calls_trace.specs.Replay.{run_view, runs_from, trace_of_sections}
-use Rattle.calls_trace.specs.Told.{admitted_with_params, told_from, jobs_view, summary_view, events_of_sections, jobs_of_sections, summary_of_sections}
+use Rattle.calls_trace.specs.DomainEvents.{admitted_with_params, logged_from, jobs_view, summary_view, events_of_sections, jobs_of_sections, summary_of_sections}
 use Rattle.calls_trace.specs.Charted.{chart_of_sections}
 use Rattle.calls_trace.specs.Answer.{replayed_text}
 use Rattle.run_options.specs.Options.{print_tells}
-use Rattle.calls_trace.specs.private.Replaying.{placed_view_of, view_at, views_from, placed_run_view, told_in, jobs_in, summary_in, text_in, text_of_runs}
-use Rattle.calls_trace.specs.private.RunTexts.{run_text, is_told_text, text_of_all}
+use Rattle.calls_trace.specs.private.Replaying.{placed_view_of, view_at, views_from, placed_run_view, logged_in, jobs_in, summary_in, text_in, text_of_runs}
+use Rattle.calls_trace.specs.private.RunTexts.{run_text, is_logged_text, text_of_all}
 use Rattle.calls_trace.proofs.Charts.{chart_same}
 
 -- ---- lists, one element more
@@ -69,12 +69,12 @@ pub trace_is : (written lent_to : List Lent) (placed : List PlacedRun) → lent_
 unfolding text_of_runs
 trace_is written lent_to placed same views = ap trace_of (ap lent.views same ∙ views ∙ both placed_view_of placed_run_view placed)
 
-pub events_are : (written lent_to : List Lent) (told told_to : List Told) (placed : List PlacedRun) → lent_to ≡ written → told_to ≡ told → lent.views written ≡ map (λ p. placed_run_view (placed_view_of p)) placed
-    → told_views told ≡ map (λ p. told_in (placed_view_of p)) placed → events_of (lent.views lent_to) (told_views told_to) ≡ text_of_runs Events placed
+pub events_are : (written lent_to : List Lent) (logged logged_to : List DomainEvents) (placed : List PlacedRun) → lent_to ≡ written → logged_to ≡ logged → lent.views written ≡ map (λ p. placed_run_view (placed_view_of p)) placed
+    → logged_views logged ≡ map (λ p. logged_in (placed_view_of p)) placed → events_of (lent.views lent_to) (logged_views logged_to) ≡ text_of_runs Events placed
 unfolding text_of_runs
-events_are written lent_to told told_to placed same same_told views told_are =
-    ap (λ (rs : List SwitchesView). events_of rs (told_views told_to)) (ap lent.views same ∙ views ∙ both placed_view_of placed_run_view placed)
-    ∙ ap (events_of (map placed_run_view (map placed_view_of placed))) (ap told_views same_told ∙ told_are ∙ both placed_view_of told_in placed)
+events_are written lent_to logged logged_to placed same same_logged views logged_are =
+    ap (λ (rs : List SwitchesView). events_of rs (logged_views logged_to)) (ap lent.views same ∙ views ∙ both placed_view_of placed_run_view placed)
+    ∙ ap (events_of (map placed_run_view (map placed_view_of placed))) (ap logged_views same_logged ∙ logged_are ∙ both placed_view_of logged_in placed)
 
 pub jobs_are : {C : Type 0} (placed_in : C → PlacedRun) (counted : List C) (placed : List PlacedRun) (views : List JobsView) → map placed_in counted ≡ placed → views ≡ map (λ c. jobs_in (placed_view_of (placed_in c))) counted → jobs_text views ≡ text_of_runs Jobs placed
 unfolding text_of_runs
@@ -87,7 +87,7 @@ summary_is placed views are = ap summary_text (are ∙ both placed_view_of summa
 
 -- ---- those of sections
 
-pub of_all : (text : RunText) (sections : List SectionView) (runs placed : List PlacedRun) → placed ≡ runs → map placed_view_of runs ≡ views_from (is_told_text text) 0 sections → text_of_runs text placed ≡ text_of_all text sections
+pub of_all : (text : RunText) (sections : List SectionView) (runs placed : List PlacedRun) → placed ≡ runs → map placed_view_of runs ≡ views_from (is_logged_text text) 0 sections → text_of_runs text placed ≡ text_of_all text sections
 unfolding text_of_runs text_of_all
 of_all text sections runs placed same views = ap (text_in text) (ap (map placed_view_of) same ∙ views)
 
@@ -95,9 +95,9 @@ runs_are : (wanted : Bool) (base : ℕ) (ss : List SectionView) → map placed_r
 runs_are wanted base [] = refl
 runs_are wanted base (s ∷ ss) = ap (λ (rs : List SwitchesView). run_view base s ∷ rs) (runs_are wanted (base + s.cpus) ss)
 
-told_are : (base : ℕ) (ss : List SectionView) → map told_in (views_from true base ss) ≡ told_from base ss
-told_are base [] = refl
-told_are base (s ∷ ss) = ap (λ (ts : List ToldView). told_in (view_at true base s) ∷ ts) (told_are (base + s.cpus) ss)
+logged_are : (base : ℕ) (ss : List SectionView) → map logged_in (views_from true base ss) ≡ logged_from base ss
+logged_are base [] = refl
+logged_are base (s ∷ ss) = ap (λ (ts : List LoggedView). logged_in (view_at true base s) ∷ ts) (logged_are (base + s.cpus) ss)
 
 all_jobs : (base : ℕ) (ss : List SectionView) → map jobs_in (views_from true base ss) ≡ map jobs_view ss
 all_jobs base [] = refl
@@ -107,24 +107,24 @@ all_figures : (base : ℕ) (ss : List SectionView) → map summary_in (views_fro
 all_figures base [] = refl
 all_figures base (s ∷ ss) = ap (λ (fs : List SummaryView). summary_view s ∷ fs) (all_figures (base + s.cpus) ss)
 
-text_are : (text : RunText) (print : ReplayPrint) → run_text print ≡ Some text → (ss : List SectionView) → text_in text (views_from (is_told_text text) 0 ss) ≡ replayed_text print ss
+text_are : (text : RunText) (print : ReplayPrint) → run_text print ≡ Some text → (ss : List SectionView) → text_in text (views_from (is_logged_text text) 0 ss) ≡ replayed_text print ss
 text_are text prints.Trace e ss =
     let is : Trace ≡ text = ap (λ (o : Option RunText). unwrap_or o Trace) e in
-    subst (λ (t : RunText). text_in t (views_from (is_told_text t) 0 ss) ≡ trace_of_sections ss) is (ap trace_of (runs_are false 0 ss))
+    subst (λ (t : RunText). text_in t (views_from (is_logged_text t) 0 ss) ≡ trace_of_sections ss) is (ap trace_of (runs_are false 0 ss))
 text_are text prints.Replies e ss = absurd cc
 text_are text prints.Events e ss =
     let is : Events ≡ text = ap (λ (o : Option RunText). unwrap_or o Events) e in
-    subst (λ (t : RunText). text_in t (views_from (is_told_text t) 0 ss) ≡ events_of_sections ss) is
-    (ap (λ (rs : List SwitchesView). events_of rs (map told_in (views_from true 0 ss))) (runs_are true 0 ss) ∙ ap (events_of (runs_from 0 ss)) (told_are 0 ss))
+    subst (λ (t : RunText). text_in t (views_from (is_logged_text t) 0 ss) ≡ events_of_sections ss) is
+    (ap (λ (rs : List SwitchesView). events_of rs (map logged_in (views_from true 0 ss))) (runs_are true 0 ss) ∙ ap (events_of (runs_from 0 ss)) (logged_are 0 ss))
 text_are text prints.Jobs e ss =
     let is : Jobs ≡ text = ap (λ (o : Option RunText). unwrap_or o Jobs) e in
-    subst (λ (t : RunText). text_in t (views_from (is_told_text t) 0 ss) ≡ jobs_of_sections ss) is (ap jobs_text (all_jobs 0 ss))
+    subst (λ (t : RunText). text_in t (views_from (is_logged_text t) 0 ss) ≡ jobs_of_sections ss) is (ap jobs_text (all_jobs 0 ss))
 text_are text prints.Summary e ss =
     let is : Summary ≡ text = ap (λ (o : Option RunText). unwrap_or o Summary) e in
-    subst (λ (t : RunText). text_in t (views_from (is_told_text t) 0 ss) ≡ summary_of_sections ss) is (ap summary_text (all_figures 0 ss))
+    subst (λ (t : RunText). text_in t (views_from (is_logged_text t) 0 ss) ≡ summary_of_sections ss) is (ap summary_text (all_figures 0 ss))
 text_are text (prints.Chart span) e ss =
     let is : Chart span ≡ text = ap (λ (o : Option RunText). unwrap_or o Trace) e in
-    subst (λ (t : RunText). text_in t (views_from (is_told_text t) 0 ss) ≡ chart_of_sections span ss) is (chart_same span ss)
+    subst (λ (t : RunText). text_in t (views_from (is_logged_text t) 0 ss) ≡ chart_of_sections span ss) is (chart_same span ss)
 
 -- what is asked for
 pub text_is : (text : RunText) (print : ReplayPrint) → run_text print ≡ Some text → (ss : List SectionView) → text_of_all text ss ≡ replayed_text print ss
@@ -139,13 +139,13 @@ replies_are prints.Jobs e ss = absurd cc
 replies_are prints.Summary e ss = absurd cc
 replies_are (prints.Chart span) e ss = absurd cc
 
-pub tells_is : (text : RunText) (print : ReplayPrint) → run_text print ≡ Some text → print_tells print ≡ is_told_text text
-tells_is text prints.Trace e = ap is_told_text (ap (λ (o : Option RunText). unwrap_or o Trace) e)
-tells_is text prints.Replies e = absurd cc
-tells_is text prints.Events e = ap is_told_text (ap (λ (o : Option RunText). unwrap_or o Events) e)
-tells_is text prints.Jobs e = ap is_told_text (ap (λ (o : Option RunText). unwrap_or o Jobs) e)
-tells_is text prints.Summary e = ap is_told_text (ap (λ (o : Option RunText). unwrap_or o Summary) e)
-tells_is text (prints.Chart span) e = ap is_told_text (ap (λ (o : Option RunText). unwrap_or o Trace) e)
+pub logs_is : (text : RunText) (print : ReplayPrint) → run_text print ≡ Some text → print_tells print ≡ is_logged_text text
+logs_is text prints.Trace e = ap is_logged_text (ap (λ (o : Option RunText). unwrap_or o Trace) e)
+logs_is text prints.Replies e = absurd cc
+logs_is text prints.Events e = ap is_logged_text (ap (λ (o : Option RunText). unwrap_or o Events) e)
+logs_is text prints.Jobs e = ap is_logged_text (ap (λ (o : Option RunText). unwrap_or o Jobs) e)
+logs_is text prints.Summary e = ap is_logged_text (ap (λ (o : Option RunText). unwrap_or o Summary) e)
+logs_is text (prints.Chart span) e = ap is_logged_text (ap (λ (o : Option RunText). unwrap_or o Trace) e)
 
 -- ---- figures
 
@@ -160,12 +160,12 @@ tasks_apart given ns small apart = record {
 }
 
 -- the jobs of the tasks that were admitted
-pub jobs_is : (given : ℕ → ParamsView) (run : Run) (used : List ℕ) (heard : List Happened) (jobs : List TaskJobsView) → jobs ≡ map (λ t. task_jobs run.happened.now t.number) run.tasks.now → run.tasks.now ≡ map (admitted_with_params given) used → run.happened.now ≡ heard
-    → jobs ≡ map (task_jobs heard) used
-jobs_is given run used heard jobs are tasks told =
-    are ∙ ap (λ (hs : List Happened). map (λ t. task_jobs hs t.number) run.tasks.now) told
-    ∙ ap (map (λ t. task_jobs heard t.number)) tasks
-    ∙ sym (both (admitted_with_params given) (λ t. task_jobs heard t.number) used)
+pub jobs_is : (given : ℕ → ParamsView) (run : Run) (used : List ℕ) (streamed : List Happened) (jobs : List TaskJobsView) → jobs ≡ map (λ t. task_jobs run.happened.now t.number) run.tasks.now → run.tasks.now ≡ map (admitted_with_params given) used → run.happened.now ≡ streamed
+    → jobs ≡ map (task_jobs streamed) used
+jobs_is given run used streamed jobs are tasks logged =
+    are ∙ ap (λ (hs : List Happened). map (λ t. task_jobs hs t.number) run.tasks.now) logged
+    ∙ ap (map (λ t. task_jobs streamed t.number)) tasks
+    ∙ sym (both (admitted_with_params given) (λ t. task_jobs streamed t.number) used)
 
 pub as_many_cpus : (run : counted.RunView) (cpus : List CpuFigures) → cpus ≡ cpu_figures run → length cpus ≡ run.cpus
 as_many_cpus run cpus are = ap length are ∙ length-map-range_with_len (cpu_of run) 0 run.cpus

@@ -13,7 +13,7 @@ use Rattle.run_options.specs.declared.replay_print.ReplayPrint.{ReplayPrint}
 use Rattle.run_options.specs.declared.replay_print.ReplayPrint.TheVariants.{Trace, Replies, Events, Jobs, Summary, Chart}
 use Rattle.reply_text.specs.Replies.{replies_of}
 use Rattle.calls_trace.specs.Replay.{trace_of_sections}
-use Rattle.calls_trace.specs.Told.{events_of_sections, jobs_of_sections, summary_of_sections}
+use Rattle.calls_trace.specs.DomainEvents.{events_of_sections, jobs_of_sections, summary_of_sections}
 use Rattle.calls_trace.specs.Charted.{chart_of_sections}
 
 -- what a call of replay met: its reader and its writer, each before the call and after it

@@ -8,7 +8,7 @@ use Rattle.chart_pieces.specs.Window.{window_of}
 use Rattle.chart_pieces.specs.Rows.{rows_of}
 use Rattle.chart.specs.Rows.{ChartRowView}
 use Rattle.chart.specs.Chart.{chart_text}
-use Rattle.calls_trace.specs.Told.{domain_of, names_in, figures_view}
+use Rattle.calls_trace.specs.DomainEvents.{domain_of, names_in, figures_view}
 
 -- the runs end where the last of them does
 abbrev pub last_time : List SectionView → ℕ

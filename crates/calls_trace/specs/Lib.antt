@@ -1,9 +1,9 @@
 pub mod Replay
-pub mod Told
+pub mod DomainEvents
 pub mod HistoryNames
 pub mod Charted
 pub mod Answer
 pub mod Written
-pub mod Heard
+pub mod Streamed
 pub mod Upward
 pub mod private

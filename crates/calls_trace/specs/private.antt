@@ -7,13 +7,13 @@ pub mod NameGiven
 pub mod LittleRoom
 pub mod Kept
 pub mod Playing
-pub mod ToldSoFar
+pub mod LoggedSoFar
 pub mod PlayingEvents
 pub mod ReadRuns
 pub mod ReadText
 pub mod ReadEvents
 pub mod Replayed
 pub mod Foreseen
-pub mod Hearing
+pub mod Streaming
 pub mod Summed
 pub mod Sketched

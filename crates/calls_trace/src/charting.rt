@@ -13,6 +13,7 @@ ghost use Rattle.calls_trace.specs.Written.{IsWritten, IsUnwritten};
 ghost use Rattle.calls_trace.specs.Charted.{chart_row_of};
 ghost use Rattle.calls_trace.specs.declared.run_text.RunText.TheVariants as texts;
 ghost use Rattle.calls_trace.specs.private.Replaying.{placed_view_of, figures_in, rows_in, text_of_runs};
+ghost use Rattle.limits.specs.Limits.{max_history};
 
 use crate::fault::TraceFault;
 use crate::figures::{as_counted, tasks_of, write_whole};
@@ -62,7 +63,7 @@ struct DrawnRun<'a> {
     rows: Vec<Row>,
     ghost drawn: { rows.items ≡ pieces.rows_of window (figures_in (placed_view_of placed.now)) },
     ghost seen: { All (AreSeen window) rows.items },
-    ghost few: { length rows.items ≤ 65536 },
+    ghost few: { length rows.items ≤ max_history },
 }
 
 fn draw(alloc: Global, placed: &PlacedRun, window: Window) -> Result<DrawnRun<'_>, NoMemory>
@@ -117,7 +118,7 @@ fn as_charted<'a>(drawn: &'a DrawnRun<'_>, row: &'a Row) -> ChartRow<'a>
     }
 }
 
-/// Puts the rows of a run behind those of the runs before it.
+/// Puts the rows of a run after those of the runs before it.
 fn push_rows<'a>(all: &mut Vec<ChartRow<'a>>, drawn: &'a DrawnRun<'_>) -> Result<(), NoMemory>
     ensures rows { OnOk result
         (map charts.chart_row_view_of all.new.items
@@ -125,7 +126,7 @@ fn push_rows<'a>(all: &mut Vec<ChartRow<'a>>, drawn: &'a DrawnRun<'_>) -> Result
         ++ rows_in drawn.now.window (placed_view_of drawn.now.placed.now)) }
     ensures drawn { All (charts.IsDrawn drawn.now.window) all.old.items
         → OnOk result (All (charts.IsDrawn drawn.now.window) all.new.items) }
-    ensures few { OnOk result (length all.new.items ≤ length all.old.items + 65536) }
+    ensures few { OnOk result (length all.new.items ≤ length all.old.items + max_history) }
 {
     all.try_reserve(drawn.rows.len())?;
     for row in &drawn.rows {

@@ -85,7 +85,7 @@ impl EventsSoFar {
         }
     }
 
-    /// The runs of all sections of a text, behind whose sections so far a reader stands.
+    /// The runs of all sections of a text, after whose sections so far a reader stands.
     pub(crate) fn read_on(
         mut self,
         alloc: Global,

@@ -5,7 +5,7 @@ ghost use Rattle.counted_io.specs.Sides.{faults_of, side};
 ghost use Rattle.run_figures.specs.Runs as counted;
 ghost use Rattle.figure_text.specs.Jobs as jobs;
 ghost use Rattle.figure_text.specs.Summary as summaries;
-ghost use Rattle.calls_trace.specs.Told.{admitted_with_params};
+ghost use Rattle.calls_trace.specs.DomainEvents.{admitted_with_params};
 ghost use Rattle.calls_trace.specs.Written.{IsWritten, IsUnwritten};
 ghost use Rattle.calls_trace.specs.declared.run_text.RunText.TheVariants as texts;
 ghost use Rattle.calls_trace.specs.private.Replaying.{placed_view_of, given_in, figures_in, jobs_in, summary_in, text_of_runs};
@@ -14,7 +14,7 @@ ghost use Rattle.calls_trace.specs.private.Counting.{counted_as};
 use crate::counted_run::CountedRun;
 use crate::fault::TraceFault;
 use crate::placed_run::PlacedRun;
-use crate::trace::heard_by;
+use crate::trace::streamed_by;
 use attr_check::Params;
 use domain_run::{NoMemory, State};
 use draft::Draft;
@@ -73,7 +73,7 @@ pub(crate) fn as_counted<'a>(placed: &'a PlacedRun, tasks: &'a [Admitted]) -> Ru
         cpus: placed.run.state.cpus(),
         time: placed.run.state.now(),
         tasks,
-        happened: heard_by(&placed.run.log),
+        happened: streamed_by(&placed.run.log),
         switches: placed.run.state.switches(),
     }
 }

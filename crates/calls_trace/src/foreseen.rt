@@ -7,8 +7,9 @@ ghost use Rattle.calls_text.specs.Limits.{IsCall};
 ghost use Rattle.calls_text.specs.KeptCall.{call_kept};
 ghost use Rattle.calls_text.specs.Reader.{IsWithin, empty_section, bytes_left};
 ghost use Rattle.calls_trace.specs.private.Calls.{ticks_given};
-ghost use Rattle.calls_trace.specs.private.Foreseen.{IsForetold, IsForeseen, IsForeseenSection};
+ghost use Rattle.calls_trace.specs.private.Foreseen.{IsForelogged, IsForeseen, IsForeseenSection};
 ghost use Rattle.calls_trace.specs.private.ReadRuns.{IsBegun};
+ghost use Rattle.limits.specs.Limits.{max_advance, task_number_end, max_history};
 
 use crate::kept::KeptCalls;
 use crate::read_runs::next_of;
@@ -39,9 +40,9 @@ fn ticks_in(call: &Call) -> u64
 
 /// The number of the task that a call asks to admit.
 fn number_in(call: &Call) -> Option<u32>
-    ensures foretold { (numbers : List ℕ) → IfSome result (Contains numbers)
-        → IsForetold numbers call.now }
-    ensures small { IsCall call.now → IfSome result (λ n. n < 65536) }
+    ensures forelogged { (numbers : List ℕ) → IfSome result (Contains numbers)
+        → IsForelogged numbers call.now }
+    ensures small { IsCall call.now → IfSome result (λ n. n < task_number_end) }
 {
     match call {
         Call::Admit { number, .. } | Call::Arrive { number, .. } => Some(*number),
@@ -62,9 +63,9 @@ fn ticks_of(kept: &Kept) -> u64
 
 /// The number of the task that a call in little room asks to admit.
 fn number_of(kept: &Kept) -> Option<u32>
-    ensures foretold { (numbers : List ℕ) → IfSome result (Contains numbers)
-        → IsForetold numbers (call_kept kept.now) }
-    ensures small { IsCall (call_kept kept.now) → IfSome result (λ n. n < 65536) }
+    ensures forelogged { (numbers : List ℕ) → IfSome result (Contains numbers)
+        → IsForelogged numbers (call_kept kept.now) }
+    ensures small { IsCall (call_kept kept.now) → IfSome result (λ n. n < task_number_end) }
 {
     match kept {
         Kept::Long(call) => number_in(&**call),
@@ -88,7 +89,7 @@ impl Foreseen {
     /// Lists the number of a task.
     fn list(&mut self, number: Option<u32>) -> Result<(), NoMemory>
         requires foreseen { IsForeseen self.old }
-        requires small { IfSome number (λ n. n < 65536) }
+        requires small { IfSome number (λ n. n < task_number_end) }
         ensures foreseen { OnOk result (IsForeseen self.new) }
         ensures listed { OnOk result (IfSome number (Contains self.new.numbers.keys)) }
         ensures calls { self.new.calls ≡ self.old.calls }
@@ -106,7 +107,7 @@ impl Foreseen {
     fn take(&mut self, alloc: Global, kept: Kept, reused: &mut Reused<'_>) -> Result<(), NoMemory>
         requires foreseen { IsForeseen self.old }
         requires call { IsCall (call_kept kept) }
-        requires few { self.old.ticks ≤ 65536 * 60000000 }
+        requires few { self.old.ticks ≤ max_history * max_advance }
         ensures foreseen { OnOk result (IsForeseen self.new) }
         ensures calls { OnOk result (self.new.calls ≡ self.old.calls ++ call_kept kept ∷ []) }
     {

@@ -153,7 +153,7 @@ impl KeptCalls {
         Ok(())
     }
 
-    /// One call more, behind the others. The block that it stands in is used again.
+    /// One call more, after the others. The block that it stands in is used again.
     pub(crate) fn push(
         &mut self,
         alloc: Global,
@@ -219,7 +219,7 @@ impl Model for CallsLeft {
 impl CallsLeft {
     ghost use Rattle.std.specs.Prelude.{◌≡◌, [], ◌∷◌, IfSome, MatchOption};
 
-    /// The next call, and the text of the name that it gives; none behind the last one.
+    /// The next call, and the text of the name that it gives; none after the last one.
     #[inline(always)]
     pub(crate) fn next(&mut self) -> Option<(Call, String)>
         ensures next { MatchOption result ((self.old ≡ []) × (self.new ≡ []))

@@ -39,7 +39,7 @@ fn is_advance(kept: &Kept) -> bool
 }
 
 impl KeptSection {
-    /// One call more: it is made, or kept behind an advance.
+    /// One call more: it is made, or kept after an advance.
     #[inline(always)]
     fn take(&mut self, alloc: Global, kept: Kept, reused: &mut Reused<'_>) -> Result<(), NoMemory>
         requires call { IsCall (call_kept kept) }

@@ -2,6 +2,7 @@
 
 ghost use Rattle.std.specs.Prelude.{◌≡◌, ◌<◌, false, IsTrue};
 ghost use Rattle.domain_run.specs.Calls.{admit_reply, is_refusal};
+ghost use Rattle.limits.specs.Limits.{task_number_end};
 
 use attr_check::Params;
 use domain_run::{Reply, Script, State};
@@ -14,7 +15,7 @@ pub(crate) fn lay_out_if_admitted(
     params: &Params,
     script: &mut Script,
 ) -> bool
-    requires { number < 65536 }
+    requires { number < task_number_end }
     ensures script { script.new ≡ script.old }
     ensures refused { result ≡ false
         → IsTrue (is_refusal (admit_reply state.now number params.now)) }

@@ -1,13 +1,13 @@
 //! The run of the calls of a section.
 
-ghost use Rattle.std.specs.Prelude.{◌≡◌, ◌<◌, ◌≤◌, ◌+◌, ◌^◌, [], OnOk, IfOk, IsTrue, if◌then◌else◌};
+ghost use Rattle.std.specs.Prelude.{◌≡◌, ◌<◌, ◌≤◌, ◌+◌, [], OnOk, IfOk, IsTrue, if◌then◌else◌};
 ghost use Rattle.std.specs.String.{string_bytes};
 ghost use Rattle.task_script.specs.NameView.{IsName};
 ghost use Rattle.domain_run.specs.declared.call.Call.TheVariants as Call;
 ghost use Rattle.domain_run.specs.Domain.{IsLimit, empty_domain};
 ghost use Rattle.domain_run.specs.Calls.{after_call};
-ghost use Rattle.domain_run.specs.Happened.{told_by_call, told_by_ticks};
-ghost use Rattle.domain_run.specs.Log.{Tells};
+ghost use Rattle.domain_run.specs.Happened.{logged_by_call, logged_by_ticks};
+ghost use Rattle.domain_run.specs.Log.{HasLogged};
 ghost use Rattle.domain_run.specs.Run.{run_of};
 ghost use Rattle.domain_run.specs.Tick.{ticks as ticked_by};
 ghost use Rattle.calls_text.specs.Limits.{IsTaskNumber, IsCall, IsSection};
@@ -15,9 +15,10 @@ ghost use Rattle.calls_text.specs.Histories.{IsLegal};
 ghost use Rattle.calls_text.specs.KeptCall.{call_kept};
 ghost use Rattle.switch_text.specs.Names.{name_of_task};
 ghost use Rattle.calls_trace.specs.Replay.{no_names, with_name, names_after, calls_in_section};
-ghost use Rattle.calls_trace.specs.Told.{names_in, params_in, no_params, with_params, params_after, told_of};
-ghost use Rattle.calls_trace.specs.private.Replaying.{AdmittedHaveNames, MapGives, GivesParams, given_in, IsRunOf, IsToldOf};
+ghost use Rattle.calls_trace.specs.DomainEvents.{names_in, params_in, no_params, with_params, params_after, logged_of};
+ghost use Rattle.calls_trace.specs.private.Replaying.{AdmittedHaveNames, MapGives, GivesParams, given_in, IsRunOf, IsLoggedOf};
 ghost use Rattle.calls_trace.specs.private.Recorded.{names_given_by, given_by_all, params_given_by, params_given_by_all};
+ghost use Rattle.limits.specs.Limits.{clock_end, max_advance, max_script_number};
 
 use crate::laid_out::lay_out_if_admitted;
 use attr_check::Params;
@@ -99,7 +100,7 @@ impl RunWithNames {
         ensures names { IfOk result (λ r. MapGives r.names no_names) }
         ensures given { IfOk result (λ r. GivesParams r.given no_params) }
         ensures wanted { IfOk result (λ r. r.log.wanted ≡ wanted) }
-        ensures untold { IfOk result (λ r. IsTrue wanted → r.log.happened ≡ []) }
+        ensures unlogged { IfOk result (λ r. IsTrue wanted → r.log.happened ≡ []) }
     {
         match State::open(alloc, cpus, limit) {
             Ok(state) => Ok(RunWithNames {
@@ -152,7 +153,7 @@ impl RunWithNames {
         mut script: Script,
     ) -> Result<(), NoMemory>
         requires number { IsTaskNumber number }
-        requires delay { delay ≤ 1000000000 }
+        requires delay { delay ≤ max_script_number }
         requires named { AdmittedHaveNames self.old.state self.old.names }
         ensures state { let call = Call.Admit number name params delay script in
             OnOk result (self.new.state ≡ after_call self.old.state call) }
@@ -202,39 +203,39 @@ impl RunWithNames {
         }
     }
 
-    /// Ends a task; the log is told that its job is cut.
+    /// Ends a task; the log records that its job is cut.
     fn leave(&mut self, number: u32) -> Result<(), NoMemory>
         ensures state { OnOk result
             (self.new.state ≡ after_call self.old.state (Call.Leave number)) }
         ensures names { self.new.names ≡ self.old.names }
         ensures given { self.new.given ≡ self.old.given }
-        ensures told { OnOk result (Tells self.old.log
-            (told_by_call self.old.state (Call.Leave number)) self.new.log) }
+        ensures logged { OnOk result (HasLogged self.old.log
+            (logged_by_call self.old.state (Call.Leave number)) self.new.log) }
     {
         self.log.make_room(1)?;
-        self.state.leave_told(number, &mut self.log);
+        self.state.leave_logged(number, &mut self.log);
         Ok(())
     }
 
-    /// Takes a task off the list; the log is told that its job is cut.
+    /// Takes a task off the list; the log records that its job is cut.
     fn depart(&mut self, number: u32) -> Result<(), NoMemory>
         ensures state { OnOk result
             (self.new.state ≡ after_call self.old.state (Call.Depart number)) }
         ensures names { self.new.names ≡ self.old.names }
         ensures given { self.new.given ≡ self.old.given }
-        ensures told { OnOk result (Tells self.old.log
-            (told_by_call self.old.state (Call.Depart number)) self.new.log) }
+        ensures logged { OnOk result (HasLogged self.old.log
+            (logged_by_call self.old.state (Call.Depart number)) self.new.log) }
     {
         self.log.make_room(1)?;
-        self.state.depart_told(number, &mut self.log);
+        self.state.depart_logged(number, &mut self.log);
         Ok(())
     }
 
-    /// Makes a call; the log is told what it tells.
+    /// Makes a call; the log records what it logs.
     #[inline(always)]
     pub(crate) fn make(&mut self, alloc: Global, call: Call) -> Result<(), NoMemory>
         requires call { IsCall call }
-        requires early { self.old.state.time + 60000000 ≤ 2 ^ 42 }
+        requires early { self.old.state.time + max_advance ≤ clock_end }
         requires named { AdmittedHaveNames self.old.state self.old.names }
         ensures state { OnOk result (self.new.state ≡ after_call self.old.state call) }
         ensures names { OnOk result (MapGives self.new.names
@@ -242,10 +243,10 @@ impl RunWithNames {
         ensures given { OnOk result (GivesParams self.new.given (if self.old.log.wanted
             then params_after self.old.state call (given_in self.old.given)
             else given_in self.old.given)) }
-        ensures told { OnOk result
-            (Tells self.old.log (told_by_call self.old.state call) self.new.log) }
+        ensures logged { OnOk result
+            (HasLogged self.old.log (logged_by_call self.old.state call) self.new.log) }
         ensures named { OnOk result (AdmittedHaveNames self.new.state self.new.names) }
-        ensures time { OnOk result (self.new.state.time ≤ self.old.state.time + 60000000) }
+        ensures time { OnOk result (self.new.state.time ≤ self.old.state.time + max_advance) }
     {
         match call {
             Call::Admit {
@@ -290,7 +291,7 @@ impl RunWithNames {
         reused: &mut Reused<'_>,
     ) -> Result<(), NoMemory>
         requires call { IsCall (call_kept kept) }
-        requires early { self.old.state.time + 60000000 ≤ 2 ^ 42 }
+        requires early { self.old.state.time + max_advance ≤ clock_end }
         requires named { AdmittedHaveNames self.old.state self.old.names }
         ensures state { OnOk result (self.new.state ≡ after_call self.old.state (call_kept kept)) }
         ensures names { OnOk result (MapGives self.new.names
@@ -298,10 +299,10 @@ impl RunWithNames {
         ensures given { OnOk result (GivesParams self.new.given (if self.old.log.wanted
             then params_after self.old.state (call_kept kept) (given_in self.old.given)
             else given_in self.old.given)) }
-        ensures told { OnOk result
-            (Tells self.old.log (told_by_call self.old.state (call_kept kept)) self.new.log) }
+        ensures logged { OnOk result
+            (HasLogged self.old.log (logged_by_call self.old.state (call_kept kept)) self.new.log) }
         ensures named { OnOk result (AdmittedHaveNames self.new.state self.new.names) }
-        ensures time { OnOk result (self.new.state.time ≤ self.old.state.time + 60000000) }
+        ensures time { OnOk result (self.new.state.time ≤ self.old.state.time + max_advance) }
     {
         match kept {
             Kept::Wake { number } => {
@@ -317,16 +318,16 @@ impl RunWithNames {
 
     /// Makes so many ticks.
     fn advance(&mut self, ticks: u64) -> Result<(), NoMemory>
-        requires early { self.old.state.time + ticks ≤ 2 ^ 42 }
+        requires early { self.old.state.time + ticks ≤ clock_end }
         ensures state { OnOk result (self.new.state ≡ ticked_by ticks self.old.state) }
         ensures time { OnOk result (self.new.state.time ≡ self.old.state.time + ticks) }
         ensures used { OnOk result (self.new.state.used ≡ self.old.state.used) }
         ensures names { self.new.names ≡ self.old.names }
         ensures given { self.new.given ≡ self.old.given }
-        ensures told { OnOk result
-            (Tells self.old.log (told_by_ticks ticks self.old.state) self.new.log) }
+        ensures logged { OnOk result
+            (HasLogged self.old.log (logged_by_ticks ticks self.old.state) self.new.log) }
     {
-        let done = jump_run::advance_told(&mut self.state, ticks, &mut self.log);
+        let done = jump_run::advance_logged(&mut self.state, ticks, &mut self.log);
         if done.ticks < ticks {
             return Err(NoMemory);
         }
@@ -428,7 +429,7 @@ pub(crate) fn params_of(alloc: Global, history: &Section) -> Result<IndexMap<u32
     params_given(alloc, &history.entries)
 }
 
-/// The run that a history led to, which is not made again: its state, what its log was told, and
+/// The run that a history led to, which is not made again: its state, what its log was logged, and
 /// the names that its replies tell, and the parameters where the log is wanted.
 pub(crate) fn recorded(
     alloc: Global,
@@ -440,9 +441,9 @@ pub(crate) fn recorded(
     requires legal { IsLegal history.now.cpus history.now.limit history.now.entries }
     requires state { state
         ≡ run_of history.now.cpus history.now.limit (calls_in_section history.now) }
-    requires told { IsTrue log.wanted → log.happened ≡ told_of history.now }
+    requires logged { IsTrue log.wanted → log.happened ≡ logged_of history.now }
     ensures run { IfOk result (λ r. IsRunOf history.now r.state r.names) }
-    ensures told { IfOk result (λ r. IsToldOf log.wanted history.now r.given r.log) }
+    ensures logged { IfOk result (λ r. IsLoggedOf log.wanted history.now r.given r.log) }
 {
     // State and log are let go of by one call each: their parts would be written out on each way.
     let names = match names_given(alloc, &history.entries) {

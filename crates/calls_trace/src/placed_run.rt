@@ -3,7 +3,7 @@
 ghost use Rattle.std.specs.Prelude.{◌≡◌, ◌<◌, ◌≤◌, ℕ, All, IfOk, length, map, slice_index_or};
 ghost use Rattle.domain_run.specs.Log.{LogView};
 ghost use Rattle.calls_text.specs.Limits.{IsSection};
-ghost use Rattle.calls_text.specs.Histories.{AreLegal, AreRuns, AreTold};
+ghost use Rattle.calls_text.specs.Histories.{AreLegal, AreRuns, AreLogged};
 ghost use Rattle.calls_trace.specs.private.Replaying.{IsPlaced, placed_view_of, views_from};
 
 use crate::named_run::{RunWithNames, recorded};
@@ -32,7 +32,7 @@ fn take_log(alloc: Global, logs: &mut Vec<Log>, place: usize) -> Log
 }
 
 /// The runs that histories led to, each on a domain of its own, with these states, and with what
-/// their logs were told; nothing is run again.
+/// their logs have it; nothing is run again.
 pub(crate) fn place_runs(
     alloc: Global,
     histories: &[Section],
@@ -46,7 +46,7 @@ pub(crate) fn place_runs(
     requires sections { All IsSection histories.now }
     requires legal { AreLegal histories.now }
     requires runs { AreRuns histories.now states.items }
-    requires told { AreTold wanted histories.now logs.items }
+    requires logged { AreLogged wanted histories.now logs.items }
     ensures runs { IfOk result
         (λ v. map placed_view_of v.items ≡ views_from wanted 0 histories.now) }
     ensures few { IfOk result (λ v. length v.items ≤ 8) }

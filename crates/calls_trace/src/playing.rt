@@ -1,12 +1,13 @@
 //! The run of a section that is made piece by piece, so that its switches can be written while they
 //! are made.
 
-ghost use Rattle.std.specs.Prelude.{◌≡◌, ◌+◌, ◌*◌, ◌≤◌, ◌^◌, All, OnOk, length, sum_by};
+ghost use Rattle.std.specs.Prelude.{◌≡◌, ◌+◌, ◌*◌, ◌≤◌, All, OnOk, length, sum_by};
 ghost use Rattle.indexmap.specs.IndexMap.{spare};
 ghost use Rattle.switch_text.specs.Names.{name_of_task};
 ghost use Rattle.calls_trace.specs.private.Replaying.{AdmittedHaveNames, MapGives};
 ghost use Rattle.calls_trace.specs.private.Calls.{IsCallReady};
 ghost use Rattle.calls_trace.specs.private.Kept.{room_of};
+ghost use Rattle.limits.specs.Limits.{clock_end, max_advance, max_script_number};
 
 use crate::kept::CallsLeft;
 use crate::kept_section::KeptSection;
@@ -36,12 +37,12 @@ pub(crate) struct Playing {
     run: NamedDomain,
     /// So many ticks are left of the advance under way.
     left: u64,
-    /// The calls behind it.
+    /// The calls after it.
     calls: CallsLeft,
     ghost called: { AdmittedHaveNames run.domain run.names },
     ghost kept: { All IsCallReady calls },
     ghost room: { sum_by room_of calls ≤ spare run.names },
-    ghost early: { run.domain.time + left + length calls * 60000000 ≤ 2 ^ 42 },
+    ghost early: { run.domain.time + left + length calls * max_advance ≤ clock_end },
     ghost inside: { base + run.domain.cpus ≤ 512 },
 }
 
@@ -111,7 +112,7 @@ impl NamedDomain {
         text: String,
     )
         requires number { IsTaskNumber number }
-        requires delay { delay ≤ 1000000000 }
+        requires delay { delay ≤ max_script_number }
         requires text { string_bytes text ≡ name }
         requires room { 0 < spare self.old.names }
         requires called { AdmittedHaveNames self.old.domain self.old.names }
@@ -145,7 +146,7 @@ impl NamedDomain {
             (names_after self.old.domain call (name_of_task self.old.names)) }
         ensures called { AdmittedHaveNames self.new.domain self.new.names }
         ensures room { spare self.old.names ≤ spare self.new.names + room_of call }
-        ensures most { result ≤ 60000000 }
+        ensures most { result ≤ max_advance }
     {
         match call {
             Call::Admit {
@@ -199,7 +200,7 @@ impl NamedDomain {
             (names_after self.old.domain call (name_of_task self.old.names)) }
         ensures called { AdmittedHaveNames self.new.domain self.new.names }
         ensures room { spare self.old.names ≤ spare self.new.names + room_of call }
-        ensures most { result ≤ 60000000 }
+        ensures most { result ≤ max_advance }
     {
         match call {
             Call::Advance { ticks } => ticks,

@@ -4,11 +4,12 @@
 
 ghost use Rattle.std.specs.Prelude.{◌≡◌, ◌+◌, ◌*◌, ◌<◌, ◌≤◌, ◌^◌, All, length, sum_by};
 ghost use Rattle.indexmap.specs.IndexMap.{spare};
-ghost use Rattle.domain_run.specs.Logged.{IsToldUntil};
+ghost use Rattle.domain_run.specs.LoggedRun.{IsLoggedUntil};
 ghost use Rattle.calls_trace.specs.private.Replaying.{AdmittedHaveNames};
 ghost use Rattle.calls_trace.specs.private.Calls.{IsCallReady};
 ghost use Rattle.calls_trace.specs.private.Kept.{room_of};
-ghost use Rattle.calls_trace.specs.private.ToldSoFar.{IsToldSoFar};
+ghost use Rattle.calls_trace.specs.private.LoggedSoFar.{IsLoggedSoFar};
+ghost use Rattle.limits.specs.Limits.{clock_end, max_advance, max_script_number};
 
 use crate::kept::CallsLeft;
 use crate::kept_section::KeptSection;
@@ -16,10 +17,10 @@ use crate::laid_out::lay_out_if_admitted;
 use crate::named_run::RunWithNames;
 use crate::playing::make_room;
 use attr_check::Params;
-use domain_run::{Call, Logged, Name, NoMemory, Script};
+use domain_run::{Call, LoggedRun, Name, NoMemory, Script};
 use indexmap::IndexMap;
 use std::alloc::Global;
-use switch_text::{EventSlices, Run, Told};
+use switch_text::{DomainEvents, EventSlices, Run};
 
 /// If more than this waits of what happens, no tick is made before some of it was written.
 const ENOUGH: usize = 4096;
@@ -28,11 +29,11 @@ const ENOUGH: usize = 4096;
 /// numbers. Each name that is put down needs room that was made before.
 #[derive(Drop)]
 pub(crate) struct NamedLog {
-    logged: Logged,
+    logged_run: LoggedRun,
     names: IndexMap<u32, String>,
 }
 
-/// The run of a section while it is made, with the switches at hand, and what was told of what
+/// The run of a section while it is made, with the switches at hand, and what was logged of what
 /// happens, that are not yet forgotten. What needs memory is made at the opening; a script that is
 /// laid out takes some where it may.
 #[derive(Drop)]
@@ -42,17 +43,17 @@ pub(crate) struct PlayingEvents {
     run: NamedLog,
     /// The ticks that are left of the advance under way: at most 60,000,000.
     left: u64,
-    /// The calls behind it.
+    /// The calls after it.
     calls: CallsLeft,
-    ghost called: { AdmittedHaveNames run.logged.domain run.names },
+    ghost called: { AdmittedHaveNames run.logged_run.domain run.names },
     ghost kept: { All IsCallReady calls },
     ghost room: { sum_by room_of calls ≤ spare run.names },
-    ghost early: { run.logged.domain.time + left + length calls * 60000000 < 2 ^ 42 },
-    ghost short: { left ≤ 60000000 },
-    ghost inside: { base + run.logged.domain.cpus ≤ 512 },
-    ghost few: { length run.logged.told ≤ 2 ^ 50 },
-    ghost past: { ∥ All (IsToldUntil run.logged.domain.time) run.logged.told ∥₁ },
-    ghost so_far: { ∥ IsToldSoFar run.logged ∥₁ },
+    ghost early: { run.logged_run.domain.time + left + length calls * max_advance < clock_end },
+    ghost short: { left ≤ max_advance },
+    ghost inside: { base + run.logged_run.domain.cpus ≤ 512 },
+    ghost few: { length run.logged_run.logged ≤ 2 ^ 50 },
+    ghost past: { ∥ All (IsLoggedUntil run.logged_run.domain.time) run.logged_run.logged ∥₁ },
+    ghost so_far: { ∥ IsLoggedSoFar run.logged_run ∥₁ },
 }
 
 impl NamedLog {
@@ -67,12 +68,12 @@ impl NamedLog {
     ghost use Rattle.calls_trace.specs.private.Replaying.{MapGives};
     ghost use Rattle.calls_trace.specs.private.NameGiven.{name_given};
     ghost use Rattle.calls_trace.specs.private.Calls.{ticks_given};
-    ghost use Rattle.calls_trace.specs.private.ToldSoFar.{made_at_once};
+    ghost use Rattle.calls_trace.specs.private.LoggedSoFar.{made_at_once};
 
     /// The domain of a run, with an empty log, and its names, with room for `room` more.
     fn of(alloc: Global, run: RunWithNames, room: usize) -> Result<NamedLog, NoMemory>
-        ensures domain { IfOk result (λ d. d.logged.domain ≡ run.state) }
-        ensures told { IfOk result (λ d. d.logged.told ≡ []) }
+        ensures domain { IfOk result (λ d. d.logged_run.domain ≡ run.state) }
+        ensures logged { IfOk result (λ d. d.logged_run.logged ≡ []) }
         ensures names { IfOk result (λ d. MapGives d.names (name_of_task run.names)) }
         ensures room { IfOk result (λ d. room ≤ spare d.names) }
     {
@@ -90,8 +91,8 @@ impl NamedLog {
             drop(state);
             return Err(error);
         }
-        match Logged::of(alloc, state) {
-            Ok(logged) => Ok(NamedLog { logged, names }),
+        match LoggedRun::of(alloc, state) {
+            Ok(logged_run) => Ok(NamedLog { logged_run, names }),
             Err(error) => {
                 drop(names);
                 Err(error)
@@ -102,7 +103,7 @@ impl NamedLog {
     /// Puts down a name in the room for it.
     fn put(&mut self, number: u32, text: String)
         requires room { 0 < spare self.old.names }
-        ensures logged { self.new.logged ≡ self.old.logged }
+        ensures logged_run { self.new.logged_run ≡ self.old.logged_run }
         ensures names { MapGives self.new.names
             (with_name (name_of_task self.old.names) number (string_bytes text)) }
         ensures room { spare self.old.names ≤ spare self.new.names + 1 }
@@ -123,24 +124,24 @@ impl NamedLog {
         text: String,
     )
         requires number { IsTaskNumber number }
-        requires delay { delay ≤ 1000000000 }
+        requires delay { delay ≤ max_script_number }
         requires text { string_bytes text ≡ name }
         requires room { 0 < spare self.old.names }
-        requires called { AdmittedHaveNames self.old.logged.domain self.old.names }
-        ensures domain { self.new.logged.domain
-            ≡ after_call self.old.logged.domain (Call.Admit number name params delay script) }
-        ensures told { self.new.logged.told ≡ self.old.logged.told }
-        ensures names { MapGives self.new.names (names_after self.old.logged.domain
+        requires called { AdmittedHaveNames self.old.logged_run.domain self.old.names }
+        ensures domain { self.new.logged_run.domain
+            ≡ after_call self.old.logged_run.domain (Call.Admit number name params delay script) }
+        ensures logged { self.new.logged_run.logged ≡ self.old.logged_run.logged }
+        ensures names { MapGives self.new.names (names_after self.old.logged_run.domain
             (Call.Admit number name params delay script) (name_of_task self.old.names)) }
-        ensures called { AdmittedHaveNames self.new.logged.domain self.new.names }
+        ensures called { AdmittedHaveNames self.new.logged_run.domain self.new.names }
         ensures room { spare self.old.names ≤ spare self.new.names + 1 }
     {
         // For the prover alone: a look at a name brings what every name keeps.
         let _ = name.as_str();
-        if !lay_out_if_admitted(self.logged.state(), number, &params, &mut script) {
+        if !lay_out_if_admitted(self.logged_run.state(), number, &params, &mut script) {
             return;
         }
-        match self.logged.admit(number, name, params, delay, script) {
+        match self.logged_run.admit(number, name, params, delay, script) {
             Ok(()) => self.put(number, text),
             Err(_) => {}
         }
@@ -152,14 +153,14 @@ impl NamedLog {
         requires call { IsCallReady call }
         requires text { string_bytes text ≡ name_given call }
         requires room { room_of call ≤ spare self.old.names }
-        requires called { AdmittedHaveNames self.old.logged.domain self.old.names }
-        ensures domain { self.new.logged.domain
-            ≡ after_calls self.old.logged.domain (made_at_once call) }
-        ensures told { self.new.logged.told ≡ self.old.logged.told }
+        requires called { AdmittedHaveNames self.old.logged_run.domain self.old.names }
+        ensures domain { self.new.logged_run.domain
+            ≡ after_calls self.old.logged_run.domain (made_at_once call) }
+        ensures logged { self.new.logged_run.logged ≡ self.old.logged_run.logged }
         ensures left { result ≡ ticks_given call }
         ensures names { MapGives self.new.names
-            (names_after self.old.logged.domain call (name_of_task self.old.names)) }
-        ensures called { AdmittedHaveNames self.new.logged.domain self.new.names }
+            (names_after self.old.logged_run.domain call (name_of_task self.old.names)) }
+        ensures called { AdmittedHaveNames self.new.logged_run.domain self.new.names }
         ensures room { spare self.old.names ≤ spare self.new.names + room_of call }
     {
         match call {
@@ -176,19 +177,19 @@ impl NamedLog {
                 params,
                 word,
             } => {
-                self.logged.regrade(number, params, word);
+                self.logged_run.regrade(number, params, word);
             }
             Call::Wake { number } => {
-                self.logged.wake(number);
+                self.logged_run.wake(number);
             }
             Call::Leave { number } => {
-                self.logged.leave(number);
+                self.logged_run.leave(number);
             }
             Call::Limit { limit, word } => {
-                self.logged.set_limit(limit, word);
+                self.logged_run.set_limit(limit, word);
             }
             Call::Depart { number } => {
-                self.logged.depart(number);
+                self.logged_run.depart(number);
             }
             // As an admission without a delay.
             Call::Arrive {
@@ -208,28 +209,28 @@ impl NamedLog {
         requires call { IsCallReady call }
         requires text { string_bytes text ≡ name_given call }
         requires room { room_of call ≤ spare self.old.names }
-        requires called { AdmittedHaveNames self.old.logged.domain self.old.names }
-        ensures domain { self.new.logged.domain
-            ≡ after_calls self.old.logged.domain (made_at_once call) }
-        ensures told { self.new.logged.told ≡ self.old.logged.told }
+        requires called { AdmittedHaveNames self.old.logged_run.domain self.old.names }
+        ensures domain { self.new.logged_run.domain
+            ≡ after_calls self.old.logged_run.domain (made_at_once call) }
+        ensures logged { self.new.logged_run.logged ≡ self.old.logged_run.logged }
         ensures left { result ≡ ticks_given call }
         ensures names { MapGives self.new.names
-            (names_after self.old.logged.domain call (name_of_task self.old.names)) }
-        ensures called { AdmittedHaveNames self.new.logged.domain self.new.names }
+            (names_after self.old.logged_run.domain call (name_of_task self.old.names)) }
+        ensures called { AdmittedHaveNames self.new.logged_run.domain self.new.names }
         ensures room { spare self.old.names ≤ spare self.new.names + room_of call }
     {
         match call {
             Call::Advance { ticks } => ticks,
             Call::Wake { number } => {
-                self.logged.wake(number);
+                self.logged_run.wake(number);
                 0
             }
             Call::Leave { number } => {
-                self.logged.leave(number);
+                self.logged_run.leave(number);
                 0
             }
             Call::Depart { number } => {
-                self.logged.depart(number);
+                self.logged_run.depart(number);
                 0
             }
             long => self.make_any(long, text),
@@ -243,12 +244,12 @@ impl PlayingEvents {
     ghost use Rattle.calls_text.specs.Limits.{IsSection};
     ghost use Rattle.switch_text.specs.Names.{name_of_task, SameNames};
     ghost use Rattle.switch_text.specs.Runs.{IsPrintable};
-    ghost use Rattle.switch_text.specs.SlicedEvents.{whole_told_run, without_fronts, is_told_by, IsAllAtHand};
-    ghost use Rattle.switch_text.specs.Telling.{IsTold};
-    ghost use Rattle.switch_text.specs.ToldLine.{has_line};
+    ghost use Rattle.switch_text.specs.SlicedEvents.{whole_logged_run, without_fronts, is_logged_by, IsAllAtHand};
+    ghost use Rattle.switch_text.specs.EventLines.{IsLogged};
+    ghost use Rattle.switch_text.specs.LoggedLine.{has_line};
     ghost use Rattle.calls_trace.specs.private.Kept.{IsKeptSection, KeepsSection};
     ghost use Rattle.calls_trace.specs.private.PlayingEvents.{names_to_give, sliced_events_of};
-    ghost use Rattle.calls_trace.specs.private.ReadEvents.{told_run_at};
+    ghost use Rattle.calls_trace.specs.private.ReadEvents.{logged_run_at};
 
     /// A section whose calls are made up to its first advance, on the CPUs of the machine from
     /// `base` on.
@@ -260,7 +261,8 @@ impl PlayingEvents {
         requires kept { KeepsSection kept }
         requires inside { base + kept.cpus ≤ 512 }
         ensures { (section : SectionView) → IsSection section → IsKeptSection section kept
-            → IfOk result (λ p. whole_told_run (sliced_events_of p) ≡ told_run_at base section) }
+            → IfOk result (λ p. whole_logged_run (sliced_events_of p)
+            ≡ logged_run_at base section) }
     {
         let KeptSection { run, calls, .. } = kept;
         // The calls are let go of by one call: their parts would be written out on each way.
@@ -282,25 +284,26 @@ impl PlayingEvents {
     /// Makes what there is room for of the advance under way. The switches, and what happens, are
     /// added to what is at hand.
     fn advance(&mut self)
-        ensures whole { whole_told_run (sliced_events_of self.new)
-            ≡ whole_told_run (sliced_events_of self.old) }
+        ensures whole { whole_logged_run (sliced_events_of self.new)
+            ≡ whole_logged_run (sliced_events_of self.old) }
         ensures full { 0 < self.new.left → 0
-            < length self.new.run.logged.domain.switches + length self.new.run.logged.told }
+            < length self.new.run.logged_run.domain.switches
+            + length self.new.run.logged_run.logged }
         ensures calls { self.new.calls ≡ self.old.calls }
     {
-        if self.run.logged.told().len() > ENOUGH {
+        if self.run.logged_run.logged().len() > ENOUGH {
             return;
         }
         // For the prover alone: a look at a domain brings what every domain keeps.
-        let _ = self.run.logged.state();
-        self.left = self.run.logged.fill(self.left);
+        let _ = self.run.logged_run.state();
+        self.left = self.run.logged_run.fill(self.left);
     }
 
     /// Begins with the next call. `false` where none is left.
     fn begin(&mut self) -> bool
         requires { self.old.left ≡ 0 }
-        ensures whole { whole_told_run (sliced_events_of self.new)
-            ≡ whole_told_run (sliced_events_of self.old) }
+        ensures whole { whole_logged_run (sliced_events_of self.new)
+            ≡ whole_logged_run (sliced_events_of self.old) }
         ensures ahead { result ≡ true → length self.new.calls < length self.old.calls }
         ensures none { result ≡ false → self.new.left ≡ 0 }
         ensures last { result ≡ false → self.new.calls ≡ [] }
@@ -317,11 +320,12 @@ impl PlayingEvents {
     /// Goes on with the advance under way, and once it is made with the next call. `false` where
     /// there is no room or nothing is left.
     fn play(&mut self) -> bool
-        ensures whole { whole_told_run (sliced_events_of self.new)
-            ≡ whole_told_run (sliced_events_of self.old) }
+        ensures whole { whole_logged_run (sliced_events_of self.new)
+            ≡ whole_logged_run (sliced_events_of self.old) }
         ensures ahead { result ≡ true → length self.new.calls < length self.old.calls }
         ensures full { result ≡ false → 0 < self.new.left → 0
-            < length self.new.run.logged.domain.switches + length self.new.run.logged.told }
+            < length self.new.run.logged_run.domain.switches
+            + length self.new.run.logged_run.logged }
         ensures last { result ≡ false → self.new.left ≡ 0 → self.new.calls ≡ [] }
     {
         self.advance();
@@ -334,88 +338,90 @@ impl PlayingEvents {
     /// Up to which time the run is made, if anything is left of it.
     fn time_if_left(&self) -> Option<u64>
         requires full { 0 < self.now.left → 0
-            < length self.now.run.logged.domain.switches + length self.now.run.logged.told }
+            < length self.now.run.logged_run.domain.switches
+            + length self.now.run.logged_run.logged }
         requires last { self.now.left ≡ 0 → self.now.calls ≡ [] }
         ensures none { IfNone result (IsAllAtHand (sliced_events_of self.now)) }
         ensures some { IfSome result (λ _. 0
             < length (sliced_events_of self.now).at_hand
-            + length (sliced_events_of self.now).told) }
+            + length (sliced_events_of self.now).logged) }
         ensures past { IfSome result
             (λ time. All (λ s. s.time < time) (sliced_events_of self.now).at_hand) }
-        ensures told { IfSome result
-            (λ time. All (λ h. IsTrue (is_told_by time h)) (sliced_events_of self.now).told) }
+        ensures logged { IfSome result
+            (λ time. All (λ h. IsTrue (is_logged_by time h)) (sliced_events_of self.now).logged) }
         ensures later { IfSome result
             (λ time. All (λ s. time ≤ s.time) (sliced_events_of self.now).to_come) }
-        ensures untold { IfSome result
-            (λ time. All (λ h. is_told_by time h ≡ false) (sliced_events_of self.now).to_tell) }
+        ensures unlogged { IfSome result
+            (λ time. All (λ h. is_logged_by time h ≡ false) (sliced_events_of self.now).to_log) }
     {
         let left = self.left;
         if left == 0 {
             return None;
         }
-        let state = self.run.logged.state();
+        let state = self.run.logged_run.state();
         Some(state.now())
     }
 
     /// Makes more, until there is no room or nothing is left. Up to which time the run is made
     /// then, if anything is left of it.
     pub(crate) fn make_more(&mut self) -> Option<u64>
-        ensures whole { whole_told_run (sliced_events_of self.new)
-            ≡ whole_told_run (sliced_events_of self.old) }
+        ensures whole { whole_logged_run (sliced_events_of self.new)
+            ≡ whole_logged_run (sliced_events_of self.old) }
         ensures none { IfNone result (IsAllAtHand (sliced_events_of self.new)) }
         ensures some { IfSome result (λ _. 0
             < length (sliced_events_of self.new).at_hand
-            + length (sliced_events_of self.new).told) }
+            + length (sliced_events_of self.new).logged) }
         ensures past { IfSome result
             (λ time. All (λ s. s.time < time) (sliced_events_of self.new).at_hand) }
-        ensures told { IfSome result
-            (λ time. All (λ h. IsTrue (is_told_by time h)) (sliced_events_of self.new).told) }
+        ensures logged { IfSome result
+            (λ time. All (λ h. IsTrue (is_logged_by time h)) (sliced_events_of self.new).logged) }
         ensures later { IfSome result
             (λ time. All (λ s. time ≤ s.time) (sliced_events_of self.new).to_come) }
-        ensures untold { IfSome result
-            (λ time. All (λ h. is_told_by time h ≡ false) (sliced_events_of self.new).to_tell) }
+        ensures unlogged { IfSome result
+            (λ time. All (λ h. is_logged_by time h ≡ false) (sliced_events_of self.new).to_log) }
     {
         'pieces: while self.play() {}
         self.time_if_left()
     }
 
-    /// Forgets the first `switches` of the switches at hand, and the first `told` of what is told.
-    pub(crate) fn forget_first(&mut self, switches: usize, told: usize)
+    /// Forgets the first `switches` of the switches at hand, and the first `logged` of what is
+    /// logged.
+    pub(crate) fn forget_first(&mut self, switches: usize, logged: usize)
         ensures { sliced_events_of self.new
-            ≡ without_fronts switches told (sliced_events_of self.old) }
+            ≡ without_fronts switches logged (sliced_events_of self.old) }
     {
-        self.run.logged.forget_front(switches, told);
+        self.run.logged_run.forget_front(switches, logged);
     }
 
     /// The switches at hand, as they are written.
     pub(crate) fn as_written(&self) -> Run<'_>
         ensures run { IsPrintable result }
         ensures base { result.base ≡ self.now.base }
-        ensures switches { result.switches.now ≡ self.now.run.logged.domain.switches }
+        ensures switches { result.switches.now ≡ self.now.run.logged_run.domain.switches }
         ensures names { All (SameNames (name_of_task result.names.now) (names_to_give self.now))
             result.switches.now }
     {
         Run {
             base: self.base,
             names: &self.run.names,
-            switches: self.run.logged.switches(),
+            switches: self.run.logged_run.switches(),
         }
     }
 
-    /// What is told of what happens, as it is written.
-    pub(crate) fn as_told(&self) -> Told<'_>
-        ensures told { IsTold result }
+    /// What is logged of what happens, as it is written.
+    pub(crate) fn as_logged(&self) -> DomainEvents<'_>
+        ensures logged { IsLogged result }
         ensures lines { All (λ h. IsTrue (has_line h.what)) result.happened.now }
         ensures base { result.base ≡ self.now.base }
-        ensures happened { result.happened.now ≡ self.now.run.logged.told }
+        ensures happened { result.happened.now ≡ self.now.run.logged_run.logged }
         ensures names { All
             (λ h. name_of_task result.names.now h.number ≡ names_to_give self.now h.number)
             result.happened.now }
     {
-        Told {
+        DomainEvents {
             base: self.base,
             names: &self.run.names,
-            happened: self.run.logged.told(),
+            happened: self.run.logged_run.logged(),
         }
     }
 }
@@ -431,15 +437,15 @@ impl EventSlices for PlayingEvents {
         self.make_more()
     }
 
-    fn forget_front(&mut self, switches: usize, told: usize) {
-        self.forget_first(switches, told);
+    fn forget_front(&mut self, switches: usize, logged: usize) {
+        self.forget_first(switches, logged);
     }
 
     fn slice(&self) -> Run<'_> {
         self.as_written()
     }
 
-    fn told(&self) -> Told<'_> {
-        self.as_told()
+    fn logged(&self) -> DomainEvents<'_> {
+        self.as_logged()
     }
 }

@@ -84,7 +84,7 @@ impl PlayingSoFar {
         }
     }
 
-    /// The runs of all sections of a text, behind whose sections so far a reader stands.
+    /// The runs of all sections of a text, after whose sections so far a reader stands.
     pub(crate) fn read_on(
         mut self,
         alloc: Global,

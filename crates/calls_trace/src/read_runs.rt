@@ -10,7 +10,7 @@ use calls_text::{CallsReader, Kept, Reused};
 use domain_run::NoMemory;
 use std::alloc::Global;
 
-/// The next call of a section; none behind its last one.
+/// The next call of a section; none after its last one.
 #[inline(always)]
 pub(crate) fn next_of<'t>(
     alloc: Global,

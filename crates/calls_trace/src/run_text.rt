@@ -32,8 +32,8 @@ impl RunText {
     }
 
     /// Whether it needs to be known what happens.
-    pub(crate) fn tells(self) -> bool
-        ensures { result ≡ texts.is_told_text self }
+    pub(crate) fn has_logged(self) -> bool
+        ensures { result ≡ texts.is_logged_text self }
     {
         match self {
             RunText::Trace => false,

@@ -5,6 +5,7 @@ ghost use Rattle.chart_pieces.specs.Laws.{AreSeen};
 ghost use Rattle.chart.specs.Rows as charts;
 ghost use Rattle.switch_text.specs.Names.{name_of_task};
 ghost use Rattle.calls_trace.specs.Charted.{chart_row_of};
+ghost use Rattle.limits.specs.Limits.{max_history};
 
 use crate::charting::name_of;
 use crate::named_run::RunWithNames;
@@ -25,7 +26,7 @@ pub(crate) struct Sketch {
     places: Vec<usize>,
     ghost inside: { All (λ i. i < length rows.items) places.items },
     ghost seen: { All (AreSeen window) rows.items },
-    ghost few: { length places.items ≤ 65536 },
+    ghost few: { length places.items ≤ max_history },
     ghost machine: { cpus ≤ 64 },
 }
 
@@ -42,7 +43,7 @@ impl Sketch {
     ) -> Sketch
         requires inside { All (λ i. i < length rows.items) places.items }
         requires seen { All (AreSeen window) rows.items }
-        requires few { length places.items ≤ 65536 }
+        requires few { length places.items ≤ max_history }
         ensures drawn { sketch_as result ≡ record {
           names = name_of_task run.names;
           cpus = run.state.cpus;
@@ -69,6 +70,35 @@ impl Sketch {
         }
     }
 
+    /// Of tasks with these names on this number of CPUs, with the rows of all of them, and the
+    /// places of those to chart.
+    pub(crate) fn of_rows(
+        window: Window,
+        names: IndexMap<u32, String>,
+        cpus: u32,
+        rows: Vec<Row>,
+        places: Vec<usize>,
+    ) -> Sketch
+        requires inside { All (λ i. i < length rows.items) places.items }
+        requires seen { All (AreSeen window) rows.items }
+        requires few { length places.items ≤ max_history }
+        requires machine { cpus ≤ 64 }
+        ensures drawn { sketch_as result ≡ record {
+          names = name_of_task names;
+          cpus = cpus;
+          rows = map (row_in rows.items) places.items;
+        } }
+        ensures window { result.window ≡ window }
+    {
+        Sketch {
+            names,
+            cpus,
+            window,
+            rows,
+            places,
+        }
+    }
+
     /// The row in a place, as it is charted where CPU 0 of its domain is this CPU of the machine.
     fn charted(&self, base: u32, place: usize) -> ChartRow<'_>
         requires inside { place < length self.now.rows.items }
@@ -84,7 +114,7 @@ impl Sketch {
         }
     }
 
-    /// Puts the rows of the tasks that were admitted behind those of the runs before it.
+    /// Puts the rows of the tasks that were admitted after those of the runs before it.
     pub(crate) fn push_rows<'a>(
         &'a self,
         all: &mut Vec<ChartRow<'a>>,
@@ -95,7 +125,7 @@ impl Sketch {
             ++ map (chart_row_of (name_of_task self.now.names) base) (sketch_as self.now).rows) }
         ensures drawn { All (charts.IsDrawn self.now.window) all.old.items
             → OnOk result (All (charts.IsDrawn self.now.window) all.new.items) }
-        ensures few { OnOk result (length all.new.items ≤ length all.old.items + 65536) }
+        ensures few { OnOk result (length all.new.items ≤ length all.old.items + max_history) }
     {
         all.try_reserve(self.places.len())?;
         for place in &self.places {

@@ -90,7 +90,11 @@ fn cpus_of(sketches: &[Sketch]) -> u64
 }
 
 /// The chart of what is drawn in this window.
-fn drawn_text(alloc: Global, window: Window, sketches: &[Sketch]) -> Result<Vec<u8>, NoMemory>
+pub(crate) fn drawn_text(
+    alloc: Global,
+    window: Window,
+    sketches: &[Sketch],
+) -> Result<Vec<u8>, NoMemory>
     requires few { length sketches.now ≤ 8 }
     requires sound { IsWindow window }
     requires window { All (λ s. s.window ≡ window) sketches.now }

@@ -1,4 +1,4 @@
-//! The run of a section that is drawn while it is made. The switches and what happens are heard
+//! The run of a section that is drawn while it is made. The switches and what happens are streamed
 //! piece by piece, and forgotten.
 
 ghost use Rattle.std.specs.Prelude.{◌≡◌, ◌<◌, ◌≤◌, ◌∷◌, ℕ, [], true, false, length, map, All, Contains, IfOk, OnOk};
@@ -7,21 +7,22 @@ ghost use Rattle.domain_run.specs.declared.call.Call.TheVariants as Call;
 ghost use Rattle.chart_pieces.specs.RowView.{RowView};
 ghost use Rattle.calls_trace.specs.private.Calls.{ticks_given};
 ghost use Rattle.calls_trace.specs.private.Foreseen.{IsForeseen};
-ghost use Rattle.calls_trace.specs.private.Hearing.{IsHeardBefore, led_by, led_to};
-ghost use Rattle.calls_trace.specs.private.Sketched.{asked_in, heard_as, led_ahead, row_in, sketch_ahead, sketch_as, sketch_led};
+ghost use Rattle.calls_trace.specs.private.Streaming.{IsStreamedBefore, led_by, led_to};
+ghost use Rattle.calls_trace.specs.private.Sketched.{asked_in, streamed_as, led_ahead, row_in, sketch_ahead, sketch_as, sketch_led};
+ghost use Rattle.limits.specs.Limits.{task_number_end, max_history};
 
 use crate::figures::tasks_of;
 use crate::foreseen::Foreseen;
-use crate::hearing::{by_numbers, ticks_if_advance};
 use crate::kept::CallsLeft;
 use crate::named_run::RunWithNames;
 use crate::sketch::Sketch;
+use crate::streaming::{by_numbers, ticks_if_advance};
 use chart_pieces::{Drawing, Window};
 use domain_run::{Call, NoMemory};
-use heard_run::advance_heard_on;
 use indexmap::IndexSet;
 use run_figures::{Admitted, Places};
 use std::alloc::Global;
+use streamed_run::advance_streamed_on;
 
 /// A run, what is drawn of it, and the calls that are left of its section.
 #[derive(Drop)]
@@ -33,7 +34,7 @@ pub(crate) struct Sketching {
     pub(crate) numbers: IndexSet<u32>,
 }
 
-/// A drawing of tasks with these numbers that has heard nothing yet.
+/// A drawing of tasks with these numbers that has streamed nothing yet.
 fn drawing_of(
     alloc: Global,
     window: Window,
@@ -41,10 +42,10 @@ fn drawing_of(
     end: u64,
     numbers: &IndexSet<u32>,
 ) -> Result<Drawing, NoMemory>
-    requires small { All (λ n. n < 65536) numbers.now.keys }
+    requires small { All (λ n. n < task_number_end) numbers.now.keys }
     ensures { IfOk result (λ d. d ≡ record {
       window = window;
-      heard = record {
+      streamed = record {
         cpus = cpus;
         time = end;
         tasks = numbers.now.keys;
@@ -80,11 +81,11 @@ fn places_in(
     run: &RunWithNames,
 ) -> Result<Vec<usize>, NoMemory>
     requires among { All (Contains numbers.now.keys) run.now.state.used }
-    requires small { All (λ n. n < 65536) numbers.now.keys }
+    requires small { All (λ n. n < task_number_end) numbers.now.keys }
     ensures inside { IfOk result (λ v. All (λ i. i < length numbers.now.keys) v.items) }
     ensures rows { (f : ℕ → RowView) → IfOk result (λ v.
         map (row_in (map f numbers.now.keys)) v.items ≡ map f run.now.state.used) }
-    ensures few { IfOk result (λ v. length v.items ≤ 65536) }
+    ensures few { IfOk result (λ v. length v.items ≤ max_history) }
 {
     let known = by_numbers(alloc, numbers)?;
     let index = Places::of(alloc, &known)?;
@@ -104,9 +105,9 @@ impl Sketching {
         requires cpus { (0 < cpus) × (cpus ≤ 64) }
         requires limit { IsLimit limit }
         requires foreseen { IsForeseen foreseen }
-        requires few { length foreseen.calls ≤ 65536 }
-        ensures before { IfOk result (λ s. IsHeardBefore (heard_as s) s.calls) }
-        ensures leads { IfOk result (λ s. led_to (heard_as s) ≡ led_ahead (record {
+        requires few { length foreseen.calls ≤ max_history }
+        ensures before { IfOk result (λ s. IsStreamedBefore (streamed_as s) s.calls) }
+        ensures leads { IfOk result (λ s. led_to (streamed_as s) ≡ led_ahead (record {
           cpus = cpus;
           limit = limit;
           calls = foreseen.calls;
@@ -148,19 +149,19 @@ impl Sketching {
         })
     }
 
-    /// Makes the ticks of an advance, which the drawing hears.
+    /// Makes the ticks of an advance, which the drawing takes.
     fn advance(&mut self, ticks: u64) -> Result<(), NoMemory>
-        requires before { IsHeardBefore (heard_as self.old)
+        requires before { IsStreamedBefore (streamed_as self.old)
             (Call.Advance ticks ∷ self.old.calls) }
-        ensures before { OnOk result (IsHeardBefore (heard_as self.new) self.new.calls) }
-        ensures leads { OnOk result (led_to (heard_as self.new)
-            ≡ led_by (heard_as self.old) (Call.Advance ticks ∷ self.old.calls)) }
+        ensures before { OnOk result (IsStreamedBefore (streamed_as self.new) self.new.calls) }
+        ensures leads { OnOk result (led_to (streamed_as self.new)
+            ≡ led_by (streamed_as self.old) (Call.Advance ticks ∷ self.old.calls)) }
         ensures calls { self.new.calls ≡ self.old.calls }
         ensures asked { asked_in self.new ≡ asked_in self.old }
     {
         // For the prover alone: a look at a state brings what every domain keeps.
         let _ = self.run.state.now();
-        let done = advance_heard_on(
+        let done = advance_streamed_on(
             &mut self.run.state,
             ticks,
             &mut self.run.log,
@@ -172,13 +173,13 @@ impl Sketching {
         Ok(())
     }
 
-    /// Makes a call without a tick. What it tells waits in the log.
+    /// Makes a call without a tick. What it logs waits in the log.
     fn call(&mut self, alloc: Global, call: Call) -> Result<(), NoMemory>
-        requires before { IsHeardBefore (heard_as self.old) (call ∷ self.old.calls) }
+        requires before { IsStreamedBefore (streamed_as self.old) (call ∷ self.old.calls) }
         requires still { ticks_given call ≡ 0 }
-        ensures before { OnOk result (IsHeardBefore (heard_as self.new) self.new.calls) }
-        ensures leads { OnOk result (led_to (heard_as self.new)
-            ≡ led_by (heard_as self.old) (call ∷ self.old.calls)) }
+        ensures before { OnOk result (IsStreamedBefore (streamed_as self.new) self.new.calls) }
+        ensures leads { OnOk result (led_to (streamed_as self.new)
+            ≡ led_by (streamed_as self.old) (call ∷ self.old.calls)) }
         ensures calls { self.new.calls ≡ self.old.calls }
         ensures asked { asked_in self.new ≡ asked_in self.old }
     {
@@ -189,10 +190,10 @@ impl Sketching {
 
     /// Makes a call.
     fn make(&mut self, alloc: Global, call: Call) -> Result<(), NoMemory>
-        requires before { IsHeardBefore (heard_as self.old) (call ∷ self.old.calls) }
-        ensures before { OnOk result (IsHeardBefore (heard_as self.new) self.new.calls) }
-        ensures leads { OnOk result (led_to (heard_as self.new)
-            ≡ led_by (heard_as self.old) (call ∷ self.old.calls)) }
+        requires before { IsStreamedBefore (streamed_as self.old) (call ∷ self.old.calls) }
+        ensures before { OnOk result (IsStreamedBefore (streamed_as self.new) self.new.calls) }
+        ensures leads { OnOk result (led_to (streamed_as self.new)
+            ≡ led_by (streamed_as self.old) (call ∷ self.old.calls)) }
         ensures calls { self.new.calls ≡ self.old.calls }
         ensures asked { asked_in self.new ≡ asked_in self.old }
     {
@@ -204,9 +205,10 @@ impl Sketching {
 
     /// Makes the next call. `false` if none is left.
     fn next(&mut self, alloc: Global) -> Result<bool, NoMemory>
-        requires before { IsHeardBefore (heard_as self.old) self.old.calls }
-        ensures before { OnOk result (IsHeardBefore (heard_as self.new) self.new.calls) }
-        ensures leads { OnOk result (led_to (heard_as self.new) ≡ led_to (heard_as self.old)) }
+        requires before { IsStreamedBefore (streamed_as self.old) self.old.calls }
+        ensures before { OnOk result (IsStreamedBefore (streamed_as self.new) self.new.calls) }
+        ensures leads { OnOk result (led_to (streamed_as self.new)
+            ≡ led_to (streamed_as self.old)) }
         ensures asked { asked_in self.new ≡ asked_in self.old }
         ensures ahead { IfOk result
             (λ more. more ≡ true → length self.new.calls < length self.old.calls) }
@@ -224,9 +226,10 @@ impl Sketching {
 
     /// Makes the calls that are left.
     fn make_all(&mut self, alloc: Global) -> Result<(), NoMemory>
-        requires before { IsHeardBefore (heard_as self.old) self.old.calls }
-        ensures before { OnOk result (IsHeardBefore (heard_as self.new) self.new.calls) }
-        ensures leads { OnOk result (led_to (heard_as self.new) ≡ led_to (heard_as self.old)) }
+        requires before { IsStreamedBefore (streamed_as self.old) self.old.calls }
+        ensures before { OnOk result (IsStreamedBefore (streamed_as self.new) self.new.calls) }
+        ensures leads { OnOk result (led_to (streamed_as self.new)
+            ≡ led_to (streamed_as self.old)) }
         ensures asked { asked_in self.new ≡ asked_in self.old }
         ensures last { OnOk result (self.new.calls ≡ []) }
     {
@@ -234,36 +237,36 @@ impl Sketching {
         Ok(())
     }
 
-    /// Hears what is not yet heard of a run whose calls are made.
-    fn hear_rest(&mut self)
-        requires before { IsHeardBefore (heard_as self.old) self.old.calls }
+    /// Takes what is not yet streamed of a run whose calls are made.
+    fn stream_rest(&mut self)
+        requires before { IsStreamedBefore (streamed_as self.old) self.old.calls }
         requires last { self.old.calls ≡ [] }
-        ensures leads { led_to (heard_as self.new) ≡ led_to (heard_as self.old) }
+        ensures leads { led_to (streamed_as self.new) ≡ led_to (streamed_as self.old) }
         ensures asked { asked_in self.new ≡ asked_in self.old }
         ensures calls { self.new.calls ≡ [] }
         ensures log { self.new.run.log.happened ≡ [] }
         ensures bare { self.new.run.state.switches ≡ [] }
-        ensures time { self.new.drawing.heard.time ≡ self.new.run.state.time }
-        ensures among { All (Contains self.new.drawing.heard.tasks) self.new.run.state.used }
+        ensures time { self.new.drawing.streamed.time ≡ self.new.run.state.time }
+        ensures among { All (Contains self.new.drawing.streamed.tasks) self.new.run.state.used }
     {
         // For the prover alone: a look at a state brings what every domain keeps.
         let _ = self.run.state.now();
-        advance_heard_on(&mut self.run.state, 0, &mut self.run.log, &mut self.drawing);
+        advance_streamed_on(&mut self.run.state, 0, &mut self.run.log, &mut self.drawing);
     }
 
-    /// What is drawn in the window of the tasks that were admitted, of a run that was heard to its
-    /// end.
+    /// What is drawn in the window of the tasks that were admitted, of a run that was streamed to
+    /// its end.
     fn sketched(self, alloc: Global, window: Window) -> Result<Sketch, NoMemory>
         requires calls { self.calls ≡ [] }
         requires log { self.run.log.happened ≡ [] }
         requires bare { self.run.state.switches ≡ [] }
-        requires time { self.drawing.heard.time ≡ self.run.state.time }
-        requires among { All (Contains self.drawing.heard.tasks) self.run.state.used }
+        requires time { self.drawing.streamed.time ≡ self.run.state.time }
+        requires among { All (Contains self.drawing.streamed.tasks) self.run.state.used }
         requires window { self.drawing.window ≡ window }
-        requires numbers { self.drawing.heard.tasks ≡ self.numbers.keys }
-        requires small { All (λ n. n < 65536) self.numbers.keys }
+        requires numbers { self.drawing.streamed.tasks ≡ self.numbers.keys }
+        requires small { All (λ n. n < task_number_end) self.numbers.keys }
         ensures drawn { IfOk result
-            (λ s. sketch_as s ≡ sketch_led window (led_to (heard_as self))) }
+            (λ s. sketch_as s ≡ sketch_led window (led_to (streamed_as self))) }
         ensures window { IfOk result (λ s. s.window ≡ window) }
     {
         let Sketching {
@@ -306,7 +309,7 @@ pub(crate) fn sketch_out(
     requires cpus { (0 < cpus) × (cpus ≤ 64) }
     requires limit { IsLimit limit }
     requires foreseen { IsForeseen foreseen }
-    requires few { length foreseen.calls ≤ 65536 }
+    requires few { length foreseen.calls ≤ max_history }
     ensures drawn { IfOk result (λ s. sketch_as s ≡ sketch_ahead window (record {
       cpus = cpus;
       limit = limit;
@@ -320,6 +323,6 @@ pub(crate) fn sketch_out(
         drop(sketching);
         return Err(error);
     }
-    sketching.hear_rest();
+    sketching.stream_rest();
     sketching.sketched(alloc, window)
 }

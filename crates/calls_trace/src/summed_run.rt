@@ -1,5 +1,5 @@
-//! The figures of a run that was heard while it was made, with what else a summary has of it, and
-//! its jobs.
+//! The figures of a run that was streamed while it was made, with what else a summary has of it,
+//! and its jobs.
 
 ghost use Rattle.std.specs.Prelude.{◌≡◌, ◌≤◌, length};
 ghost use Rattle.run_figures.specs.Laws.{AreShort};

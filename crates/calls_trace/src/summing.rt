@@ -1,4 +1,4 @@
-//! The figures and the jobs of the sections of a calls text, whose runs are heard while they are
+//! The figures and the jobs of the sections of a calls text, whose runs are streamed while they are
 //! made.
 
 ghost use Rattle.std.specs.Prelude.{◌≡◌, ◌<◌, ◌≤◌, ◌^◌, ℕ, List, All, IfErr, IfOk, OnOk, length, map};
@@ -15,7 +15,7 @@ ghost use Rattle.calls_trace.specs.private.Summed.{jobs_as, summed_as, AreSummed
 use crate::fault::TraceFault;
 use crate::figures::{write_all_jobs, write_whole};
 use crate::foreseen::foreseen_read;
-use crate::hearing::sum_up;
+use crate::streaming::sum_up;
 use crate::summed_run::SummedRun;
 use calls_text::{CallsFault, CallsReader};
 use domain_run::NoMemory;
@@ -48,7 +48,7 @@ fn summed_read(
 }
 
 /// The figures of the sections of a text, each on a domain of its own, and their jobs, if they are
-/// wanted. The run of each is made and heard once its calls are read, and it is not kept.
+/// wanted. The run of each is made and streamed once its calls are read, and it is not kept.
 pub(crate) fn summed_of_text(
     alloc: Global,
     jobs: bool,

@@ -2,16 +2,16 @@
 
 ghost use Rattle.std.specs.Prelude.{◌≡◌, ◌<◌, ◌≤◌, ◌^◌, All, IfOk, IfErr, OnOk, length, map};
 ghost use Rattle.switch_text.specs.Runs as runs;
-ghost use Rattle.switch_text.specs.Telling.{told_view, told_views, IsTold};
+ghost use Rattle.switch_text.specs.EventLines.{logged_view, logged_views, IsLogged};
 ghost use Rattle.counted_io.specs.Sides.{faults_of, side};
-ghost use Rattle.switch_text.specs.SlicedEvents.{told_runs, events_in, told_runs_text};
+ghost use Rattle.switch_text.specs.SlicedEvents.{logged_runs, events_in, logged_runs_text};
 ghost use Rattle.switch_text.specs.SlicedTrace.{wholes, all_entries};
 ghost use Rattle.switch_text.specs.Trace.{trace_of};
 ghost use Rattle.calls_trace.specs.Written.{IsWritten, IsUnwritten};
 ghost use Rattle.calls_trace.specs.declared.run_text.RunText.TheVariants as texts;
 ghost use Rattle.calls_trace.specs.private.Playing.{sliced_of};
 ghost use Rattle.calls_trace.specs.private.PlayingEvents.{sliced_events_of};
-ghost use Rattle.calls_trace.specs.private.Replaying.{IsPlaced, placed_view_of, placed_run_view, told_in, heard, text_of_runs};
+ghost use Rattle.calls_trace.specs.private.Replaying.{IsPlaced, placed_view_of, placed_run_view, logged_in, streamed, text_of_runs};
 
 use crate::fault::TraceFault;
 use crate::placed_run::PlacedRun;
@@ -21,7 +21,7 @@ use domain_run::{Happened, Log, NoMemory};
 use std::alloc::Global;
 use std::io::Write;
 use switch_text::{
-    Counted, Run, Told, TraceRoom, write_event_slices, write_events_in, write_slices,
+    Counted, DomainEvents, Run, TraceRoom, write_event_slices, write_events_in, write_slices,
     write_trace_in,
 };
 
@@ -52,24 +52,24 @@ fn all_as_written(alloc: Global, placed: &[PlacedRun]) -> Result<Vec<Run<'_>>, N
     Ok(written)
 }
 
-/// What a log keeps of what it was told.
-pub(crate) fn heard_by(log: &Log) -> &[Happened]
-    ensures { result.now ≡ heard log.now }
+/// What a log keeps of what it has logged.
+pub(crate) fn streamed_by(log: &Log) -> &[Happened]
+    ensures { result.now ≡ streamed log.now }
 {
     if log.is_wanted() { log.happened() } else { &[] }
 }
 
 /// What happened in a run as it is written. More than 2^50 of it is in no memory.
-fn as_told(placed: &PlacedRun) -> Result<Told<'_>, NoMemory>
+fn as_logged(placed: &PlacedRun) -> Result<DomainEvents<'_>, NoMemory>
     requires { IsPlaced placed.now }
-    ensures view { IfOk result (λ t. told_view t ≡ told_in (placed_view_of placed.now)) }
-    ensures told { IfOk result IsTold }
+    ensures view { IfOk result (λ t. logged_view t ≡ logged_in (placed_view_of placed.now)) }
+    ensures logged { IfOk result IsLogged }
 {
-    let happened = heard_by(&placed.run.log);
+    let happened = streamed_by(&placed.run.log);
     if happened.len() > 1 << 50 {
         return Err(NoMemory);
     }
-    Ok(Told {
+    Ok(DomainEvents {
         base: placed.base,
         names: &placed.run.names,
         happened,
@@ -77,22 +77,22 @@ fn as_told(placed: &PlacedRun) -> Result<Told<'_>, NoMemory>
 }
 
 /// What happened in runs as it is written.
-fn all_as_told(alloc: Global, placed: &[PlacedRun]) -> Result<Vec<Told<'_>>, NoMemory>
+fn all_as_logged(alloc: Global, placed: &[PlacedRun]) -> Result<Vec<DomainEvents<'_>>, NoMemory>
     requires { All IsPlaced placed.now }
-    ensures views { IfOk result (λ v. told_views v.items
-        ≡ map (λ p. told_in (placed_view_of p)) placed.now) }
-    ensures told { IfOk result (λ v. All IsTold v.items) }
+    ensures views { IfOk result (λ v. logged_views v.items
+        ≡ map (λ p. logged_in (placed_view_of p)) placed.now) }
+    ensures logged { IfOk result (λ v. All IsLogged v.items) }
     ensures count { IfOk result (λ v. length v.items ≡ length placed.now) }
 {
-    let mut told = Vec::with_capacity(alloc, placed.len())?;
+    let mut logged = Vec::with_capacity(alloc, placed.len())?;
     for run in placed {
-        told.push_reserved(as_told(run)?);
+        logged.push_reserved(as_logged(run)?);
     }
-    Ok(told)
+    Ok(logged)
 }
 
-// Room for the texts of tasks: in memory, whose want is told, and not on the stack, whose want is
-// not.
+// Room for the texts of tasks: in memory, whose want is reported, and not on the stack, whose want
+// is not.
 fn room_in(alloc: Global) -> Result<TraceRoom, NoMemory> {
     TraceRoom::open(alloc).map_err(|_| NoMemory)
 }
@@ -162,13 +162,13 @@ pub(crate) fn write_played_events<W: Write>(
     writer: &mut Counted<W>,
 ) -> Result<(), TraceFault>
     requires few { length playing.items ≤ 8 }
-    requires countable { length (events_in (told_runs (map sliced_events_of playing.items)))
+    requires countable { length (events_in (logged_runs (map sliced_events_of playing.items)))
         < 2 ^ 55 }
     requires faults { faults_of writer.old < 2 ^ 63 }
     ensures ok { OnOk result (IsWritten (side W.contents writer.old writer.new)
-        (told_runs_text (told_runs (map sliced_events_of playing.items)))) }
+        (logged_runs_text (logged_runs (map sliced_events_of playing.items)))) }
     ensures err { IfErr result (IsUnwritten (side W.contents writer.old writer.new)
-        (told_runs_text (told_runs (map sliced_events_of playing.items)))) }
+        (logged_runs_text (logged_runs (map sliced_events_of playing.items)))) }
 {
     let room = match room_in(alloc) {
         Ok(room) => room,
@@ -203,9 +203,9 @@ pub(crate) fn write_events_of<W: Write>(
         (text_of_runs texts.Events placed.now)) }
 {
     let written = all_as_written(alloc, placed)?;
-    let told = all_as_told(alloc, placed)?;
+    let logged = all_as_logged(alloc, placed)?;
     let room = room_in(alloc)?;
-    match write_events_in(&written, &told, room, writer) {
+    match write_events_in(&written, &logged, room, writer) {
         Ok(()) => Ok(()),
         Err(fault) => Err(TraceFault::Write {
             written: fault.written,

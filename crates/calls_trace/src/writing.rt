@@ -3,7 +3,7 @@
 ghost use Rattle.std.specs.Prelude.{◌≡◌, ◌<◌, ◌≤◌, ◌^◌, All, IfErr, OnOk, length};
 ghost use Rattle.counted_io.specs.Sides.{faults_of, side};
 ghost use Rattle.calls_text.specs.Limits.{IsSection};
-ghost use Rattle.calls_text.specs.Histories.{AreLegal, AreRuns, AreTold};
+ghost use Rattle.calls_text.specs.Histories.{AreLegal, AreRuns, AreLogged};
 ghost use Rattle.reply_text.specs.Replies.{replies_of};
 ghost use Rattle.calls_trace.specs.Answer.{replayed_text};
 ghost use Rattle.run_options.specs.Options.{print_tells};
@@ -11,7 +11,7 @@ ghost use Rattle.calls_trace.specs.Written.{IsWritten, IsUnwritten};
 ghost use Rattle.calls_trace.specs.declared.run_text.RunText.TheVariants as texts;
 ghost use Rattle.calls_trace.specs.private.Replaying.{IsPlaced, text_of_runs};
 ghost use Rattle.calls_trace.specs.private.Replayed.{IsReplayed, IsUnreplayed};
-ghost use Rattle.calls_trace.specs.private.RunTexts.{is_told_text, text_of_all};
+ghost use Rattle.calls_trace.specs.private.RunTexts.{is_logged_text, text_of_all};
 
 use crate::charting::write_chart_of;
 use crate::fault::{ReplayFault, TraceFault};
@@ -89,8 +89,8 @@ fn write_read_events<W: Write>(
     Ok(write_played_events(alloc, playing, writer)?)
 }
 
-/// Makes the calls of a text, and writes the figures of their runs, which are heard while they are
-/// made.
+/// Makes the calls of a text, and writes the figures of their runs, which are streamed while they
+/// are made.
 fn write_read_summary<W: Write>(
     alloc: Global,
     text: &[u8],
@@ -106,7 +106,7 @@ fn write_read_summary<W: Write>(
     Ok(write_summed(alloc, &runs, writer)?)
 }
 
-/// Makes the calls of a text, and writes the jobs of their runs, which are heard while they are
+/// Makes the calls of a text, and writes the jobs of their runs, which are streamed while they are
 /// made.
 fn write_read_jobs<W: Write>(
     alloc: Global,
@@ -211,14 +211,14 @@ fn write_placed<W: Write>(
     requires sections { All IsSection histories.now }
     requires legal { AreLegal histories.now }
     requires runs { AreRuns histories.now states.items }
-    requires told { AreTold (is_told_text text) histories.now logs.items }
+    requires logged { AreLogged (is_logged_text text) histories.now logs.items }
     requires faults { faults_of writer.old < 2 ^ 63 }
     ensures ok { OnOk result
         (IsWritten (side W.contents writer.old writer.new) (text_of_all text histories.now)) }
     ensures err { IfErr result
         (IsUnwritten (side W.contents writer.old writer.new) (text_of_all text histories.now)) }
 {
-    let runs = place_runs(alloc, histories, states, logs, text.tells())?;
+    let runs = place_runs(alloc, histories, states, logs, text.has_logged())?;
     write_runs(alloc, text, &runs, writer)
 }
 
@@ -241,8 +241,8 @@ fn write_recorded_replies<W: Write>(
 
 /// Writes what is asked for of 1 to 8 histories that led to these states, the first domain on the
 /// first CPUs of the machine, the second on the next ones: as [`replay_as`](crate::replay_as) does
-/// of their calls text. The logs have what the histories tell, where the text needs it
-/// ([`ReplayPrint::tells`]); where it does not, they keep nothing. Nothing is run again.
+/// of their calls text. The logs have what the histories log, where the text needs it
+/// ([`ReplayPrint::has_logged`]); where it does not, they keep nothing. Nothing is run again.
 ///
 /// # Errors
 /// [`TraceFault::Memory`]: a growth was refused, and nothing was written. [`TraceFault::Write`]:
@@ -261,7 +261,7 @@ pub fn write_run_as<W: Write>(
     requires sections { All IsSection histories.now }
     requires legal { AreLegal histories.now }
     requires runs { AreRuns histories.now states.items }
-    requires told { AreTold (print_tells print) histories.now logs.items }
+    requires logged { AreLogged (print_tells print) histories.now logs.items }
     requires faults { faults_of writer.old < 2 ^ 63 }
     ensures ok { OnOk result
         (IsWritten (side W.contents writer.old writer.new) (replayed_text print histories.now)) }

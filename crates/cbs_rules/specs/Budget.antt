@@ -1,7 +1,7 @@
 -- A budget that may have gone below zero.
 use Rattle.std.specs.Prelude.{ℕ, suc, ℤ, pos, negsuc, ◌*◌}
-use Rattle.attr_check.specs.Ratio.{unit}
 use Rattle.attr_check.specs.ParamsView.{ParamsView}
+use Rattle.limits.specs.Limits.{unit}
 
 -- the budget of one period: the runtime, in 1/2^20 us (own)
 abbrev pub budget : ParamsView → ℕ

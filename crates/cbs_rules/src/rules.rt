@@ -5,6 +5,7 @@ ghost use Rattle.std.specs.Option.{option_map};
 ghost use Rattle.cbs_rules.specs.Serving.{renewed, overflows, woken, charged, is_spent, replenished};
 ghost use Rattle.attr_check.specs.ParamsView.{IsOrdered};
 ghost use Rattle.cbs_rules.specs.Budget.{budget, below_zero};
+ghost use Rattle.limits.specs.Limits.{clock_end, deadline_end};
 
 use crate::server::Server;
 use attr_check::{Params, UNIT};
@@ -19,7 +20,7 @@ fn budget_of(params: &Params) -> u64
 }
 
 fn renew(params: &Params, time: u64) -> Server
-    requires { time < 2 ^ 48 }
+    requires { time < deadline_end }
     ensures value { result ≡ renewed params.now time }
     ensures ordered { IsOrdered params.now }
 {
@@ -30,7 +31,7 @@ fn renew(params: &Params, time: u64) -> Server
 }
 
 fn is_outlived_at(params: &Params, time: u64, deadline: u64, left: i128) -> bool
-    requires early { (time < 2 ^ 48) × (deadline < 2 ^ 48) }
+    requires early { (time < deadline_end) × (deadline < deadline_end) }
     requires high { left ≤ℤ pos (2 ^ 63) }
     requires low { neg_ℤ (pos (2 ^ 63)) ≤ℤ left }
     ensures value { result ≡ overflows params.now time deadline left }
@@ -48,8 +49,8 @@ fn is_outlived_at(params: &Params, time: u64, deadline: u64, left: i128) -> bool
 /// deadline, where it has passed, or where what is left would be more than the task's share until
 /// then (strictly); else they stay. Takes no memory.
 pub fn on_wake(server: Server, params: &Params, time: u64) -> Server
-    requires early { time < 2 ^ 48 }
-    requires near { IfSome server.deadline (λ d. d < 2 ^ 48) }
+    requires early { time < deadline_end }
+    requires near { IfSome server.deadline (λ d. d < deadline_end) }
     requires high { server.left ≤ℤ pos (2 ^ 63) }
     requires low { neg_ℤ (pos (2 ^ 63)) ≤ℤ server.left }
     ensures value { result ≡ woken params.now time server }
@@ -72,7 +73,7 @@ pub fn on_wake(server: Server, params: &Params, time: u64) -> Server
 /// ticks`. Takes no memory.
 pub fn charge(server: Server, rate: u64, ticks: u64) -> Server
     requires slow { rate ≤ 2 ^ 32 }
-    requires few { ticks ≤ 2 ^ 42 }
+    requires few { ticks ≤ clock_end }
     requires low { neg_ℤ (pos (2 ^ 63)) ≤ℤ server.left }
     requires high { server.left ≤ℤ pos (2 ^ 63) }
     ensures { result ≡ charged rate ticks server }
@@ -107,7 +108,7 @@ fn postponements(budget: u64, server: &Server) -> u64
 
 fn postpone(server: Server, params: &Params, times: u64) -> Server
     requires few { times ≤ 2 ^ 13 }
-    requires near { IfSome server.deadline (λ d. d < 2 ^ 48) }
+    requires near { IfSome server.deadline (λ d. d < deadline_end) }
     requires spent { server.left ≤ℤ pos 0 }
     requires low { neg_ℤ (pos (2 ^ 32)) ≤ℤ server.left }
     ensures deadline { result.deadline
@@ -129,7 +130,7 @@ fn postpone(server: Server, params: &Params, times: u64) -> Server
 /// again and again while nothing is left, by one division. Takes no memory.
 pub fn replenish(server: Server, params: &Params) -> Server
     requires dated { IsSome server.deadline }
-    requires near { IfSome server.deadline (λ d. d < 2 ^ 48) }
+    requires near { IfSome server.deadline (λ d. d < deadline_end) }
     requires spent { server.left ≤ℤ pos 0 }
     requires low { neg_ℤ (pos (2 ^ 32)) ≤ℤ server.left }
     ensures value { result ≡ replenished params.now server }

@@ -4,16 +4,16 @@ use Rattle.std.specs.Prelude.{filter, fold}
 use Rattle.std.proofs.lemmas.Bool.{ne_eqb, eqb-true, eqb-false}
 use Rattle.std.proofs.lemmas.List.Elements.{All-map}
 use Rattle.run_figures.specs.declared.run.Admitted.{Admitted}
-use Rattle.run_figures.specs.Accounting.{heard_run}
+use Rattle.run_figures.specs.Accounting.{streamed_run}
 use Rattle.run_figures.specs.Runs.{RunView}
-use Rattle.chart_pieces.specs.declared.standing.Moment.{Moment}
+use Rattle.chart_pieces.specs.declared.status.Moment.{Moment}
 use Rattle.chart_pieces.specs.declared.row.Mark.{Mark}
 use Rattle.chart_pieces.specs.declared.window.Window.{Window}
 use Rattle.chart_pieces.specs.RowView.{RowView}
 use Rattle.chart_pieces.specs.Window.{IsWhole}
 use Rattle.chart_pieces.specs.Bars.{bars_in}
 use Rattle.chart_pieces.specs.Moments.{moments, moments_of}
-use Rattle.chart_pieces.specs.Standing.{after_turn}
+use Rattle.chart_pieces.specs.TaskStatus.{after_turn}
 use Rattle.chart_pieces.specs.Drawing.{DrawingView}
 use Rattle.chart_pieces.specs.Laws.{AreSeen, BarsAreAllCpuTime}
 use Rattle.chart_pieces.specs.Rows.{gap_by, gaps_from, marks_by, marks_from, row_of, rows_of}
@@ -47,15 +47,15 @@ abbrev row_from : Window → ℕ → ChartLineView → List Moment → RowView
 row_from w time l own = record {
   number = l.number;
   bars = l.bars;
-  gaps = l.gaps ++ gaps_from w time l.standing l.since own;
-  marks = l.marks ++ marks_from w l.standing own;
+  gaps = l.gaps ++ gaps_from w time l.status l.since own;
+  marks = l.marks ++ marks_from w l.status own;
 }
 
 own_closed : (w : Window) (time : ℕ) (own : List Moment) (l : ChartLineView) → row_by w time (line_own w own l) ≡ row_from w time l own
 own_closed w time [] l = ap (λ (ms : List Mark). record {
   number = l.number;
   bars = l.bars;
-  gaps = l.gaps ++ gap_by w l.standing l.since time;
+  gaps = l.gaps ++ gap_by w l.status l.since time;
   marks = ms;
 }) (sym (append-nil l.marks))
 own_closed w time (m ∷ ms) l =
@@ -63,8 +63,8 @@ own_closed w time (m ∷ ms) l =
     ∙ (λ i. record {
       number = l.number;
       bars = l.bars;
-      gaps = append_assoc l.gaps (gap_by w l.standing l.since m.time) (gaps_from w time (after_turn m.turn l.standing) m.time ms) i;
-      marks = append_assoc l.marks (marks_by w l.standing m.time m.turn) (marks_from w (after_turn m.turn l.standing) ms) i;
+      gaps = append_assoc l.gaps (gap_by w l.status l.since m.time) (gaps_from w time (after_turn m.turn l.status) m.time ms) i;
+      marks = append_assoc l.marks (marks_by w l.status m.time m.turn) (marks_from w (after_turn m.turn l.status) ms) i;
     })
 
 pub row_is : (w : Window) (run : RunView) (n : ℕ) → row_by w run.time (drawn_line w run.time (moments run.happened run.switches) run.switches n) ≡ row_of w run n
@@ -95,11 +95,11 @@ pub rows_of_tasks : (w : Window) (run : RunView) (numbers : List ℕ) (rows : Li
 rows_of_tasks w run numbers rows same are =
     are ∙ ap (map (row_of w run)) (sym same) ∙ map-map (row_of w run) (λ (t : Admitted). t.number) run.tasks
 
--- of a run that was heard
-pub drawn_rows : (v d : DrawingView) (ls : List ChartLineView) (os : List (Option ℕ)) (rows : List RowView) → v ≡ d → IsDrawingKept v ls os → rows ≡ map (row_by v.window v.heard.time) ls
-    → rows ≡ map (row_of d.window (heard_run d.heard [])) d.heard.tasks
+-- of a run that was streamed
+pub drawn_rows : (v d : DrawingView) (ls : List ChartLineView) (os : List (Option ℕ)) (rows : List RowView) → v ≡ d → IsDrawingKept v ls os → rows ≡ map (row_by v.window v.streamed.time) ls
+    → rows ≡ map (row_of d.window (streamed_run d.streamed [])) d.streamed.tasks
 drawn_rows v d ls os rows same drawn closed =
-    subst (λ (x : DrawingView). rows ≡ map (row_of x.window (heard_run x.heard [])) x.heard.tasks) same (rows_by_number v.window (heard_run v.heard []) v.heard.tasks ls rows drawn.lines_are closed)
+    subst (λ (x : DrawingView). rows ≡ map (row_of x.window (streamed_run x.streamed [])) x.streamed.tasks) same (rows_by_number v.window (streamed_run v.streamed []) v.streamed.tasks ls rows drawn.lines_are closed)
 
-pub drawn_past : (v d : DrawingView) (ls : List ChartLineView) (os : List (Option ℕ)) → v ≡ d → IsDrawingKept v ls os → All (λ s. s.time ≤ d.heard.time) d.heard.switches
-drawn_past v d ls os same drawn = subst (λ (x : DrawingView). All (λ s. s.time ≤ x.heard.time) x.heard.switches) same drawn.past
+pub drawn_past : (v d : DrawingView) (ls : List ChartLineView) (os : List (Option ℕ)) → v ≡ d → IsDrawingKept v ls os → All (λ s. s.time ≤ d.streamed.time) d.streamed.switches
+drawn_past v d ls os same drawn = subst (λ (x : DrawingView). All (λ s. s.time ≤ x.streamed.time) x.streamed.switches) same drawn.past

@@ -10,7 +10,7 @@ use Rattle.std.proofs.lemmas.List.Sums.{prefix_len-le-length}
 use Rattle.domain_run.specs.declared.happened.Happened.{Happened}
 use Rattle.domain_run.specs.Switch.{Switch}
 use Rattle.run_figures.specs.Throttling.{up_to}
-use Rattle.chart_pieces.specs.declared.standing.Moment.{Moment}
+use Rattle.chart_pieces.specs.declared.status.Moment.{Moment}
 use Rattle.chart_pieces.specs.Moments.{moment_of, moments_by, beyond, moments}
 
 -- WHAT IS LATER than a time is beyond it
@@ -50,9 +50,9 @@ up_to_short time hs = omega (arith, length-take (prefix_len (λ (h : Happened). 
 
 -- the first switch of the next piece, or none
 then_next : (old hs : List Happened) (ss : List Switch) → All (λ s. All (λ h. h.time ≤ s.time) old) ss → moments (old ++ hs) ss ≡ map moment_of old ++ moments hs ss
-then_next old hs [] told = map-append moment_of old hs
-then_next old hs (s ∷ ss) told =
-    let all : All (λ (h : Happened). h.time ≤ s.time) old = All-head (λ (x : Switch). All (λ h. h.time ≤ x.time) old) s ss told in
+then_next old hs [] logged = map-append moment_of old hs
+then_next old hs (s ∷ ss) logged =
+    let all : All (λ (h : Happened). h.time ≤ s.time) old = All-head (λ (x : Switch). All (λ h. h.time ≤ x.time) old) s ss logged in
     let rest : List Happened → List Moment = λ xs. moments_by s ++ moments xs ss in
     (λ i. map moment_of (up_to_all s.time old hs all i) ++ rest (beyond_all s.time old hs all i))
     ∙ ap (λ (ms : List Moment). ms ++ rest (beyond s.time hs)) (map-append moment_of old (up_to s.time hs))
@@ -60,15 +60,15 @@ then_next old hs (s ∷ ss) told =
 
 pub moments_next : (old hs : List Happened) (before ss : List Switch) → All (λ s. All (λ h. h.time ≤ s.time) old) ss → All (λ h. All (λ s. s.time < h.time) before) hs
     → moments (old ++ hs) (before ++ ss) ≡ moments old before ++ moments hs ss
-moments_next old hs [] ss told later = then_next old hs ss told
-moments_next old hs (b ∷ bs) ss told later =
+moments_next old hs [] ss logged later = then_next old hs ss logged
+moments_next old hs (b ∷ bs) ss logged later =
     let first : All (λ (h : Happened). b.time < h.time) hs =
     All-weaker (λ (h : Happened). All (λ s. s.time < h.time) (b ∷ bs)) (λ (h : Happened). b.time < h.time) (λ h all. All-head (λ (s : Switch). s.time < h.time) b bs all) hs later in
     let more : All (λ (h : Happened). All (λ s. s.time < h.time) bs) hs =
     All-weaker (λ (h : Happened). All (λ s. s.time < h.time) (b ∷ bs)) (λ (h : Happened). All (λ s. s.time < h.time) bs) (λ h all. All-tail (λ (s : Switch). s.time < h.time) b bs all) hs later in
     let left = beyond b.time old in
     let passed : All (λ s. All (λ h. h.time ≤ s.time) left) ss =
-    All-weaker (λ (s : Switch). All (λ h. h.time ≤ s.time) old) (λ (s : Switch). All (λ h. h.time ≤ s.time) left) (λ s all. All-drop (λ (h : Happened). h.time ≤ s.time) (length (up_to b.time old)) old all) ss told in
+    All-weaker (λ (s : Switch). All (λ h. h.time ≤ s.time) old) (λ (s : Switch). All (λ h. h.time ≤ s.time) left) (λ s all. All-drop (λ (h : Happened). h.time ≤ s.time) (length (up_to b.time old)) old all) ss logged in
     let same : up_to b.time (old ++ hs) ≡ up_to b.time old = up_to_stays b.time old hs first in
     let n = length (up_to b.time old) in
     let beyond_is : beyond b.time (old ++ hs) ≡ left ++ hs =

@@ -4,6 +4,6 @@ pub mod Seen
 pub mod Stopping
 pub mod Holding
 pub mod Joining
-pub mod Hearing
+pub mod Streaming
 pub mod Full
 pub mod Closing

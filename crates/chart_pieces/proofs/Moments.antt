@@ -10,7 +10,7 @@ use Rattle.domain_run.specs.declared.happened.What.TheVariants.{JobEnds}
 use Rattle.domain_run.specs.declared.happened.Happened.{Happened}
 use Rattle.domain_run.specs.Switch.{Switch}
 use Rattle.domain_run.specs.declared.switch.PrevState.TheVariants.{Running}
-use Rattle.chart_pieces.specs.declared.standing.Moment.{Moment}
+use Rattle.chart_pieces.specs.declared.status.Moment.{Moment}
 use Rattle.chart_pieces.specs.declared.window.Window.{Window}
 use Rattle.chart_pieces.specs.Moments.{moment_of, moments_by, beyond, moments}
 use Rattle.chart_pieces.specs.private.LineView.{ChartLineView}
@@ -37,19 +37,19 @@ numbers_of_lines w ms ls now numbers is keyed =
     ap (λ (xs : List ChartLineView). map (λ l. l.number) xs) is
     ∙ map-map (λ (l : ChartLineView). l.number) (bars_all w ms) ls ∙ map_same (λ l. (bars_all w ms l).number) (λ l. l.number) ls (number_of_line w ms) ∙ keyed
 
--- some moments, and others behind them
-pub both_told : (w : Window) (xs ys : List Moment) (old before now : List ChartLineView) → before ≡ map (bars_all w xs) old → now ≡ map (bars_all w ys) before → now ≡ map (bars_all w (xs ++ ys)) old
-both_told w xs ys old before now b n =
+-- some moments, and others after them
+pub both_logged : (w : Window) (xs ys : List Moment) (old before now : List ChartLineView) → before ≡ map (bars_all w xs) old → now ≡ map (bars_all w ys) before → now ≡ map (bars_all w (xs ++ ys)) old
+both_logged w xs ys old before now b n =
     n ∙ ap (map (bars_all w ys)) b ∙ map-map (bars_all w ys) (bars_all w xs) old
     ∙ map_same (λ l. bars_all w ys (bars_all w xs l)) (bars_all w (xs ++ ys)) old (λ l. sym (fold-append (bars_if w) l xs ys))
 
-pub none_told : (w : Window) (ls : List ChartLineView) → ls ≡ map (bars_all w []) ls
-none_told w ls = sym (map-id ls)
+pub none_logged : (w : Window) (ls : List ChartLineView) → ls ≡ map (bars_all w []) ls
+none_logged w ls = sym (map-id ls)
 
 -- one entry more
-pub one_told : (w : Window) (hs : List Happened) (i : ℕ) (d : Happened) (old before now : List ChartLineView) → i < length hs → before ≡ map (bars_all w (map moment_of (take i hs))) old → now ≡ map (λ l. bars_if w l (moment_of (get_or hs i d))) before → now ≡ map (bars_all w (map moment_of (take (i + 1) hs))) old
-one_told w hs i d old before now l b n =
-    both_told w (map moment_of (take i hs)) (moment_of (get_or hs i d) ∷ []) old before now b n
+pub one_logged : (w : Window) (hs : List Happened) (i : ℕ) (d : Happened) (old before now : List ChartLineView) → i < length hs → before ≡ map (bars_all w (map moment_of (take i hs))) old → now ≡ map (λ l. bars_if w l (moment_of (get_or hs i d))) before → now ≡ map (bars_all w (map moment_of (take (i + 1) hs))) old
+one_logged w hs i d old before now l b n =
+    both_logged w (map moment_of (take i hs)) (moment_of (get_or hs i d) ∷ []) old before now b n
     ∙ ap (λ (ms : List Moment). map (bars_all w ms) old) (sym (map_more moment_of hs i d l))
 
 -- HOW FAR
@@ -71,33 +71,33 @@ all_passed hs i time l before later =
     (λ k lt. le-leb (get_or hs k blank).time time (before k blank lt))
     (λ lt. lt-leb (get_or hs i blank).time time (later blank lt)))
 
--- THE REST: what is left to tell makes the whole
+-- THE REST: what is left to log makes the whole
 abbrev pub blank_switch : Switch
 blank_switch = record { time = 0; prev = None; next = None; cpu = 0; state = Running }
 
 abbrev pub IsRest : Window → List Happened → List Switch → List ChartLineView → ℕ → ℕ → List ChartLineView → Type 0
 IsRest w hs ss old j k now = map (bars_all w (moments (drop j hs) (drop k ss))) now ≡ map (bars_all w (moments hs ss)) old
 
--- behind the next switch
-pub next_rest : (w : Window) (hs : List Happened) (ss : List Switch) (old : List ChartLineView) (j k n : ℕ) (d : Switch) (now told last : List ChartLineView) → k < length ss → n ≡ prefix_len (λ h. nat_le h.time (get_or ss k d).time) (drop j hs)
-    → told ≡ map (bars_all w (map moment_of (take n (drop j hs)))) now → last ≡ map (bars_all w (moments_by (get_or ss k d))) told
+-- after the next switch
+pub next_rest : (w : Window) (hs : List Happened) (ss : List Switch) (old : List ChartLineView) (j k n : ℕ) (d : Switch) (now logged last : List ChartLineView) → k < length ss → n ≡ prefix_len (λ h. nat_le h.time (get_or ss k d).time) (drop j hs)
+    → logged ≡ map (bars_all w (map moment_of (take n (drop j hs)))) now → last ≡ map (bars_all w (moments_by (get_or ss k d))) logged
     → IsRest w hs ss old j k now → IsRest w hs ss old (j + n) (k + 1) last
-next_rest w hs ss old j k n d now told last l count a b rest =
+next_rest w hs ss old j k n d now logged last l count a b rest =
     let s = get_or ss k d in
     let here = drop j hs in
     let p : Happened → Bool = λ h. nat_le h.time s.time in
     let front = map moment_of (take n here) in
-    let behind = moments (drop (j + n) hs) (drop (k + 1) ss) in
+    let following = moments (drop (j + n) hs) (drop (k + 1) ss) in
     let left : drop (j + n) hs ≡ beyond s.time here =
     sym (drop-drop n j hs) ∙ ap (λ m. drop m here) (count ∙ sym (length-prefix_len p here)) in
     let first : map moment_of (take n here) ≡ map moment_of (take (prefix_len p here) here) = ap (λ m. map moment_of (take m here)) count in
-    let whole : front ++ (moments_by s ++ behind) ≡ moments here (drop k ss) =
-    ap (λ (xs : List Moment). xs ++ (moments_by s ++ behind)) first
+    let whole : front ++ (moments_by s ++ following) ≡ moments here (drop k ss) =
+    ap (λ (xs : List Moment). xs ++ (moments_by s ++ following)) first
     ∙ ap (λ (xs : List Happened). map moment_of (take (prefix_len p here) here) ++ (moments_by s ++ moments xs (drop (k + 1) ss))) left
     ∙ ap (λ (xs : List Switch). moments here xs) (sym (drop_more ss k d l)) in
-    both_told w front (moments_by s ++ behind) now told (map (bars_all w behind) last) a
-    (ap (map (bars_all w behind)) b ∙ map-map (bars_all w behind) (bars_all w (moments_by s)) told
-    ∙ map_same (λ x. bars_all w behind (bars_all w (moments_by s) x)) (bars_all w (moments_by s ++ behind)) told (λ x. sym (fold-append (bars_if w) x (moments_by s) behind)))
+    both_logged w front (moments_by s ++ following) now logged (map (bars_all w following) last) a
+    (ap (map (bars_all w following)) b ∙ map-map (bars_all w following) (bars_all w (moments_by s)) logged
+    ∙ map_same (λ x. bars_all w following (bars_all w (moments_by s) x)) (bars_all w (moments_by s ++ following)) logged (λ x. sym (fold-append (bars_if w) x (moments_by s) following)))
     ∙ ap (λ (ms : List Moment). map (bars_all w ms) now) whole ∙ rest
 
 -- at the end

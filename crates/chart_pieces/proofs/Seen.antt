@@ -7,10 +7,10 @@ use Rattle.domain_run.specs.declared.happened.What.{What}
 use Rattle.domain_run.specs.declared.happened.What.TheVariants.{JobEnds, NextReleased, Spent, Cut, Replenished, Released, WokenSpent}
 use Rattle.domain_run.specs.declared.switch.PrevState.{PrevState}
 use Rattle.run_figures.specs.Runs.{RunView}
-use Rattle.chart_pieces.specs.declared.standing.Turn.{Turn}
-use Rattle.chart_pieces.specs.declared.standing.Turn.TheVariants.{Told, Leaves, Comes}
-use Rattle.chart_pieces.specs.declared.standing.Moment.{Moment}
-use Rattle.chart_pieces.specs.declared.standing.Standing.{Standing}
+use Rattle.chart_pieces.specs.declared.status.Turn.{Turn}
+use Rattle.chart_pieces.specs.declared.status.Turn.TheVariants.{Happens, Leaves, Comes}
+use Rattle.chart_pieces.specs.declared.status.Moment.{Moment}
+use Rattle.chart_pieces.specs.declared.status.TaskStatus.{TaskStatus}
 use Rattle.chart_pieces.specs.declared.row.Bar.{Bar}
 use Rattle.chart_pieces.specs.declared.row.Gap.{Gap}
 use Rattle.chart_pieces.specs.declared.row.Mark.{Mark}
@@ -20,8 +20,8 @@ use Rattle.chart_pieces.specs.declared.window.Window.{Window}
 use Rattle.chart_pieces.specs.Window.{touches, holds}
 use Rattle.chart_pieces.specs.Bars.{bars_of}
 use Rattle.chart_pieces.specs.Moments.{moments_of}
-use Rattle.chart_pieces.specs.Standing.{at_rest, after_turn, is_shown}
-use Rattle.chart_pieces.specs.Rows.{gap_by, gaps_from, mark_in, job_marks, marks_by_told, is_dead, end_marks, marks_by, marks_from, row_of}
+use Rattle.chart_pieces.specs.TaskStatus.{at_rest, after_turn, is_shown}
+use Rattle.chart_pieces.specs.Rows.{gap_by, gaps_from, mark_in, job_marks, marks_by_logged, is_dead, end_marks, marks_by, marks_from, row_of}
 use Rattle.chart_pieces.specs.Laws.{IsSeen, AreSeen}
 
 pub touches_seen : (w : Window) (a b : ℕ) → touches w a b ≡ true → IsSeen w a b
@@ -34,7 +34,7 @@ touches_seen w a b h =
 abbrev GapSeen : Window → Gap → Type 0
 GapSeen w g = IsSeen w g.start g.stop
 
-one_gap : (w : Window) (s : Standing) (a b : ℕ) → All (GapSeen w) (gap_by w s a b)
+one_gap : (w : Window) (s : TaskStatus) (a b : ℕ) → All (GapSeen w) (gap_by w s a b)
 one_gap w s a b =
     let g : Gap = record { throttled = s.throttled; start = a; stop = b } in
     elim (is_shown s && touches w a b) as (λ t. (is_shown s && touches w a b) ≡ t → All (GapSeen w) (cond t (g ∷ []) [])) [
@@ -42,7 +42,7 @@ one_gap w s a b =
       | false ↦ λ no. All-nil (GapSeen w)
     ] refl
 
-all_gaps : (w : Window) (time : ℕ) (s : Standing) (since : ℕ) (ms : List Moment) → All (GapSeen w) (gaps_from w time s since ms)
+all_gaps : (w : Window) (time : ℕ) (s : TaskStatus) (since : ℕ) (ms : List Moment) → All (GapSeen w) (gaps_from w time s since ms)
 all_gaps w time s since [] = one_gap w s since time
 all_gaps w time s since (m ∷ ms) =
     All-append (GapSeen w) (gap_by w s since m.time) (gaps_from w time (after_turn m.turn s) m.time ms) (one_gap w s since m.time) (all_gaps w time (after_turn m.turn s) m.time ms)
@@ -68,27 +68,27 @@ both_marks : (w : Window) (release deadline : ℕ) → All (MarkSeen w) (job_mar
 both_marks w release deadline =
     All-append (MarkSeen w) (mark_in w ReleasedAt release) (mark_in w DueAt deadline) (one_mark w ReleasedAt release) (one_mark w DueAt deadline)
 
-told_marks : (w : Window) (time : ℕ) (what : What) → All (MarkSeen w) (marks_by_told w time what)
-told_marks w time JobEnds = no_mark w
-told_marks w time (NextReleased d) = both_marks w time d
-told_marks w time (Spent d) = no_mark w
-told_marks w time Cut = one_mark w EndedAt time
-told_marks w time (Replenished d) = no_mark w
-told_marks w time (Released d) = both_marks w time d
-told_marks w time (WokenSpent d) = no_mark w
+logged_marks : (w : Window) (time : ℕ) (what : What) → All (MarkSeen w) (marks_by_logged w time what)
+logged_marks w time JobEnds = no_mark w
+logged_marks w time (NextReleased d) = both_marks w time d
+logged_marks w time (Spent d) = no_mark w
+logged_marks w time Cut = one_mark w EndedAt time
+logged_marks w time (Replenished d) = no_mark w
+logged_marks w time (Released d) = both_marks w time d
+logged_marks w time (WokenSpent d) = no_mark w
 
-last_mark : (w : Window) (s : Standing) (time : ℕ) (state : PrevState) → All (MarkSeen w) (end_marks w s time state)
+last_mark : (w : Window) (s : TaskStatus) (time : ℕ) (state : PrevState) → All (MarkSeen w) (end_marks w s time state)
 last_mark w s time state = elim (is_dead state && not s.cut) as (λ t. All (MarkSeen w) (cond t (mark_in w EndedAt time) [])) [
   | true ↦ one_mark w EndedAt time
   | false ↦ no_mark w
 ]
 
-turn_marks : (w : Window) (s : Standing) (time : ℕ) (turn : Turn) → All (MarkSeen w) (marks_by w s time turn)
-turn_marks w s time (Told what) = told_marks w time what
+turn_marks : (w : Window) (s : TaskStatus) (time : ℕ) (turn : Turn) → All (MarkSeen w) (marks_by w s time turn)
+turn_marks w s time (Happens what) = logged_marks w time what
 turn_marks w s time (Leaves cpu state) = last_mark w s time state
 turn_marks w s time (Comes cpu) = no_mark w
 
-all_marks : (w : Window) (s : Standing) (ms : List Moment) → All (MarkSeen w) (marks_from w s ms)
+all_marks : (w : Window) (s : TaskStatus) (ms : List Moment) → All (MarkSeen w) (marks_from w s ms)
 all_marks w s [] = no_mark w
 all_marks w s (m ∷ ms) =
     All-append (MarkSeen w) (marks_by w s m.time m.turn) (marks_from w (after_turn m.turn s) ms) (turn_marks w s m.time m.turn) (all_marks w (after_turn m.turn s) ms)

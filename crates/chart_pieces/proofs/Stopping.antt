@@ -1,4 +1,4 @@
--- The bars of a task, with one switch more behind.
+-- The bars of a task, with one switch more after.
 use Rattle.std.proofs.Common.{◌≡◌, ℕ, ◌≤◌, ◌<◌, Bool, true, false, true≢false, cond, eqb, ◌&&◌, List, [], ◌∷◌, ◌++◌, map, refl, sym, ap, ◌∙◌, arith, append-nil, append_assoc, All, lt-ltb}
 use Rattle.std.specs.Prelude.{filter, min}
 use Rattle.std.proofs.Math.Nat.{min-eq_left, min-eq_right, min-le_left}

@@ -2,7 +2,7 @@ pub mod RowView
 pub mod Window
 pub mod Bars
 pub mod Moments
-pub mod Standing
+pub mod TaskStatus
 pub mod Rows
 pub mod Laws
 pub mod Drawing

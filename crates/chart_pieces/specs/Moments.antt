@@ -4,25 +4,24 @@ use Rattle.std.specs.Prelude.{ℕ, ◌==◌, List, [], ◌∷◌, ◌++◌, drop
 use Rattle.domain_run.specs.declared.happened.Happened.{Happened}
 use Rattle.domain_run.specs.Switch.{Switch}
 use Rattle.run_figures.specs.Throttling.{up_to}
-use Rattle.chart_pieces.specs.declared.standing.Turn.TheVariants.{Told, Leaves, Comes}
-use Rattle.chart_pieces.specs.declared.standing.Moment.{Moment}
+use Rattle.chart_pieces.specs.declared.status.Turn.{Turn}
+use Rattle.chart_pieces.specs.declared.status.Turn.TheVariants.{Happens, Leaves, Comes}
+use Rattle.chart_pieces.specs.declared.status.Moment.{Moment}
 
 abbrev pub moment_of : Happened → Moment
-moment_of h = record { time = h.time; number = h.number; turn = Told h.what }
+moment_of h = record { time = h.time; number = h.number; turn = Happens h.what }
 
-abbrev pub leaving : Switch → Option ℕ → List Moment
-leaving s None = []
-leaving s (Some number) =
-    record { time = s.time; number = number; turn = Leaves s.cpu s.state } ∷ []
+-- a turn of a task, if there is a task
+abbrev pub moment_if : ℕ → Turn → Option ℕ → List Moment
+moment_if time turn None = []
+moment_if time turn (Some number) = record { time = time; number = number; turn = turn } ∷ []
 
-abbrev pub coming : Switch → Option ℕ → List Moment
-coming s None = []
-coming s (Some number) = record { time = s.time; number = number; turn = Comes s.cpu } ∷ []
-
+-- one task leaves the CPU, and another comes
 abbrev pub moments_by : Switch → List Moment
-moments_by s = leaving s s.prev ++ coming s s.next
+moments_by s =
+    moment_if s.time (Leaves s.cpu s.state) s.prev ++ moment_if s.time (Comes s.cpu) s.next
 
--- what happens behind a time
+-- what happens after a time
 abbrev pub beyond : ℕ → List Happened → List Happened
 beyond time happened = drop (length (up_to time happened)) happened
 

@@ -1,4 +1,3 @@
 pub mod LineView
 pub mod Lines
-pub mod Past
 pub mod Keeping

@@ -1,7 +1,7 @@
-//! The rows of a run that is heard piece by piece.
+//! The rows of a run that is streamed piece by piece.
 
 ghost use Rattle.std.specs.Prelude.{◌≡◌, [], IfOk, List, All, map};
-ghost use Rattle.run_figures.specs.Accounting.{IsNextPiece, heard_run};
+ghost use Rattle.run_figures.specs.Accounting.{IsNextPiece, streamed_run};
 ghost use Rattle.run_figures.specs.Runs.{AreTasks, IsBoundedRun, run_view_of};
 ghost use Rattle.run_figures.specs.declared.run.Admitted.{Admitted as AdmittedView};
 ghost use Rattle.chart_pieces.specs.Drawing.{drawn_on};
@@ -12,20 +12,20 @@ ghost use Rattle.chart_pieces.specs.private.Keeping as keeping;
 ghost use Rattle.chart_pieces.specs.private.Lines as lines;
 
 use crate::lines::{Line, closed};
-use crate::past::Past;
+use crate::logging::log_moments;
 use crate::row::Row;
 use crate::stays::{Table, put_switch};
-use crate::telling::tell_moments;
 use crate::window::Window;
 use domain_run::{Happened, NoMemory, Switch};
-use run_figures::{Admitted, Hears, Places, Run};
+use past::Past;
+use run_figures::{Admitted, Places, Run, Sink};
 use std::alloc::Global;
 use std::marker::Model;
 use std::mem;
 
-/// What was heard of a run. What happened and the switches stand in proofs alone.
+/// What was streamed of a run. What happened and the switches stand in proofs alone.
 #[derive(Drop)]
-struct Heard {
+struct Streamed {
     cpus: u32,
     /// The time at its end.
     time: u64,
@@ -33,13 +33,13 @@ struct Heard {
     switches: Past<Switch>,
 }
 
-/// What is drawn of a run while it is heard, piece by piece. It keeps what has a part in the
+/// What is drawn of a run while it is streamed, piece by piece. It keeps what has a part in the
 /// window, how each task stands, and which task has each CPU. Contracts see the window, how many
-/// CPUs the run has, when it will end, the numbers of its tasks, and all that was heard.
+/// CPUs the run has, when it will end, the numbers of its tasks, and all that was streamed.
 #[derive(Drop)]
 pub struct Drawing {
     window: Window,
-    heard: Heard,
+    streamed: Streamed,
     places: Places,
     /// `Err` once a growth was refused.
     table: Result<Table, NoMemory>,
@@ -52,34 +52,34 @@ impl Model for Drawing {
 
     ghost Value = { DrawingView };
 
-    ghost view = { λ d. drawing_view_of d.window d.heard d.places };
+    ghost view = { λ d. drawing_view_of d.window d.streamed d.places };
 
     ghost invariant = { λ d. IfOk d.table (λ t. IsDrawingKept
-        (drawing_view_of d.window d.heard d.places) t.lines.items t.holders.items) };
+        (drawing_view_of d.window d.streamed d.places) t.lines.items t.holders.items) };
 }
 
-/// Hears one piece more: first the moments of its tasks, then its bars.
-fn hear_piece(
+/// Takes one piece more: first the moments of its tasks, then its bars.
+fn stream_piece(
     mut table: Table,
     window: &Window,
     places: &Places,
-    heard: &Heard,
+    streamed: &Streamed,
     happened: &[Happened],
     switches: &[Switch],
 ) -> Result<Table, NoMemory>
     requires drawn { keeping.IsDrawingKept
-        (keeping.drawing_view_of window.now heard.now places.now) table.lines.items
+        (keeping.drawing_view_of window.now streamed.now places.now) table.lines.items
         table.holders.items }
     requires next { IsNextPiece
-        (keeping.drawing_view_of window.now heard.now places.now).heard happened.now
+        (keeping.drawing_view_of window.now streamed.now places.now).streamed happened.now
         switches.now }
     ensures { IfOk result (λ t. keeping.IsDrawingKept
-        (drawn_on (keeping.drawing_view_of window.now heard.now places.now) happened.now
+        (drawn_on (keeping.drawing_view_of window.now streamed.now places.now) happened.now
         switches.now) t.lines.items t.holders.items) }
 {
-    tell_moments(&mut table.lines, places, window, happened, switches)?;
+    log_moments(&mut table.lines, places, window, happened, switches)?;
     for switch in switches {
-        put_switch(&mut table, places, window, heard.time, switch)?;
+        put_switch(&mut table, places, window, streamed.time, switch)?;
     }
     Ok(table)
 }
@@ -102,8 +102,8 @@ fn rows_by(
 }
 
 impl Drawing {
-    /// Of a run of which nothing was heard yet: its domain has this many CPUs, it will end at this
-    /// time, in microseconds, and these are its tasks.
+    /// Of a run of which nothing was streamed yet: its domain has this many CPUs, it will end at
+    /// this time, in microseconds, and these are its tasks.
     ///
     /// # Errors
     /// 12 [`NoMemory`]: a growth was refused; nothing is left.
@@ -117,7 +117,7 @@ impl Drawing {
         requires tasks { AreTasks tasks.now }
         ensures { IfOk result (λ d. d ≡ record {
           window = window;
-          heard = record {
+          streamed = record {
             cpus = cpus;
             time = time;
             tasks = map (λ t. t.number) tasks.now;
@@ -130,7 +130,7 @@ impl Drawing {
         let table = Table::open(alloc, cpus, tasks)?;
         Ok(Drawing {
             window,
-            heard: Heard {
+            streamed: Streamed {
                 cpus,
                 time,
                 happened: Past::new(),
@@ -141,66 +141,66 @@ impl Drawing {
         })
     }
 
-    /// Hears the next piece: what happened and the switches, both in their order. It takes memory
+    /// Takes the next piece: what happened and the switches, both in their order. It takes memory
     /// only for what has a part in the window. If a growth is refused, the drawing gives up what it
     /// has, and `rows` fails.
     ///
-    /// A run is cut into pieces between two ticks: what was heard is not later than the switches of
-    /// this piece, and what happens in this piece is later than the switches that were heard.
-    pub fn hear(&mut self, happened: &[Happened], switches: &[Switch])
-        requires next { IsNextPiece self.old.heard happened.now switches.now }
+    /// A run is cut into pieces between two ticks: what was streamed is not later than the switches
+    /// of this piece, and what happens in this piece is later than the switches that were streamed.
+    pub fn stream(&mut self, happened: &[Happened], switches: &[Switch])
+        requires next { IsNextPiece self.old.streamed happened.now switches.now }
         ensures { self.new ≡ drawn_on self.old happened.now switches.now }
     {
         self.table = match mem::replace(&mut self.table, Err(NoMemory)) {
-            Ok(table) => hear_piece(
+            Ok(table) => stream_piece(
                 table,
                 &self.window,
                 &self.places,
-                &self.heard,
+                &self.streamed,
                 happened,
                 switches,
             ),
             Err(NoMemory) => Err(NoMemory),
         };
-        self.heard.happened.extend(happened);
-        self.heard.switches.extend(switches);
+        self.streamed.happened.extend(happened);
+        self.streamed.switches.extend(switches);
     }
 
-    /// What is drawn in the window of each task of the run that was heard, in the order of the
+    /// What is drawn in the window of each task of the run that was streamed, in the order of the
     /// tasks.
     ///
     /// # Errors
-    /// 12 [`NoMemory`]: a growth was refused, now or while the run was heard; nothing is left.
+    /// 12 [`NoMemory`]: a growth was refused, now or while the run was streamed; nothing is left.
     pub fn rows(self, alloc: Global) -> Result<Vec<Row>, NoMemory>
-        ensures rows { (tasks : List AdmittedView) → map (λ t. t.number) tasks ≡ self.heard.tasks
+        ensures rows { (tasks : List AdmittedView) → map (λ t. t.number) tasks ≡ self.streamed.tasks
             → IfOk result (λ v. v.items
-            ≡ rows.rows_of self.window (heard_run self.heard tasks)) }
+            ≡ rows.rows_of self.window (streamed_run self.streamed tasks)) }
         ensures seen { IfOk result (λ v. All (laws.AreSeen self.window) v.items) }
         ensures full { (tasks : List AdmittedView)
-            → IfOk result (λ v. IsWhole self.window self.heard.time
-            → All (laws.BarsAreAllCpuTime (heard_run self.heard tasks)) v.items) }
+            → IfOk result (λ v. IsWhole self.window self.streamed.time
+            → All (laws.BarsAreAllCpuTime (streamed_run self.streamed tasks)) v.items) }
     {
         let Drawing {
             window,
-            heard,
+            streamed,
             table,
             ..
         } = self;
-        rows_by(alloc, table?.lines, &window, heard.time)
+        rows_by(alloc, table?.lines, &window, streamed.time)
     }
 }
 
-impl Hears for Drawing {
+impl Sink for Drawing {
     ghost use Rattle.chart_pieces.specs.declared.window.Window.{Window as WindowView};
 
-    ghost heard = { λ d. d.heard };
+    ghost streamed = { λ d. d.streamed };
 
     ghost Kept = { WindowView };
 
     ghost kept = { λ d. d.window };
 
-    fn hear(&mut self, happened: &[Happened], switches: &[Switch]) {
-        Drawing::hear(self, happened, switches);
+    fn stream(&mut self, happened: &[Happened], switches: &[Switch]) {
+        Drawing::stream(self, happened, switches);
     }
 }
 
@@ -217,6 +217,6 @@ pub fn rows_of(alloc: Global, run: &Run<'_>, window: Window) -> Result<Vec<Row>,
         → All (laws.BarsAreAllCpuTime (run_view_of run.now)) v.items) }
 {
     let mut drawing = Drawing::open(alloc, window, run.cpus, run.time, run.tasks)?;
-    drawing.hear(run.happened, run.switches);
+    drawing.stream(run.happened, run.switches);
     drawing.rows(alloc)
 }

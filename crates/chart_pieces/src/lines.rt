@@ -5,7 +5,7 @@ ghost use Rattle.chart_pieces.specs.private.Lines as lines;
 
 use crate::marks::{push_gap, push_marks};
 use crate::row::{Bar, Gap, Mark, Row};
-use crate::standing::{Moment, Standing, after, at_rest};
+use crate::status::{Moment, TaskStatus, after, at_rest};
 use crate::window::Window;
 use domain_run::{NoMemory, Switch};
 use run_figures::{Admitted, Places};
@@ -18,7 +18,7 @@ pub(crate) struct Line {
     number: u32,
     /// Its bars so far. One that goes on lasts to the end of the run.
     bars: Vec<Bar>,
-    standing: Standing,
+    status: TaskStatus,
     /// Since when it stands so.
     since: u64,
     gaps: Vec<Gap>,
@@ -33,7 +33,7 @@ impl Model for Line {
     ghost view = { λ l. record {
       number = l.number;
       bars = l.bars.items;
-      standing = l.standing;
+      status = l.status;
       since = l.since;
       gaps = l.gaps.items;
       marks = l.marks.items;
@@ -49,7 +49,7 @@ pub(crate) fn no_lines(alloc: Global, tasks: &[Admitted]) -> Result<Vec<Line>, N
         table.push(Line {
             number: task.number,
             bars: Vec::new(alloc),
-            standing: at_rest(),
+            status: at_rest(),
             since: 0,
             gaps: Vec::new(alloc),
             marks: Vec::new(alloc),
@@ -158,30 +158,30 @@ pub(crate) fn put_stop(
 // ---- moments
 
 /// What a moment of the task makes of its line.
-fn tell_line(line: &mut Line, window: &Window, moment: &Moment) -> Result<(), NoMemory>
+fn log_line(line: &mut Line, window: &Window, moment: &Moment) -> Result<(), NoMemory>
     ensures { OnOk result (line.new ≡ lines.bars_after window.now moment.now line.old) }
 {
     push_gap(
         &mut line.gaps,
         window,
-        &line.standing,
+        &line.status,
         line.since,
         moment.time,
     )?;
     push_marks(
         &mut line.marks,
         window,
-        &line.standing,
+        &line.status,
         moment.time,
         moment.turn,
     )?;
-    line.standing = after(line.standing, moment.turn);
+    line.status = after(line.status, moment.turn);
     line.since = moment.time;
     Ok(())
 }
 
 /// Tells a moment.
-pub(crate) fn tell(
+pub(crate) fn say(
     table: &mut Vec<Line>,
     places: &Places,
     window: &Window,
@@ -193,7 +193,7 @@ pub(crate) fn tell(
 {
     match places.find(moment.number) {
         None => Ok(()),
-        Some(place) => tell_line(&mut table[place], window, moment),
+        Some(place) => log_line(&mut table[place], window, moment),
     }
 }
 
@@ -206,12 +206,12 @@ pub(crate) fn closed(line: Line, window: &Window, time: u64) -> Result<Row, NoMe
     let Line {
         number,
         bars,
-        standing,
+        status,
         since,
         mut gaps,
         marks,
     } = line;
-    push_gap(&mut gaps, window, &standing, since, time)?;
+    push_gap(&mut gaps, window, &status, since, time)?;
     Ok(Row {
         number,
         bars,

@@ -4,7 +4,7 @@ ghost use Rattle.std.specs.Prelude.{◌≡◌, ◌++◌, OnOk};
 ghost use Rattle.chart_pieces.specs.Rows as rows;
 
 use crate::row::{Gap, Mark, Sign};
-use crate::standing::{Standing, Turn, is_shown};
+use crate::status::{TaskStatus, Turn, is_shown};
 use crate::window::Window;
 use domain_run::{NoMemory, PrevState, What};
 
@@ -12,16 +12,16 @@ use domain_run::{NoMemory, PrevState, What};
 pub(crate) fn push_gap(
     gaps: &mut Vec<Gap>,
     window: &Window,
-    standing: &Standing,
+    status: &TaskStatus,
     start: u64,
     stop: u64,
 ) -> Result<(), NoMemory>
     ensures { OnOk result (gaps.new.items
-        ≡ gaps.old.items ++ rows.gap_by window.now standing.now start stop) }
+        ≡ gaps.old.items ++ rows.gap_by window.now status.now start stop) }
 {
-    if is_shown(standing) && window.touches(start, stop) {
+    if is_shown(status) && window.touches(start, stop) {
         gaps.push(Gap {
-            throttled: standing.throttled,
+            throttled: status.throttled,
             start,
             stop,
         })?;
@@ -52,9 +52,14 @@ fn push_job(
     push_mark(marks, window, Sign::Due, deadline)
 }
 
-fn push_told(marks: &mut Vec<Mark>, window: &Window, time: u64, what: What) -> Result<(), NoMemory>
+fn push_logged(
+    marks: &mut Vec<Mark>,
+    window: &Window,
+    time: u64,
+    what: What,
+) -> Result<(), NoMemory>
     ensures { OnOk result (marks.new.items
-        ≡ marks.old.items ++ rows.marks_by_told window.now time what) }
+        ≡ marks.old.items ++ rows.marks_by_logged window.now time what) }
 {
     match what {
         What::NextReleased { deadline } | What::Released { deadline } => {
@@ -79,14 +84,14 @@ fn is_dead(state: PrevState) -> bool
 fn push_end(
     marks: &mut Vec<Mark>,
     window: &Window,
-    standing: &Standing,
+    status: &TaskStatus,
     time: u64,
     state: PrevState,
 ) -> Result<(), NoMemory>
     ensures { OnOk result (marks.new.items
-        ≡ marks.old.items ++ rows.end_marks window.now standing.now time state) }
+        ≡ marks.old.items ++ rows.end_marks window.now status.now time state) }
 {
-    if is_dead(state) && !standing.cut {
+    if is_dead(state) && !status.cut {
         return push_mark(marks, window, Sign::Ended, time);
     }
     Ok(())
@@ -96,16 +101,16 @@ fn push_end(
 pub(crate) fn push_marks(
     marks: &mut Vec<Mark>,
     window: &Window,
-    standing: &Standing,
+    status: &TaskStatus,
     time: u64,
     turn: Turn,
 ) -> Result<(), NoMemory>
     ensures { OnOk result (marks.new.items
-        ≡ marks.old.items ++ rows.marks_by window.now standing.now time turn) }
+        ≡ marks.old.items ++ rows.marks_by window.now status.now time turn) }
 {
     match turn {
-        Turn::Told(what) => push_told(marks, window, time, what),
-        Turn::Leaves { state, .. } => push_end(marks, window, standing, time, state),
+        Turn::Happens(what) => push_logged(marks, window, time, what),
+        Turn::Leaves { state, .. } => push_end(marks, window, status, time, state),
         Turn::Comes { .. } => Ok(()),
     }
 }

@@ -1,5 +1,5 @@
-//! The bars of a run, told from its first switch to the last. A bar of a task that has a CPU lasts
-//! to the end of the run, until the CPU switches again.
+//! The bars of a run, logged from its first switch to the last. A bar of a task that has a CPU
+//! lasts to the end of the run, until the CPU switches again.
 
 ghost use Rattle.std.specs.Prelude.{◌≡◌, ◌<◌, IfOk, OnOk, All, None, length, map, replicate, slice_index_or, slice_set};
 ghost use Rattle.chart_pieces.specs.private.Lines as lines;
@@ -53,7 +53,7 @@ fn drawn_next(window: &Window, switch: &Switch, end: u64) -> Option<u32>
     }
 }
 
-/// Puts a switch behind those before it, where the run ends at this time. Looks at the lines of the
+/// Puts a switch after those before it, where the run ends at this time. Looks at the lines of the
 /// two tasks of the switch alone.
 pub(crate) fn put_switch(
     table: &mut Table,

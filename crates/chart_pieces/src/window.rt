@@ -9,7 +9,7 @@ ghost use Rattle.chart_pieces.specs.Window.{IsWindow};
 pub struct Window {
     /// Where it begins.
     pub from: u64,
-    /// Where it ends: at most 2^42, and behind its beginning.
+    /// Where it ends: at most 2^42, and after its beginning.
     pub to: u64,
 }
 
@@ -43,7 +43,7 @@ const MOST_TIME: u64 = 1 << 42;
 
 impl Span {
     /// The window that shows it of a run that ends at this time: at least one microsecond, and
-    /// nothing behind 2^42 us.
+    /// nothing after 2^42 us.
     pub fn window(&self, end: u64) -> Window
         ensures window { result ≡ windows.window_of self.now end }
         ensures sound { IsWindow result }

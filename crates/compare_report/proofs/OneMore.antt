@@ -3,6 +3,7 @@ use Rattle.std.proofs.Common.{◌≡◌, ℕ, ◌+◌, ◌-◌, ◌<◌, ⊎_eli
 use Rattle.std.specs.Prelude.{IfOk}
 use Rattle.std.proofs.lemmas.Bool.{cases_lt}
 use Rattle.std.proofs.lemmas.List.{get_or_append_left, get_or-append_right, get_or_default, length-append}
+use Rattle.trace_compare.specs.declared.clock.ClockShift.{ClockShift}
 use Rattle.trace_compare.specs.declared.task.TaskRuns.{TaskRuns}
 use Rattle.trace_compare.specs.declared.pairs.Matching.{Matching}
 use Rattle.compare_report.specs.declared.finding.Finding.{Finding}
@@ -13,7 +14,7 @@ last_is fs f j d e =
     get_or-append_right fs (f ∷ []) (length fs) j d refl (omega (arith, e))
     ∙ ap (λ (n : ℕ). get_or (f ∷ []) n d) (let z : j - length fs ≡ 0 = omega (arith, e) in z)
 
-pub one_more : (shift from until : ℕ) (names : List (List ℕ)) (tasks : List TaskRuns) (matchings : List Matching) (n : ℕ) (before after : List Finding) (f : Finding) → AreFindings shift from until names tasks matchings n before
+pub one_more : (shift : ClockShift) (from until : ℕ) (names : List (List ℕ)) (tasks : List TaskRuns) (matchings : List Matching) (n : ℕ) (before after : List Finding) (f : Finding) → AreFindings shift from until names tasks matchings n before
     → ((x : List ℕ) (t : TaskRuns) (m : Matching) → IsFinding shift from until (get_or names n x) (get_or tasks n t) (get_or matchings n m) f)
     → after ≡ before ++ f ∷ [] → AreFindings shift from until names tasks matchings (n + 1) after
 one_more shift from until names tasks matchings n before after f was here same =
@@ -29,7 +30,7 @@ one_more shift from until names tasks matchings n before after f was here same =
     })
 
 -- what is told of a name, a task and a matching is told of those that stand at a place
-pub at_place : {E : Type 0} (shift from until : ℕ) (names : List (List ℕ)) (tasks : List TaskRuns) (matchings : List Matching) (i : ℕ) (name : List ℕ) (task : TaskRuns) (m : Matching) (r : Result Finding E)
+pub at_place : {E : Type 0} (shift : ClockShift) (from until : ℕ) (names : List (List ℕ)) (tasks : List TaskRuns) (matchings : List Matching) (i : ℕ) (name : List ℕ) (task : TaskRuns) (m : Matching) (r : Result Finding E)
     → ((d : List ℕ) → name ≡ get_or names i d) → task ≡ get_or tasks i task → i < length tasks → m ≡ get_or matchings i m → i < length matchings
     → IfOk r (IsFinding shift from until name task m)
     → IfOk r (λ f. (x : List ℕ) (t : TaskRuns) (k : Matching) → IsFinding shift from until (get_or names i x) (get_or tasks i t) (get_or matchings i k) f)

@@ -3,6 +3,7 @@ use Rattle.std.proofs.Common.{◌≡◌, ℕ, Bool, List, length, Option, Result
 use Rattle.std.specs.Prelude.{IfOk}
 use Rattle.std.specs.Option.{option_map}
 use Rattle.recorded_text.specs.declared.step.Step.{Step}
+use Rattle.trace_compare.specs.declared.clock.ClockShift.{ClockShift}
 use Rattle.trace_compare.specs.declared.task.TaskRuns.{TaskRuns}
 use Rattle.trace_compare.specs.declared.comparing.Compared.{Compared}
 use Rattle.trace_compare.specs.declared.pairs.Matching.{Matching}
@@ -19,14 +20,14 @@ use Rattle.compare_report.specs.private.Fitting.{AreFitting, IsReportOfRuns}
 use Rattle.compare_report.proofs.Lengths.{fitting}
 
 -- from what is told of the tasks, under the names that the code has for the parts
-pub of_findings : {E : Type 0} (r : Result (Vec ℕ Global) E) (cpus : Bool) (names : List (List ℕ)) (tasks : List TaskRuns) (compared : Compared) (matchings : List Matching) (findings seen : List Finding) (shift from until : ℕ)
+pub of_findings : {E : Type 0} (r : Result (Vec ℕ Global) E) (cpus : Bool) (names : List (List ℕ)) (tasks : List TaskRuns) (compared : Compared) (matchings : List Matching) (findings seen : List Finding) (shift : ClockShift) (from until : ℕ)
     → shift ≡ compared.shift → from ≡ first_start tasks → until ≡ last_end tasks → matchings ≡ compared.tasks.items → seen ≡ findings
     → AreFindings shift from until names tasks matchings (length tasks) findings
     → IfOk r (λ v. IsTextOf cpus compared.shift seen v.items)
     → IfOk r (λ v. IsReportOfRuns cpus names tasks compared v.items)
 of_findings (Err e) cpus names tasks compared matchings findings seen shift from until a b c d e2 told h = tt
 of_findings (Ok v) cpus names tasks compared matchings findings seen shift from until same_shift same_from same_until same_matchings same_findings told h =
-    let with_shift = subst (λ (s : ℕ). AreFindings s from until names tasks matchings (length tasks) findings) same_shift told in
+    let with_shift = subst (λ (s : ClockShift). AreFindings s from until names tasks matchings (length tasks) findings) same_shift told in
     let with_from = subst (λ (f : ℕ). AreFindings compared.shift f until names tasks matchings (length tasks) findings) same_from with_shift in
     let with_until = subst (λ (u : ℕ). AreFindings compared.shift (first_start tasks) u names tasks matchings (length tasks) findings) same_until with_from in
     record {
@@ -35,7 +36,7 @@ of_findings (Ok v) cpus names tasks compared matchings findings seen shift from 
       is_text = subst (λ (fs : List Finding). IsTextOf cpus compared.shift fs v.items) same_findings h;
     }
 
-pub of_runs : {E : Type 0} (r : Result (Vec ℕ Global) E) (asked : CompareOptions) (names : List (List ℕ)) (many : ℕ) (model recorded : List Step) (tasks one two : List TaskRuns) (compared : Compared) (within : ℕ) (shift noise : Option ℕ)
+pub of_runs : {E : Type 0} (r : Result (Vec ℕ Global) E) (asked : CompareOptions) (names : List (List ℕ)) (many : ℕ) (model recorded : List Step) (tasks one two : List TaskRuns) (compared : Compared) (within : ℕ) (shift : Option ClockShift) (noise : Option ℕ)
     → within ≡ asked.within → shift ≡ option_map asked_shift asked.shift → noise ≡ asked.noise → one ≡ tasks → two ≡ tasks
     → (n : ℕ) × IsNoise noise model many n × AreTasksOf n model recorded many tasks
     → IsCompared within shift one compared
@@ -44,7 +45,7 @@ pub of_runs : {E : Type 0} (r : Result (Vec ℕ Global) E) (asked : CompareOptio
 of_runs (Err e) asked names many model recorded tasks one two compared within shift noise a b c d e2 (n, is_noise, are_tasks) is_compared h = tt
 of_runs (Ok v) asked names many model recorded tasks one two compared within shift noise same_within same_shift same_noise first second (n, is_noise, are_tasks) is_compared h =
     let with_within = subst (λ (w : ℕ). IsCompared w shift one compared) same_within is_compared in
-    let with_shift = subst (λ (o : Option ℕ). IsCompared asked.within o one compared) same_shift with_within in
+    let with_shift = subst (λ (o : Option ClockShift). IsCompared asked.within o one compared) same_shift with_within in
     record {
       noise = n;
       is_noise = subst (λ (o : Option ℕ). IsNoise o model many n) same_noise is_noise;
@@ -58,6 +59,6 @@ of_runs (Ok v) asked names many model recorded tasks one two compared within shi
     }
 
 -- the matchings fit the tasks, whatever the code calls these
-pub fitting_in : (within shift : ℕ) (tasks one two : List TaskRuns) (matchings : List Matching) → one ≡ tasks → two ≡ tasks → AreMatched within shift one (length one) matchings → AreFitting two matchings
+pub fitting_in : (within : ℕ) (shift : ClockShift) (tasks one two : List TaskRuns) (matchings : List Matching) → one ≡ tasks → two ≡ tasks → AreMatched within shift one (length one) matchings → AreFitting two matchings
 fitting_in within shift tasks one two matchings first second h =
     subst (λ (ts : List TaskRuns). AreFitting ts matchings) (first ∙ sym second) (fitting within shift one matchings h)

@@ -1,9 +1,10 @@
 -- The report of two texts (own).
-use Rattle.std.specs.Prelude.{ℕ, suc, ℤ, pos, negsuc, ◌+◌, ◌-◌, min, List, length}
+use Rattle.std.specs.Prelude.{ℕ, suc, ℤ, pos, negsuc, ◌-◌, min, List, length}
 use Rattle.std.specs.Option.{option_map}
+use Rattle.trace_compare.specs.declared.clock.ClockShift.{ClockShift}
 use Rattle.trace_compare.specs.declared.task.TaskRuns.{TaskRuns}
 use Rattle.trace_compare.specs.declared.comparing.Compared.{Compared}
-use Rattle.trace_compare.specs.Pairs.{no_shift}
+use Rattle.trace_compare.specs.Clocks.{time_limit}
 use Rattle.trace_compare.specs.Tasks.{IsNoise, AreTasksOf}
 use Rattle.trace_compare.specs.Compared.{IsCompared}
 use Rattle.trace_compare.specs.Differences.{first_start, last_end}
@@ -13,10 +14,10 @@ use Rattle.compare_report.specs.Findings.{AreFindings}
 use Rattle.compare_report.specs.Text.{IsTextOf}
 use Rattle.compare_report.specs.Reading.{Pair}
 
--- a shift that is asked for, counted from -2^61 us: to either side at most so far
-abbrev pub asked_shift : ℤ → ℕ
-asked_shift (pos n) = no_shift + min n 2305843009213693951
-asked_shift (negsuc n) = no_shift - suc n
+-- a shift that is asked for, within the limit of times
+abbrev pub asked_shift : ℤ → ClockShift
+asked_shift (pos n) = record { ahead = min n (time_limit - 1); behind = 0 }
+asked_shift (negsuc n) = record { ahead = 0; behind = min (suc n) time_limit }
 
 -- the tasks are the model's; their runs in both texts are compared under the shift that was asked
 -- for, or the best; and what is told is of these

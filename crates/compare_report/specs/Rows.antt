@@ -1,5 +1,6 @@
 -- The row of a task whose runs were compared (own).
 use Rattle.std.specs.Prelude.{◌≡◌, ℕ, ◌+◌, List, [], length, filter, map, Option, Some, None}
+use Rattle.trace_compare.specs.declared.clock.ClockShift.{ClockShift}
 use Rattle.trace_compare.specs.declared.task.TaskRuns.{TaskRuns}
 use Rattle.trace_compare.specs.declared.pairs.Matching.{Matching}
 use Rattle.trace_compare.specs.Pairs.{count_matched}
@@ -14,8 +15,8 @@ IsSpreadOf values None = values ≡ []
 IsSpreadOf values (Some s) = IsSpread values s
 
 -- the row of a task, where the model's time is from one time until another
-pub record IsRow (shift from until : ℕ) (name : List ℕ) (t : TaskRuns) (m : Matching) (r : Row)
-    : Type 0 where
+pub record IsRow (shift : ClockShift) (from until : ℕ) (name : List ℕ) (t : TaskRuns)
+    (m : Matching) (r : Row) : Type 0 where
   pub called : r.name.now ≡ name
   pub runs : r.runs ≡ length t.model.items
   pub matches : r.matched ≡ count_matched m.partners.items

@@ -1,6 +1,6 @@
 -- The table of a comparison, as a text (own).
-use Rattle.std.specs.Prelude.{ℕ, ◌-◌, ◌/◌, ◌%◌, Bool, true, false, List, [], ◌∷◌, ◌++◌, length, replicate, Option, Some, None, codes, decimal}
-use Rattle.draft.specs.Columns.{right, column}
+use Rattle.std.specs.Prelude.{ℕ, ◌/◌, ◌%◌, Bool, true, false, List, [], ◌∷◌, ◌++◌, Option, Some, None, codes, decimal}
+use Rattle.draft.specs.Columns.{right, column, zeros_right}
 use Rattle.one_line.specs.Shown.{shown_bytes}
 use Rattle.compare_report.specs.declared.line.Spread.{Spread}
 use Rattle.compare_report.specs.declared.line.Stretch.{Stretch}
@@ -9,9 +9,6 @@ use Rattle.compare_report.specs.declared.line.Row.{Row}
 use Rattle.compare_report.specs.declared.line.Place.{Place}
 
 -- microseconds as seconds, with six digits behind the point
-abbrev pub zeros_right : ℕ → List ℕ → List ℕ
-zeros_right width text = replicate (width - length text) 48 ++ text
-
 abbrev pub seconds_text : ℕ → List ℕ
 seconds_text us = decimal (us / 1000000) ++ (46 ∷ zeros_right 6 (decimal (us % 1000000)))
 

@@ -2,7 +2,7 @@
 use Rattle.std.specs.Prelude.{◌≡◌, ℕ, nat_lt, Bool, true, false, List, [], ◌++◌, map, sum_by, slice_get, Option, Some, None}
 use Rattle.std.specs.Option.{option_map, option_and_then}
 use Rattle.std.specs.List.{flat_map}
-use Rattle.trace_compare.specs.Pairs.{no_shift}
+use Rattle.trace_compare.specs.declared.clock.ClockShift.{ClockShift}
 use Rattle.trace_compare.specs.Differences.{distance}
 use Rattle.compare_report.specs.declared.line.Shift.{Shift}
 use Rattle.compare_report.specs.declared.line.Place.{Place}
@@ -11,10 +11,12 @@ use Rattle.compare_report.specs.declared.finding.Missing.{Missing}
 use Rattle.compare_report.specs.declared.finding.Finding.{Finding}
 use Rattle.compare_report.specs.First.{IsFirstStart}
 
--- by how much the recording's clock is ahead, or behind, under a shift that is counted from -2^61
--- us
-abbrev pub shift_told : ℕ → Shift
-shift_told shift = record { behind = nat_lt shift no_shift; us = distance shift no_shift }
+-- how far the recording's clock is ahead, or behind
+abbrev pub shift_told : ClockShift → Shift
+shift_told shift = record {
+  behind = nat_lt shift.ahead shift.behind;
+  us = distance shift.ahead shift.behind;
+}
 
 -- where it is asked for, how many of all matched runs were on the same CPU
 abbrev pub cpus_told : Bool → List Finding → List ℕ
@@ -31,7 +33,7 @@ differences_told None None = no_difference
 differences_told None (Some p) = other_line p
 differences_told (Some x) other = missing_line x.place x.nearest ++ other_told other
 
-abbrev pub report_text : Bool → ℕ → List Finding → Option Missing → Option Place → List ℕ
+abbrev pub report_text : Bool → ClockShift → List Finding → Option Missing → Option Place → List ℕ
 report_text cpus shift fs missing other =
     shift_line (shift_told shift)
     ++ (table_header ++ (flat_map (λ f. row_line f.row) fs
@@ -53,7 +55,8 @@ abbrev pub other_at : List Finding → Option ℕ → Option Place
 other_at fs j = option_and_then (λ f. f.other) (option_and_then (slice_get fs) j)
 
 -- the text of these findings, with the earliest differences of all tasks
-pub record IsTextOf (cpus : Bool) (shift : ℕ) (fs : List Finding) (text : List ℕ) : Type 0 where
+pub record IsTextOf (cpus : Bool) (shift : ClockShift) (fs : List Finding) (text : List ℕ)
+    : Type 0 where
   pub missing : Option ℕ
   pub missing_first : IsFirstStart (missing_starts fs) missing
   pub other : Option ℕ

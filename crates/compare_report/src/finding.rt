@@ -1,6 +1,7 @@
 //! What is told of one task.
 
 ghost use Rattle.std.specs.Prelude.{◌≡◌, ◌<◌, ◌≤◌, ◌^◌, All, IfOk, count_by, length, nat_lt};
+ghost use Rattle.trace_compare.specs.Clocks.{IsSmallShift};
 ghost use Rattle.trace_compare.specs.Runs.{IsShort};
 ghost use Rattle.trace_compare.specs.Tasks.{AreSoundRuns};
 ghost use Rattle.trace_compare.specs.Matched.{IsSoundMatching};
@@ -9,7 +10,9 @@ ghost use Rattle.compare_report.specs.Findings.{stretch_of, IsNearestOf, IsMissi
 use crate::line::{Place, Row, Stretch};
 use crate::row::{Span, row_of};
 use std::alloc::{AllocError, Global};
-use trace_compare::{Matching, Run, TaskRuns, apart_in, missing_of, nearest_of, other_of};
+use trace_compare::{
+    ClockShift, Matching, Run, TaskRuns, apart_in, missing_of, nearest_of, other_of,
+};
 
 /// A run of the model that no recorded run matches.
 #[derive(Clone, Copy)]
@@ -43,8 +46,8 @@ fn stretch(run: &Run) -> Stretch
 }
 
 /// The recorded run that is nearest to one of the model.
-fn nearest_stretch(shift: u64, m: &Run, recorded: &[Run]) -> Option<Stretch>
-    requires shift { shift < 2 ^ 62 }
+fn nearest_stretch(shift: ClockShift, m: &Run, recorded: &[Run]) -> Option<Stretch>
+    requires shift { IsSmallShift shift }
     requires model { IsShort m.now }
     requires recorded { All IsShort recorded.now }
     ensures { IsNearestOf shift m.now recorded.now result }
@@ -56,8 +59,8 @@ fn nearest_stretch(shift: u64, m: &Run, recorded: &[Run]) -> Option<Stretch>
 }
 
 /// The model's run of a number, and the recorded run that is nearest.
-fn missing_at<'a>(shift: u64, name: &'a [u8], task: &TaskRuns, number: usize) -> Missing<'a>
-    requires shift { shift < 2 ^ 62 }
+fn missing_at<'a>(shift: ClockShift, name: &'a [u8], task: &TaskRuns, number: usize) -> Missing<'a>
+    requires shift { IsSmallShift shift }
     requires task { AreSoundRuns task.now }
     requires among { number < length task.now.model.items }
     ensures { IsMissingAt shift name.now task.now number result }
@@ -75,12 +78,12 @@ fn missing_at<'a>(shift: u64, name: &'a [u8], task: &TaskRuns, number: usize) ->
 
 /// The task's first run of the model that no recorded run matches.
 fn missing_in<'a>(
-    shift: u64,
+    shift: ClockShift,
     name: &'a [u8],
     task: &TaskRuns,
     matching: &Matching,
 ) -> Option<Missing<'a>>
-    requires shift { shift < 2 ^ 62 }
+    requires shift { IsSmallShift shift }
     requires task { AreSoundRuns task.now }
     requires as_many { length matching.now.partners.items ≡ length task.now.model.items }
     ensures { IsMissingOf shift name.now task.now matching.now result }
@@ -116,7 +119,7 @@ fn other_in<'a>(
     task: &TaskRuns,
     matching: &Matching,
 ) -> Option<Place<'a>>
-    requires shift { span.shift < 2 ^ 62 }
+    requires shift { IsSmallShift span.shift }
     requires from { span.from ≤ 2 ^ 61 }
     requires until { span.until < 2 ^ 61 }
     requires matching { IsSoundMatching matching.now }
@@ -136,7 +139,7 @@ pub(crate) fn finding_of<'a>(
     matching: &Matching,
     span: Span,
 ) -> Result<Finding<'a>, AllocError>
-    requires shift { span.shift < 2 ^ 62 }
+    requires shift { IsSmallShift span.shift }
     requires from { span.from ≤ 2 ^ 61 }
     requires until { span.until < 2 ^ 61 }
     requires task { AreSoundRuns task.now }

@@ -1,6 +1,7 @@
 //! What is told of all tasks.
 
 ghost use Rattle.std.specs.Prelude.{◌≡◌, ◌<◌, ◌≤◌, ◌^◌, ℕ, List, All, IfOk, length, slice_index_or};
+ghost use Rattle.trace_compare.specs.Clocks.{IsSmallShift};
 ghost use Rattle.trace_compare.specs.declared.task.TaskRuns.{TaskRuns};
 ghost use Rattle.trace_compare.specs.declared.pairs.Matching.{Matching};
 ghost use Rattle.trace_compare.specs.Tasks.{AreSoundRuns};
@@ -33,7 +34,7 @@ fn finding_at<'a>(
     number: usize,
     span: Span,
 ) -> Result<Finding<'a>, AllocError>
-    requires shift { span.shift < 2 ^ 62 }
+    requires shift { IsSmallShift span.shift }
     requires from { span.from ≤ 2 ^ 61 }
     requires until { span.until < 2 ^ 61 }
     requires there { number < length tasks.now }
@@ -59,7 +60,7 @@ pub(crate) fn findings_of<'a>(
     matchings: &[Matching],
     span: Span,
 ) -> Result<Vec<Finding<'a>>, AllocError>
-    requires shift { span.shift < 2 ^ 62 }
+    requires shift { IsSmallShift span.shift }
     requires from { span.from ≤ 2 ^ 61 }
     requires until { span.until < 2 ^ 61 }
     requires names { length tasks.now ≤ length names.now }

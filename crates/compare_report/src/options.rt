@@ -2,9 +2,10 @@
 
 ghost use Rattle.std.specs.Prelude.{◌≡◌, ◌<◌, ◌^◌, IfSome};
 ghost use Rattle.std.specs.Option.{option_map};
+ghost use Rattle.trace_compare.specs.Clocks.{IsSmallShift};
 ghost use Rattle.compare_report.specs.Report.{asked_shift};
 
-use trace_compare::NO_SHIFT;
+use trace_compare::{ClockShift, TIME_LIMIT};
 
 /// What is asked of a comparison; times are in microseconds.
 #[derive(Clone, Copy)]
@@ -22,24 +23,30 @@ pub struct CompareOptions {
     pub cpus: bool,
 }
 
-fn counted_from_below(shift: i64) -> u64
+fn clock_shift(shift: i64) -> ClockShift
     ensures value { result ≡ asked_shift shift }
-    ensures small { result < 2 ^ 62 }
+    ensures small { IsSmallShift result }
 {
     if shift >= 0 {
-        NO_SHIFT + shift.unsigned_abs().min(NO_SHIFT - 1)
+        ClockShift {
+            ahead: shift.unsigned_abs().min(TIME_LIMIT - 1),
+            behind: 0,
+        }
     } else {
-        NO_SHIFT.saturating_sub(shift.unsigned_abs())
+        ClockShift {
+            ahead: 0,
+            behind: shift.unsigned_abs().min(TIME_LIMIT),
+        }
     }
 }
 
-/// The shift that is asked for, counted from -2^61 us.
-pub(crate) fn shift_asked(options: CompareOptions) -> Option<u64>
+/// The shift that is asked for.
+pub(crate) fn shift_asked(options: CompareOptions) -> Option<ClockShift>
     ensures value { result ≡ option_map asked_shift options.shift }
-    ensures small { IfSome result (λ s. s < 2 ^ 62) }
+    ensures small { IfSome result IsSmallShift }
 {
     match options.shift {
-        Some(shift) => Some(counted_from_below(shift)),
+        Some(shift) => Some(clock_shift(shift)),
         None => None,
     }
 }

@@ -1,6 +1,7 @@
 //! The report of two texts that were read.
 
 ghost use Rattle.std.specs.Prelude.{◌≡◌, ◌<◌, ◌≤◌, ◌^◌, All, IfOk, length};
+ghost use Rattle.trace_compare.specs.Clocks.{IsSmallShift};
 ghost use Rattle.trace_compare.specs.Tasks.{AreSoundRuns, HaveSmallTimes};
 ghost use Rattle.trace_compare.specs.Matched.{IsSoundMatching};
 ghost use Rattle.trace_compare.specs.Differences.{first_start, last_end};
@@ -15,11 +16,12 @@ use crate::text::text_of;
 use draft::NoMemory;
 use std::alloc::Global;
 use trace_compare::{
-    Compared, Names, Step, TaskRuns, compare, first_start_of, last_end_of, runs_of_tasks,
+    ClockShift, Compared, Names, Step, TaskRuns, compare, first_start_of, last_end_of,
+    runs_of_tasks,
 };
 
 /// The model's time, under a shift.
-fn span_of(shift: u64, tasks: &[TaskRuns]) -> Span
+fn span_of(shift: ClockShift, tasks: &[TaskRuns]) -> Span
     requires { All AreSoundRuns tasks.now }
     ensures shift { result.shift ≡ shift }
     ensures from { result.from ≡ first_start tasks.now }
@@ -44,7 +46,7 @@ fn report_of_compared(
 ) -> Result<Vec<u8>, NoMemory>
     requires names { length tasks.now ≤ length names.now }
     requires tasks { All AreSoundRuns tasks.now }
-    requires shift { compared.now.shift < 2 ^ 62 }
+    requires shift { IsSmallShift compared.now.shift }
     requires fitting { AreFitting tasks.now compared.now.tasks.items }
     requires matched { All IsSoundMatching compared.now.tasks.items }
     ensures { IfOk result (λ v. IsReportOfRuns cpus names.now tasks.now compared.now v.items) }

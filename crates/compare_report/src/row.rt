@@ -1,6 +1,7 @@
 //! The row of a task.
 
 ghost use Rattle.std.specs.Prelude.{◌≡◌, ◌<◌, ◌≤◌, ◌^◌, All, IfOk, filter, map};
+ghost use Rattle.trace_compare.specs.Clocks.{IsSmallShift};
 ghost use Rattle.trace_compare.specs.Runs.{IsShort};
 ghost use Rattle.trace_compare.specs.Tasks.{AreSoundRuns};
 ghost use Rattle.trace_compare.specs.Matched.{IsSoundMatching};
@@ -11,33 +12,24 @@ use crate::line::{Row, Spread};
 use crate::quantiles::spread;
 use std::alloc::{AllocError, Global};
 use trace_compare::{
-    Apart, Matching, NO_SHIFT, Run, TaskRuns, cpu_time_of, matched_of, others_of, taken_time_of,
+    Apart, ClockShift, Matching, Run, TaskRuns, cpu_time_of, lies_inside, matched_of, others_of,
+    taken_time_of,
 };
 
 /// The model's time, and where it lies in the recording.
 #[derive(Clone, Copy)]
 pub(crate) struct Span {
-    /// By how much the recording's clock is ahead, counted from -2^61 us.
-    pub shift: u64,
+    /// How far the recording's clock is ahead.
+    pub shift: ClockShift,
     /// When the model's first run begins, in microseconds of the model's clock.
     pub from: u64,
     /// When its last one ends.
     pub until: u64,
 }
 
-fn lies_inside(span: Span, run: &Run) -> bool
-    requires shift { span.shift < 2 ^ 62 }
-    requires from { span.from ≤ 2 ^ 61 }
-    requires until { span.until < 2 ^ 61 }
-    requires run { IsShort run.now }
-    ensures { result ≡ is_inside span.from span.until span.shift run.now }
-{
-    span.from + span.shift <= run.start + NO_SHIFT && run.end + NO_SHIFT <= span.until + span.shift
-}
-
 /// The recorded runs that nothing takes, inside the model's time.
 fn inside_of(alloc: Global, span: Span, left: &[Run]) -> Result<Vec<Run>, AllocError>
-    requires shift { span.shift < 2 ^ 62 }
+    requires shift { IsSmallShift span.shift }
     requires from { span.from ≤ 2 ^ 61 }
     requires until { span.until < 2 ^ 61 }
     requires left { All IsShort left.now }
@@ -46,7 +38,7 @@ fn inside_of(alloc: Global, span: Span, left: &[Run]) -> Result<Vec<Run>, AllocE
 {
     let mut runs = Vec::new(alloc);
     for run in left {
-        if lies_inside(span, run) {
+        if lies_inside(span.from, span.until, span.shift, run) {
             runs.push(*run)?;
         }
     }
@@ -68,7 +60,7 @@ pub(crate) fn row_of<'a>(
     mut apart: Apart,
     span: Span,
 ) -> Result<Row<'a>, AllocError>
-    requires shift { span.shift < 2 ^ 62 }
+    requires shift { IsSmallShift span.shift }
     requires from { span.from ≤ 2 ^ 61 }
     requires until { span.until < 2 ^ 61 }
     requires task { AreSoundRuns task.now }

@@ -15,15 +15,15 @@ use crate::line::{Place, Shift};
 use crate::writing::{put_cpus, put_header, put_row, put_shift};
 use draft::{Draft, NoMemory};
 use std::alloc::{AllocError, Global};
-use trace_compare::NO_SHIFT;
+use trace_compare::ClockShift;
 
 /// By how much the recording's clock is ahead, or behind.
-fn shift_of(shift: u64) -> Shift
+fn shift_of(shift: ClockShift) -> Shift
     ensures { result ≡ shift_told shift }
 {
     Shift {
-        behind: shift < NO_SHIFT,
-        us: shift.abs_diff(NO_SHIFT),
+        behind: shift.ahead < shift.behind,
+        us: shift.ahead.abs_diff(shift.behind),
     }
 }
 
@@ -161,7 +161,7 @@ fn put_all(
     alloc: Global,
     out: &mut Draft,
     cpus: bool,
-    shift: u64,
+    shift: ClockShift,
     findings: &[Finding<'_>],
     missing: Option<Missing<'_>>,
     other: Option<Place<'_>>,
@@ -179,7 +179,7 @@ fn put_all(
 pub(crate) fn text_of(
     alloc: Global,
     cpus: bool,
-    shift: u64,
+    shift: ClockShift,
     findings: &[Finding<'_>],
 ) -> Result<Vec<u8>, NoMemory>
     ensures { IfOk result (λ v. IsTextOf cpus shift findings.now v.items) }

@@ -7,8 +7,8 @@ ghost use Rattle.draft.specs.Draft.{Adds};
 ghost use Rattle.one_line.specs.Shown.{shown_bytes};
 
 use crate::line::{Row, Shift, Spread};
-use crate::putting::{put_column, put_count, put_number, put_right, put_seconds, put_wide};
-use draft::Draft;
+use crate::putting::{put_count, put_seconds};
+use draft::{Draft, put_column, put_number, put_right, put_wide};
 use one_line::put_shown_bytes;
 use std::alloc::Global;
 

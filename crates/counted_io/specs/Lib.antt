@@ -1,4 +1,3 @@
 pub mod Sides
 pub mod Faults
 pub mod Calls
-pub mod private

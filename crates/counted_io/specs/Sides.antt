@@ -1,6 +1,7 @@
 -- A reader or a writer as calls meet it: what of it is known, and how many of its calls failed.
 use Rattle.std.specs.Prelude.{ℕ, ◌≡◌, ◌+◌, List, Option}
 use Rattle.std.specs.Io.KnownBytes.{Keeps}
+use Rattle.past.specs.Past.{items_of_past}
 use Rattle.counted_io.specs.declared.call.Call.{Call}
 use Rattle.counted_io.specs.declared.counted.Counted.{Counted}
 
@@ -10,7 +11,7 @@ inner_of c = c.port.inner
 
 -- its calls so far, and what each answered
 abbrev pub port_calls : {T : Type 0} → Counted T → List Call
-port_calls c = c.port.calls
+port_calls c = items_of_past c.port.calls
 
 -- how many of its calls failed so far
 abbrev pub faults_of : {T : Type 0} → Counted T → ℕ

@@ -10,7 +10,6 @@
 mod call;
 mod counted;
 mod fault;
-mod past;
 mod port;
 
 pub use counted::Counted;

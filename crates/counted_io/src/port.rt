@@ -3,23 +3,24 @@
 
 ghost use Rattle.std.specs.Prelude.{◌≡◌, ◌<◌, ◌≤◌, ◌++◌, ◌∷◌, [], length, take, IfSome, IfNone};
 ghost use Rattle.std.specs.Io.KnownBytes.{Appends, Consumes, IsAtEnd, Keeps};
+ghost use Rattle.past.specs.Past.{items_of_past};
 
 use crate::call::Call;
-use crate::past::Past;
+use past::Past;
 use std::io::{Read, Write};
 
 /// A reader or a writer that is called once for each call here, and what each answered.
 #[derive(Drop)]
 pub(crate) struct Port<T> {
     inner: T,
-    calls: Past,
+    calls: Past<Call>,
 }
 
 impl<T> Port<T> {
     /// A reader or writer that was not called yet.
     pub(crate) fn new(inner: T) -> Port<T>
         ensures inner { result.inner ≡ inner }
-        ensures calls { result.calls ≡ [] }
+        ensures calls { items_of_past result.calls ≡ [] }
     {
         Port {
             inner,
@@ -45,15 +46,16 @@ impl<R: Read> Port<R> {
             n ≡ 0 → 0 < length buf.new → IsAtEnd (R.remaining self.new.inner)) }
         ensures kept { IfNone result
             (Keeps (R.remaining self.old.inner) (R.remaining self.new.inner)) }
-        ensures asked { self.new.calls
-            ≡ self.old.calls ++ record { most = length buf.new; answer = result } ∷ [] }
+        ensures asked { items_of_past self.new.calls
+            ≡ items_of_past self.old.calls
+            ++ record { most = length buf.new; answer = result } ∷ [] }
     {
         let answer = match self.inner.read(buf) {
             Ok(n) => Some(n),
             Err(_) => None,
         };
         let most = buf.len();
-        self.calls.push(Call { most, answer });
+        self.calls.push(&Call { most, answer });
         answer
     }
 }
@@ -67,15 +69,16 @@ impl<W: Write> Port<W> {
             Appends (W.contents self.old.inner) (W.contents self.new.inner) (take n bytes.now)) }
         ensures kept { IfNone result
             (Keeps (W.contents self.old.inner) (W.contents self.new.inner)) }
-        ensures asked { self.new.calls
-            ≡ self.old.calls ++ record { most = length bytes.now; answer = result } ∷ [] }
+        ensures asked { items_of_past self.new.calls
+            ≡ items_of_past self.old.calls
+            ++ record { most = length bytes.now; answer = result } ∷ [] }
     {
         let answer = match self.inner.write(bytes) {
             Ok(n) => Some(n),
             Err(_) => None,
         };
         let most = bytes.len();
-        self.calls.push(Call { most, answer });
+        self.calls.push(&Call { most, answer });
         answer
     }
 }

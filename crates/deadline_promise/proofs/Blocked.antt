@@ -82,14 +82,14 @@ abbrev IsGapOf : Option ℕ → List Event → Type 0
 IsGapOf None es = (least : ℕ) → All (IsAtLeast least) es
 IsGapOf (Some g) es = (least : ℕ) → (least ≤ g) ↔ All (IsAtLeast least) es
 
-abbrev Tells : Bool → (Event → Bool) → List Event → Type 0
-Tells b is_such es = (b ≡ false) ↔ All (λ e. is_such e ≡ false) es
+abbrev HasLogged : Bool → (Event → Bool) → List Event → Type 0
+HasLogged b is_such es = (b ≡ false) ↔ All (λ e. is_such e ≡ false) es
 
 record IsBlocks (b : Blocks) (es : List Event) : Type 0 where
   gap : IsGapOf b.gap es
-  timers : Tells b.timers is_timer_event es
-  sleeps : Tells b.sleeps is_sleep_event es
-  waits : Tells b.waits is_wait_event es
+  timers : HasLogged b.timers is_timer_event es
+  sleeps : HasLogged b.sleeps is_sleep_event es
+  waits : HasLogged b.waits is_wait_event es
 
 same_gap : (o : Option ℕ) (es : List Event) (e : Event) → ((least : ℕ) → IsAtLeast least e) → IsGapOf o es → IsGapOf o (es ++ e ∷ [])
 same_gap None es e any h = λ least. All-push (IsAtLeast least) es e (h least) (any least)
@@ -105,11 +105,11 @@ lower_gap (Some g) es e n is h =
       (λ all. let a = (h least).1 (all_left (IsAtLeast least) es (e ∷ []) all) in let b = (is least).1 (last_of (IsAtLeast least) es e all) in grind (arith, a, b)),
     )
 
-still_none : (b : Bool) (is_such : Event → Bool) (es : List Event) (e : Event) → is_such e ≡ false → Tells b is_such es → Tells b is_such (es ++ e ∷ [])
+still_none : (b : Bool) (is_such : Event → Bool) (es : List Event) (e : Event) → is_such e ≡ false → HasLogged b is_such es → HasLogged b is_such (es ++ e ∷ [])
 still_none b is_such es e not_such h =
     ((λ f. All-push (λ v. is_such v ≡ false) es e (h.0 f) not_such), (λ all. h.1 (all_left (λ v. is_such v ≡ false) es (e ∷ []) all)))
 
-one_now : (is_such : Event → Bool) (es : List Event) (e : Event) → is_such e ≡ true → Tells true is_such (es ++ e ∷ [])
+one_now : (is_such : Event → Bool) (es : List Event) (e : Event) → is_such e ≡ true → HasLogged true is_such (es ++ e ∷ [])
 one_now is_such es e such =
     ((λ f. absurd (false≢true (sym f))), (λ all. absurd (false≢true (sym (last_of (λ v. is_such v ≡ false) es e all) ∙ such))))
 
@@ -172,7 +172,7 @@ gap_by s (Some g) is h = λ least. ((λ l. of_all_events (IsAtLeast least) s ((h
 pub gap_is : (s : ScriptView) → IsScript s → IsGapMin s (blocks_of_phases s.phases).gap
 gap_is s is = gap_by s (blocks_of_phases s.phases).gap is (blocks_are s.phases).gap
 
-none_is : (s : ScriptView) (b : Bool) (is_such : Event → Bool) → IsScript s → Tells b is_such (events_of s.phases) → (b ≡ false) ↔ HasNone is_such s
+none_is : (s : ScriptView) (b : Bool) (is_such : Event → Bool) → IsScript s → HasLogged b is_such (events_of s.phases) → (b ≡ false) ↔ HasNone is_such s
 none_is s b is_such is h =
     ((λ f. of_all_events (λ e. is_such e ≡ false) s (h.0 f)), (λ all. h.1 (all_events_of (λ e. is_such e ≡ false) s is all)))
 

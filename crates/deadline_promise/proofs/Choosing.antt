@@ -1,4 +1,4 @@
--- On one CPU the ready task of the earliest deadline stands.
+-- On one CPU the ready task of the earliest deadline runs.
 use Rattle.std.proofs.Common.{◌≡◌, ℕ, zero, suc, ◌≤◌, Bool, true, false, cond, ◌||◌, ◌&&◌, leb, ltb, eqb, Option, Some, None, List, [], ◌∷◌, map, length, refl, ap, sym, ◌∙◌, subst, arith, eq-eqb}
 use Rattle.std.specs.Prelude.{All, find, count_by, slice_get, is_none, position, filter}
 use Rattle.std.specs.List.{list_any}
@@ -7,7 +7,7 @@ use Rattle.std.proofs.lemmas.List.Elements.{All-cons, All-nil, All-weaker}
 use Rattle.std.proofs.lemmas.List.Sums.{sum_by-cons}
 use Rattle.edf_pick.specs.declared.candidate.Candidate.{Candidate}
 use Rattle.edf_pick.specs.Choice.{is_before, rank, candidate_at_rank}
-use Rattle.edf_pick.specs.Places.{Places, stands, is_chosen_number, kept_if_chosen, is_free, put, seated, seated_if, placed}
+use Rattle.edf_pick.specs.Places.{Places, is_on_cpu, is_chosen_number, kept_if_chosen, is_free, put, assigned, assigned_if, placed}
 use Rattle.domain_run.specs.declared.task.Task.{Task}
 use Rattle.domain_run.specs.Conditions.{is_ready}
 use Rattle.domain_run.specs.Tick.{candidate_of, candidates}
@@ -93,19 +93,19 @@ no_seat : (n home : ℕ) → cond (is_free (slice_get {X = Option ℕ} (Some n �
 no_seat n zero = refl
 no_seat n (suc home) = refl
 
-into_free : (c : Candidate) → seated (None ∷ []) c ≡ Some c.number ∷ []
+into_free : (c : Candidate) → assigned (None ∷ []) c ≡ Some c.number ∷ []
 into_free c = ap (λ s. put (None ∷ []) c.number s) (one_seat c.home)
 
-into_full : (n : ℕ) (o : Option Candidate) → seated_if (Some n ∷ []) o ≡ Some n ∷ []
+into_full : (n : ℕ) (o : Option Candidate) → assigned_if (Some n ∷ []) o ≡ Some n ∷ []
 into_full n None = refl
 into_full n (Some c) =
-    ap (λ s. cond (stands c.number (Some n ∷ [])) (Some n ∷ []) (put (Some n ∷ []) c.number s)) (no_seat n c.home)
-    ∙ elim (stands c.number (Some n ∷ [])) as (λ b. cond b (Some n ∷ []) (Some n ∷ []) ≡ Some n ∷ []) [ true ↦ refl | false ↦ refl ]
+    ap (λ s. cond (is_on_cpu c.number (Some n ∷ [])) (Some n ∷ []) (put (Some n ∷ []) c.number s)) (no_seat n c.home)
+    ∙ elim (is_on_cpu c.number (Some n ∷ [])) as (λ b. cond b (Some n ∷ []) (Some n ∷ []) ≡ Some n ∷ []) [ true ↦ refl | false ↦ refl ]
 
-abbrev stands_due : Places → ℕ → Candidate → Bool
-stands_due places x c = stands c.number places && leb c.deadline x
+abbrev runs_due : Places → ℕ → Candidate → Bool
+runs_due places x c = is_on_cpu c.number places && leb c.deadline x
 
-there_due : (n x : ℕ) (c : Candidate) → eqb c.number n ≡ true → c.deadline ≤ x → stands_due (Some n ∷ []) x c ≡ true
+there_due : (n x : ℕ) (c : Candidate) → eqb c.number n ≡ true → c.deadline ≤ x → runs_due (Some n ∷ []) x c ≡ true
 there_due n x c e h =
     let a : eqb n c.number ≡ true = eq-eqb n c.number (sym (eqb-true c.number n e)) in
     let b = le-leb c.deadline x h in
@@ -115,15 +115,15 @@ pub and_both : (a b : Bool) → (a && b) ≡ true → (a ≡ true) × (b ≡ tru
 and_both true b e = (refl, e)
 and_both false b e = absurd (false≢true e)
 
-chosen_stands : (x : ℕ) (ready : List Candidate) (o : Option ℕ) (s : Option ℕ) → kept_if_chosen 1 ready o ≡ s → list_any (λ c. leb c.deadline x) ready ≡ true → list_any (λ c. eqb (rank ready c) 0) ready ≡ true
-    → list_any (stands_due (seated_if (s ∷ []) (candidate_at_rank ready 0)) x) ready ≡ true
-chosen_stands x ready o None e due first =
+chosen_runs : (x : ℕ) (ready : List Candidate) (o : Option ℕ) (s : Option ℕ) → kept_if_chosen 1 ready o ≡ s → list_any (λ c. leb c.deadline x) ready ≡ true → list_any (λ c. eqb (rank ready c) 0) ready ≡ true
+    → list_any (runs_due (assigned_if (s ∷ []) (candidate_at_rank ready 0)) x) ready ≡ true
+chosen_runs x ready o None e due first =
     let f = found (λ c. eqb (rank ready c) 0) (λ c. eqb (rank ready c) 0) ready first (λ c h. h) in
     let c = f.0 in
     let low = low_by c x ready (eqb-true (rank ready c) 0 f.2) due in
-    let places : seated_if (None ∷ []) (candidate_at_rank ready 0) ≡ Some c.number ∷ [] = ap (seated_if (None ∷ [])) f.1 ∙ into_free c in
-    subst (λ (ps : Places). list_any (stands_due ps x) ready ≡ true) (sym places)
-    (passes ready (λ a. eqb (rank ready a) 0) (stands_due (Some c.number ∷ []) x) c f.1 (there_due c.number x c (eq-eqb c.number c.number refl) low))
+    let places : assigned_if (None ∷ []) (candidate_at_rank ready 0) ≡ Some c.number ∷ [] = ap (assigned_if (None ∷ [])) f.1 ∙ into_free c in
+    subst (λ (ps : Places). list_any (runs_due ps x) ready ≡ true) (sym places)
+    (passes ready (λ a. eqb (rank ready a) 0) (runs_due (Some c.number ∷ []) x) c f.1 (there_due c.number x c (eq-eqb c.number c.number refl) low))
   where
     passes : (xs : List Candidate) (p q : Candidate → Bool) (y : Candidate) → find p xs ≡ Some y → q y ≡ true → list_any q xs ≡ true
     passes [] p q y e h = absurd cc
@@ -132,12 +132,12 @@ chosen_stands x ready o None e due first =
           | true ↦ λ a. let same : z ≡ y = cc in ap (λ b. b || list_any q xs) (ap q same ∙ h)
           | false ↦ λ a. ap (λ b. q z || b) (passes xs p q y a h) ∙ or_true (q z)
         ] e
-chosen_stands x ready None (Some n) e due first = absurd cc
-chosen_stands x ready (Some m) (Some n) e due first =
+chosen_runs x ready None (Some n) e due first = absurd cc
+chosen_runs x ready (Some m) (Some n) e due first =
     let both = some_is (is_chosen_number 1 ready m) m n e in
     let chosen : list_any (λ c. eqb c.number n && ltb (rank ready c) 1) ready ≡ true = subst (λ k. is_chosen_number 1 ready k ≡ true) both.1 both.0 in
-    subst (λ (ps : Places). list_any (stands_due ps x) ready ≡ true) (sym (into_full n (candidate_at_rank ready 0)))
-    (any_weaker (λ c. eqb c.number n && ltb (rank ready c) 1) (stands_due (Some n ∷ []) x)
+    subst (λ (ps : Places). list_any (runs_due ps x) ready ≡ true) (sym (into_full n (candidate_at_rank ready 0)))
+    (any_weaker (λ c. eqb c.number n && ltb (rank ready c) 1) (runs_due (Some n ∷ []) x)
     (λ c h.
     let f = and_both (eqb c.number n) (ltb (rank ready c) 1) h in
     let r : rank ready c ≡ 0 = omega (arith, ltb-true (rank ready c) 1 f.1) in
@@ -152,11 +152,11 @@ some_first : (q : Candidate → Bool) (ready : List Candidate) → list_any q re
 some_first q [] h = absurd (false≢true h)
 some_first q (c ∷ cs) h = first_there c cs
 
--- ONE CPU: where a ready task is due by x, so is one that stands
-pub first_stands : (x : ℕ) (ready : List Candidate) (before : Places) → length before ≡ 1 → list_any (λ c. leb c.deadline x) ready ≡ true → list_any (stands_due (placed 1 ready before) x) ready ≡ true
-first_stands x ready [] one due = absurd (omega (arith, one))
-first_stands x ready (o ∷ p ∷ before) one due = absurd (omega (arith, one))
-first_stands x ready (o ∷ []) one due = chosen_stands x ready o (kept_if_chosen 1 ready o) refl due (some_first (λ c. leb c.deadline x) ready due)
+-- ONE CPU: where a ready task is due by x, so is one that runs
+pub first_runs : (x : ℕ) (ready : List Candidate) (before : Places) → length before ≡ 1 → list_any (λ c. leb c.deadline x) ready ≡ true → list_any (runs_due (placed 1 ready before) x) ready ≡ true
+first_runs x ready [] one due = absurd (omega (arith, one))
+first_runs x ready (o ∷ p ∷ before) one due = absurd (omega (arith, one))
+first_runs x ready (o ∷ []) one due = chosen_runs x ready o (kept_if_chosen 1 ready o) refl due (some_first (λ c. leb c.deadline x) ready due)
 
 -- what is there of the candidates is there of the tasks
 pub of_tasks : (q : Candidate → Bool) (ts : List Task) → list_any q (candidates ts) ≡ list_any (λ t. is_ready t.condition && q (candidate_of t)) ts
@@ -167,7 +167,7 @@ of_tasks q (t ∷ ts) =
       | false ↦ of_tasks q ts
     ]
 
--- ONE CPU, one place: who stands on it is a candidate
+-- ONE CPU, one place: the task that runs on it is a candidate
 found_passes : {X : Type 0} (p q : X → Bool) (xs : List X) (x : X) → find p xs ≡ Some x → q x ≡ true → list_any q xs ≡ true
 found_passes p q [] x e h = absurd cc
 found_passes p q (y ∷ xs) x e h =
@@ -177,9 +177,9 @@ found_passes p q (y ∷ xs) x e h =
     ] e
 
 abbrev HasCandidates : List Candidate → Places → Type 0
-HasCandidates ready places = (length places ≡ 1) × ((n : ℕ) → stands n places ≡ true → list_any (λ (c : Candidate). eqb c.number n) ready ≡ true)
+HasCandidates ready places = (length places ≡ 1) × ((n : ℕ) → is_on_cpu n places ≡ true → list_any (λ (c : Candidate). eqb c.number n) ready ≡ true)
 
-only_one : (m n : ℕ) → stands n (Some m ∷ []) ≡ true → m ≡ n
+only_one : (m n : ℕ) → is_on_cpu n (Some m ∷ []) ≡ true → m ≡ n
 only_one m n h = eqb-true m n (or_none (eqb m n) h)
   where
     or_none : (b : Bool) → (b || false) ≡ true → b ≡ true
@@ -189,13 +189,13 @@ only_one m n h = eqb-true m n (or_none (eqb m n) h)
 one_has : (ready : List Candidate) (m : ℕ) → list_any (λ (c : Candidate). eqb c.number m) ready ≡ true → HasCandidates ready (Some m ∷ [])
 one_has ready m there = (refl, λ n h. subst (λ k. list_any (λ (c : Candidate). eqb c.number k) ready ≡ true) (only_one m n h) there)
 
-seated_has : (ready : List Candidate) (o : Option Candidate) → candidate_at_rank ready 0 ≡ o → HasCandidates ready (seated_if (None ∷ []) o)
+seated_has : (ready : List Candidate) (o : Option Candidate) → candidate_at_rank ready 0 ≡ o → HasCandidates ready (assigned_if (None ∷ []) o)
 seated_has ready None e = (refl, λ n h. absurd (false≢true h))
 seated_has ready (Some c) e =
     subst (HasCandidates ready) (sym (into_free c))
     (one_has ready c.number (found_passes (λ x. eqb (rank ready x) 0) (λ x. eqb x.number c.number) ready c e (eq-eqb c.number c.number refl)))
 
-kept_has : (ready : List Candidate) (o s : Option ℕ) → kept_if_chosen 1 ready o ≡ s → HasCandidates ready (seated_if (s ∷ []) (candidate_at_rank ready 0))
+kept_has : (ready : List Candidate) (o s : Option ℕ) → kept_if_chosen 1 ready o ≡ s → HasCandidates ready (assigned_if (s ∷ []) (candidate_at_rank ready 0))
 kept_has ready o None e = seated_has ready (candidate_at_rank ready 0) refl
 kept_has ready None (Some n) e = absurd cc
 kept_has ready (Some m) (Some n) e =

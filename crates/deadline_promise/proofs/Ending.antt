@@ -5,7 +5,6 @@ use Rattle.std.proofs.lemmas.Bool.{false≢true, eqb-true}
 use Rattle.std.proofs.lemmas.Int.{ints}
 use Rattle.std.proofs.lemmas.List.Elements.{All-nil, All-cons}
 use Rattle.std.proofs.Math.Nat.{mul-le-mul_right}
-use Rattle.attr_check.specs.Ratio.{unit}
 use Rattle.cbs_rules.specs.Budget.{above_zero}
 use Rattle.cbs_rules.specs.Serving.{charged}
 use Rattle.task_script.specs.declared.script.Segment.{Segment}
@@ -19,7 +18,7 @@ use Rattle.domain_run.specs.declared.happened.Happened.{Happened}
 use Rattle.domain_run.specs.declared.happened.What.TheVariants.{JobEnds, NextReleased, Spent}
 use Rattle.domain_run.specs.Conditions.{is_throttled}
 use Rattle.domain_run.specs.Parts.{running_on, went_on, goes_on, ran}
-use Rattle.domain_run.specs.Happened.{happened_to, due, job_due, told_by_segment, told_by_budget, told_by_run, is_first}
+use Rattle.domain_run.specs.Happened.{happened_to, due, job_due, logged_by_segment, logged_by_budget, logged_by_run, is_first}
 use Rattle.run_figures.specs.declared.job.Job.{Job}
 use Rattle.run_figures.specs.Jobs.{new_job}
 use Rattle.deadline_promise.specs.KeptBudget.{work_from}
@@ -31,6 +30,7 @@ use Rattle.deadline_promise.proofs.Parts.{less_left, paid}
 use Rattle.deadline_promise.proofs.Jobs.{over_in, open_after}
 use Rattle.deadline_promise.proofs.OnTime.{under_way, Fits, Runs, Keeps, keeps_on, OnTime, AreOnTime}
 use Rattle.deadline_promise.proofs.Waking.{new_fits}
+use Rattle.limits.specs.Limits.{unit}
 
 -- a job that ended by its deadline
 pub record IsDone (period : ℕ) (job : Job) : Type 0 where
@@ -42,13 +42,13 @@ pub record IsDone (period : ℕ) (job : Job) : Type 0 where
 abbrev pub IsBefore : Happened → Happened → Type 0
 IsBefore a b = is_first a b ≡ true
 
--- the jobs that are over by that were in time, it is told in its order, and the tasks are on time
-pub record Ends (time period : ℕ) (o : Option Job) (told : List Happened) (after : List Task) : Type 0 where
-  pub rising : AllPairs IsBefore told
-  pub over : All (IsDone period) (over_in o told)
-  pub tasks : AreOnTime time after (open_after o told)
+-- the jobs that are over by that were in time, it is logged in its order, and the tasks are on time
+pub record Ends (time period : ℕ) (o : Option Job) (logged : List Happened) (after : List Task) : Type 0 where
+  pub rising : AllPairs IsBefore logged
+  pub over : All (IsDone period) (over_in o logged)
+  pub tasks : AreOnTime time after (open_after o logged)
 
--- ---- lists of what is told
+-- ---- lists of what is logged
 pub no_pairs : AllPairs IsBefore []
 no_pairs i j d less within = absurd (omega (arith, within))
 
@@ -89,9 +89,9 @@ enough_left c n left some fits =
     lifted_left left (omega (arith, one, fits 0))
 
 -- it stays ready
-runs_on : (time : ℕ) (o : Option Job) (t : Task) → Keeps t.params t.cursor → Runs time t.params t.server t.work t.cursor o → Ends time t.params.period o (told_by_budget time (running_on t)) (running_on t ∷ [])
+runs_on : (time : ℕ) (o : Option Job) (t : Task) → Keeps t.params t.cursor → Runs time t.params t.server t.work t.cursor o → Ends time t.params.period o (logged_by_budget time (running_on t)) (running_on t ∷ [])
 runs_on time o t keeps runs =
-    subst (λ b. Ends time t.params.period o (told_by_budget time (record t { condition = cond b Throttled Ready })) (record t { condition = cond b Throttled Ready } ∷ []))
+    subst (λ b. Ends time t.params.period o (logged_by_budget time (record t { condition = cond b Throttled Ready })) (record t { condition = cond b Throttled Ready } ∷ []))
     (sym (enough_left t.cursor t.work t.server.left runs.some runs.fits))
     (record { rising = no_pairs; over = All-nil (IsDone t.params.period); tasks = (keeps, runs) })
 
@@ -102,10 +102,10 @@ module _ (time : ℕ) (o : Option Job) (t : Task) (share : IsShare t.params) (ke
   due_by_then v ahead = subst (λ x. IfSome x (λ d. d ≤ v)) (sym at) ahead
 
   -- its job ends
-  stops : (s : Condition) (u : Task) → u.condition ≡ s → is_throttled s ≡ false → OnTime time u None → Ends time t.params.period o ((happened_to time t JobEnds ∷ []) ++ told_by_budget time u) (u ∷ [])
+  stops : (s : Condition) (u : Task) → u.condition ≡ s → is_throttled s ≡ false → OnTime time u None → Ends time t.params.period o ((happened_to time t JobEnds ∷ []) ++ logged_by_budget time u) (u ∷ [])
   stops s u is awake on =
-      let told : told_by_budget time u ≡ [] = ap (λ b. cond b (happened_to time u (Spent (due u)) ∷ []) []) (ap is_throttled is ∙ awake) in
-      subst (λ hs. Ends time t.params.period o ((happened_to time t JobEnds ∷ []) ++ hs) (u ∷ [])) (sym told)
+      let logged : logged_by_budget time u ≡ [] = ap (λ b. cond b (happened_to time u (Spent (due u)) ∷ []) []) (ap is_throttled is ∙ awake) in
+      subst (λ hs. Ends time t.params.period o ((happened_to time t JobEnds ∷ []) ++ hs) (u ∷ [])) (sym logged)
       (record {
         rising = one_pair (happened_to time t JobEnds);
         over = job_done time release t.params.period throttled o (happened_to time t JobEnds) refl refl under by;
@@ -114,7 +114,7 @@ module _ (time : ℕ) (o : Option Job) (t : Task) (share : IsShare t.params) (ke
 
   goes_soon : (s : Segment) (c : CursorView) → c.script ≡ t.cursor.script → GivenIn t.params.period t.cursor release time c s
       → ((count : ℕ) → work_from t.cursor.script t.cursor.place count * unit ≤ above_zero t.server.left)
-      → Ends time t.params.period o (told_by_segment time t false s ++ told_by_budget time (went_on time s (record t { cursor = c }))) (went_on time s (record t { cursor = c }) ∷ [])
+      → Ends time t.params.period o (logged_by_segment time t false s ++ logged_by_budget time (went_on time s (record t { cursor = c }))) (went_on time s (record t { cursor = c }) ∷ [])
   goes_soon (RunFor n) c same g fits =
       runs_on time o (record t { cursor = c; work = n }) (keeps_on t.params t.cursor c same keeps)
       (record {
@@ -137,13 +137,13 @@ module _ (time : ℕ) (o : Option Job) (t : Task) (share : IsShare t.params) (ke
   -- it ended at its deadline, when its timer is over
   module _ (full : release + t.params.period ≤ time) (none : t.server.left ≡ pos 0) where
     goes_late : (s : Segment) (c : CursorView) → c.script ≡ t.cursor.script → GivenIn t.params.period (at_next_event t.cursor time) time time c s
-        → Ends time t.params.period o (told_by_segment time t true s ++ told_by_budget time (went_on time s (record t { cursor = c }))) (went_on time s (record t { cursor = c }) ∷ [])
+        → Ends time t.params.period o (logged_by_segment time t true s ++ logged_by_budget time (went_on time s (record t { cursor = c }))) (went_on time s (record t { cursor = c }) ∷ [])
     goes_late (RunFor n) c same g =
         let u : Task = record t { cursor = c; work = n } in
         let ended = happened_to time t JobEnds in
         let next = happened_to time t (NextReleased (job_due time t)) in
         let p = t.params in
-        subst (λ b. Ends time p.period o ((ended ∷ next ∷ []) ++ told_by_budget time (record u { condition = cond b Throttled Ready })) (record u { condition = cond b Throttled Ready } ∷ []))
+        subst (λ b. Ends time p.period o ((ended ∷ next ∷ []) ++ logged_by_budget time (record u { condition = cond b Throttled Ready })) (record u { condition = cond b Throttled Ready } ∷ []))
         (sym (spent_left t.server.left none))
         (record {
           rising = three_pairs ended next (happened_to time u (Spent (due u))) refl refl refl;
@@ -173,7 +173,7 @@ charged_task t = record t { server = charged unit 1 t.server; work = t.work - 1 
 
 -- it has work left
 works_on : (time : ℕ) (o : Option Job) (t : Task) → Keeps t.params t.cursor → Runs time t.params t.server t.work t.cursor o → less_left t.params t.server.left → 0 < t.work - 1
-    → Ends (time + 1) t.params.period o (told_by_budget (time + 1) (running_on (charged_task t))) (running_on (charged_task t) ∷ [])
+    → Ends (time + 1) t.params.period o (logged_by_budget (time + 1) (running_on (charged_task t))) (running_on (charged_task t) ∷ [])
 works_on time o t keeps runs less more =
     runs_on (time + 1) o (charged_task t) keeps
     (record {
@@ -199,8 +199,8 @@ module _ (time : ℕ) (o : Option Job) (t : Task) (paced : IsPaced t) (keeps : K
   none_left : runs.release + t.params.period ≤ time + 1 → (charged_task t).server.left ≡ pos 0
   none_left full = zero_left t.params (charged_task t).server.left less.0 (omega (arith, room, full, ends_by, less.1))
 
-  work_ends : Ends (time + 1) t.params.period o (told_by_segment (time + 1) (charged_task t) (passes_late_timer t.cursor (time + 1)) (next_segment t.cursor (time + 1)).segment
-      ++ told_by_budget (time + 1) (goes_on (time + 1) (charged_task t) (next_segment t.cursor (time + 1)))) (goes_on (time + 1) (charged_task t) (next_segment t.cursor (time + 1)) ∷ [])
+  work_ends : Ends (time + 1) t.params.period o (logged_by_segment (time + 1) (charged_task t) (passes_late_timer t.cursor (time + 1)) (next_segment t.cursor (time + 1)).segment
+      ++ logged_by_budget (time + 1) (goes_on (time + 1) (charged_task t) (next_segment t.cursor (time + 1)))) (goes_on (time + 1) (charged_task t) (next_segment t.cursor (time + 1)) ∷ [])
   work_ends =
       let e = time + 1 in
       let u = charged_task t in
@@ -208,7 +208,7 @@ module _ (time : ℕ) (o : Option Job) (t : Task) (paced : IsPaced t) (keeps : K
       let a = next_segment t.cursor e in
       let past : runs.release ≤ e = omega (arith, runs.past) in
       let ask = asked p.runtime p.period t.cursor runs.release e keeps.budgets keeps.script paced.share.some runs.refers past in
-      elim (passes_late_timer t.cursor e) as (λ b. passes_late_timer t.cursor e ≡ b → Ends e p.period o (told_by_segment e u b a.segment ++ told_by_budget e (goes_on e u a)) (goes_on e u a ∷ [])) [
+      elim (passes_late_timer t.cursor e) as (λ b. passes_late_timer t.cursor e ≡ b → Ends e p.period o (logged_by_segment e u b a.segment ++ logged_by_budget e (goes_on e u a)) (goes_on e u a ∷ [])) [
         | true ↦ λ y.
             let g = ask.late y in
             goes_late e o u paced.share keeps runs.release runs.throttled past ends_by runs.due runs.job g.0 (none_left g.0) a.segment a.cursor g.1.script g.1.is
@@ -218,13 +218,13 @@ module _ (time : ℕ) (o : Option Job) (t : Task) (paced : IsPaced t) (keeps : K
       ] refl
 
 pub ends : (time : ℕ) (o : Option Job) (t : Task) → IsPaced t → 0 < above_zero t.server.left → Keeps t.params t.cursor → Runs time t.params t.server t.work t.cursor o
-    → ((x : ℕ) → t.server.deadline ≡ Some x → above_zero t.server.left ≤ unit * (x - time)) → Ends (time + 1) t.params.period o (told_by_run time unit t) (ran time unit t ∷ [])
+    → ((x : ℕ) → t.server.deadline ≡ Some x → above_zero t.server.left ≤ unit * (x - time)) → Ends (time + 1) t.params.period o (logged_by_run time unit t) (ran time unit t ∷ [])
 ends time o t paced some keeps runs room =
     let e = time + 1 in
     let u = charged_task t in
     let a = next_segment t.cursor e in
     let less = paid t.params t.server.left paced.whole some in
-    elim (eqb u.work 0) as (λ b. eqb u.work 0 ≡ b → Ends e t.params.period o (cond b (told_by_segment e u (passes_late_timer t.cursor e) a.segment) [] ++ told_by_budget e (cond b (goes_on e u a) (running_on u))) (cond b (goes_on e u a) (running_on u) ∷ [])) [
+    elim (eqb u.work 0) as (λ b. eqb u.work 0 ≡ b → Ends e t.params.period o (cond b (logged_by_segment e u (passes_late_timer t.cursor e) a.segment) [] ++ logged_by_budget e (cond b (goes_on e u a) (running_on u))) (cond b (goes_on e u a) (running_on u) ∷ [])) [
       | true ↦ λ y. work_ends time o t paced keeps runs less (eqb-true u.work 0 y) (room (runs.release + t.params.period) runs.due)
       | false ↦ λ y. works_on time o t keeps runs less (some_work u.work y)
     ] refl

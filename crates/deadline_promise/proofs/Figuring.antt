@@ -12,15 +12,15 @@ use Rattle.domain_run.specs.declared.task.Condition.TheVariants.{Ready, Throttle
 use Rattle.domain_run.specs.Conditions.{is_ready}
 use Rattle.domain_run.specs.Domain.{Domain}
 use Rattle.domain_run.specs.Tick.{ticks}
-use Rattle.domain_run.specs.Happened.{told_by_ticks}
+use Rattle.domain_run.specs.Happened.{logged_by_ticks}
 use Rattle.domain_run.specs.Run.{run_of}
 use Rattle.run_figures.specs.declared.job.Job.{Job}
 use Rattle.run_figures.specs.Jobs.{of_task, jobs_of}
 use Rattle.run_figures.specs.Figures.{is_late_at, is_late}
 use Rattle.deadline_promise.specs.KeptBudget.{KeepsBudget}
-use Rattle.deadline_promise.specs.Promise.{IsInTime, told_of_run, IsNeverLate}
+use Rattle.deadline_promise.specs.Promise.{IsInTime, logged_of_run, IsNeverLate}
 use Rattle.deadline_promise.proofs.Kept.{IsFit, IsCalm}
-use Rattle.deadline_promise.proofs.Opening.{IsBegun, run_opened, run_told}
+use Rattle.deadline_promise.proofs.Opening.{IsBegun, run_opened, run_logged}
 use Rattle.deadline_promise.proofs.Ticking.{HasRoom, task_room, ticks_calm}
 use Rattle.deadline_promise.proofs.Starting.{run_calm, run_time}
 use Rattle.deadline_promise.proofs.Jobs.{over_in, open_after, jobs_are}
@@ -68,12 +68,12 @@ last_in_time time period o (t ∷ []) fit room same on =
 last_in_time time period o (t ∷ u ∷ ts) fit room same on = absurd on
 
 -- ---- all jobs
-jobs_in_time : (k n period : ℕ) (d : Domain) → IsCalm d → AreOnTime d.time (own n d.tasks) None → All (HasPeriod period) (own n d.tasks) → All (IsInTime (ticks k d).time period) (jobs_of (told_by_ticks k d) n)
+jobs_in_time : (k n period : ℕ) (d : Domain) → IsCalm d → AreOnTime d.time (own n d.tasks) None → All (HasPeriod period) (own n d.tasks) → All (IsInTime (ticks k d).time period) (jobs_of (logged_by_ticks k d) n)
 jobs_in_time k n period d calm on periods =
     let e = ticks k d in
     let after = ticks_calm k d calm in
     let stays = ticks_on_time k n period d calm on periods in
-    let hs = of_task n (told_by_ticks k d) in
+    let hs = of_task n (logged_by_ticks k d) in
     let o = open_after None hs in
     let is_own : Task → Bool = λ t. eqb t.number n in
     subst (All (IsInTime e.time period)) (sym (jobs_are None hs))
@@ -116,12 +116,12 @@ never_late cpus limit n calls may k z within keeps =
     subst (λ ts. AreOnTime d.time ts None) (sym alone) (subst (λ m. OnTime m t None) (sym opened.early) (begun_on_time t (opened.begun k z within) keeps)) in
     let periods : All (HasPeriod t.params.period) (own t.number d.tasks) =
     subst (All (HasPeriod t.params.period)) (sym alone) (All-cons (HasPeriod t.params.period) t [] refl (All-nil (HasPeriod t.params.period))) in
-    let jobs : All (IsInTime n t.params.period) (jobs_of (told_of_run cpus limit calls n) t.number) =
-    subst (λ hs. All (IsInTime n t.params.period) (jobs_of hs t.number)) (sym (run_told cpus limit n calls may.admissions))
-    (subst (λ m. All (IsInTime m t.params.period) (jobs_of (told_by_ticks n d) t.number)) (run_time cpus limit n calls may)
+    let jobs : All (IsInTime n t.params.period) (jobs_of (logged_of_run cpus limit calls n) t.number) =
+    subst (λ hs. All (IsInTime n t.params.period) (jobs_of hs t.number)) (sym (run_logged cpus limit n calls may.admissions))
+    (subst (λ m. All (IsInTime m t.params.period) (jobs_of (logged_by_ticks n d) t.number)) (run_time cpus limit n calls may)
     (jobs_in_time n t.number t.params.period d (run_calm cpus limit calls may) on periods)) in
     record {
       jobs = jobs;
-      figures = λ run task time told number.
-          (λ i. count_by (is_late (time i)) (jobs_of (told i) (number i))) ∙ none_late n t.params.period (jobs_of (told_of_run cpus limit calls n) t.number) jobs;
+      figures = λ run task time logged number.
+          (λ i. count_by (is_late (time i)) (jobs_of (logged i) (number i))) ∙ none_late n t.params.period (jobs_of (logged_of_run cpus limit calls n) t.number) jobs;
     }

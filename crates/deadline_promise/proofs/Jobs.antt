@@ -1,4 +1,4 @@
--- The jobs that are over in what is told, and the one that is under way after it.
+-- The jobs that are over in what is logged, and the one that is under way after it.
 use Rattle.std.proofs.Common.{◌≡◌, Option, List, [], ◌∷◌, ◌++◌, map, refl, sym, ap, ◌∙◌}
 use Rattle.std.specs.Option.{option_to_list}
 use Rattle.domain_run.specs.declared.happened.Happened.{Happened}

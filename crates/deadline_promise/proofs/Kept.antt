@@ -1,7 +1,6 @@
 -- What a task and a domain keep from tick to tick.
 use Rattle.std.proofs.Common.{◌≡◌, ℕ, ◌*◌, ◌<◌, ◌≤◌, false, length}
 use Rattle.std.specs.Prelude.{ℤ, pos, negsuc, All, IsTrue, IsSome, sum_by}
-use Rattle.attr_check.specs.Ratio.{unit}
 use Rattle.attr_check.specs.ParamsView.{ParamsView}
 use Rattle.cbs_rules.specs.Budget.{budget, above_zero}
 use Rattle.domain_run.specs.declared.task.Task.{Task}
@@ -9,6 +8,7 @@ use Rattle.domain_run.specs.Conditions.{is_ready, is_contending, is_throttled, h
 use Rattle.domain_run.specs.Domain.{Domain}
 use Rattle.domain_run.proofs.CallerLemmas.{AreNumbered}
 use Rattle.deadline_promise.specs.Reach.{share_up, IsUncrowded}
+use Rattle.limits.specs.Limits.{unit}
 
 -- its share covers its budget, its deadline is its period, it does not reclaim
 pub record IsShare (p : ParamsView) : Type 0 where

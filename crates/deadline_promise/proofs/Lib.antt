@@ -5,7 +5,7 @@ mod Parts
 mod Fitting
 mod Sums
 mod Choosing
-mod Standing
+mod OnCpu
 mod Ticking
 mod Owed
 mod Opening

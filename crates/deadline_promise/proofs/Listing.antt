@@ -88,21 +88,21 @@ or_all : (a b c : Bool) → ((a || b) || c) ≡ (a || (b || c))
 or_all true b c = refl
 or_all false b c = refl
 
-reclaiming_told : (ts : List Task) (l : Listed) → (fold step l ts).reclaims ≡ (l.reclaims || list_any (λ t. t.params.reclaim) ts)
-reclaiming_told [] l = or_none l.reclaims
+reclaiming_logged : (ts : List Task) (l : Listed) → (fold step l ts).reclaims ≡ (l.reclaims || list_any (λ t. t.params.reclaim) ts)
+reclaiming_logged [] l = or_none l.reclaims
   where
     or_none : (b : Bool) → b ≡ (b || false)
     or_none true = refl
     or_none false = refl
-reclaiming_told (t ∷ ts) l = reclaiming_told ts (step l t) ∙ or_all l.reclaims t.params.reclaim (list_any (λ (u : Task). u.params.reclaim) ts)
+reclaiming_logged (t ∷ ts) l = reclaiming_logged ts (step l t) ∙ or_all l.reclaims t.params.reclaim (list_any (λ (u : Task). u.params.reclaim) ts)
 
-short_told : (ts : List Task) (l : Listed) → (fold step l ts).short ≡ (l.short || list_any (λ t. ltb t.params.deadline t.params.period) ts)
-short_told [] l = or_none l.short
+short_logged : (ts : List Task) (l : Listed) → (fold step l ts).short ≡ (l.short || list_any (λ t. ltb t.params.deadline t.params.period) ts)
+short_logged [] l = or_none l.short
   where
     or_none : (b : Bool) → b ≡ (b || false)
     or_none true = refl
     or_none false = refl
-short_told (t ∷ ts) l = short_told ts (step l t) ∙ or_all l.short (ltb t.params.deadline t.params.period) (list_any (λ (u : Task). ltb u.params.deadline u.params.period) ts)
+short_logged (t ∷ ts) l = short_logged ts (step l t) ∙ or_all l.short (ltb t.params.deadline t.params.period) (list_any (λ (u : Task). ltb u.params.deadline u.params.period) ts)
 
 -- what is read of all places is what the tasks are
 pub record AreListed (l : Listed) (ts : List Task) : Type 0 where
@@ -115,6 +115,6 @@ listed_is ts place l few is =
     let e : l ≡ listed_of ts = is ∙ ap (fold step none_listed) (take_all place ts few) in
     record {
       count = ap (λ (k : Listed). k.count) e ∙ counted ts none_listed ∙ omega arith;
-      reclaims = ap (λ (k : Listed). k.reclaims) e ∙ reclaiming_told ts none_listed;
-      short = ap (λ (k : Listed). k.short) e ∙ short_told ts none_listed;
+      reclaims = ap (λ (k : Listed). k.reclaims) e ∙ reclaiming_logged ts none_listed;
+      short = ap (λ (k : Listed). k.short) e ∙ short_logged ts none_listed;
     }

@@ -6,7 +6,7 @@ use Rattle.std.proofs.lemmas.List.{length-map}
 use Rattle.std.proofs.lemmas.List.Elements.{All-nil, All-append, All-head, All-filter, All-map, All-weaker, filter-append}
 use Rattle.attr_check.specs.ParamsView.{ParamsView}
 use Rattle.cbs_rules.specs.declared.server.Server.{Server}
-use Rattle.edf_pick.specs.Places.{Places, is_task, stands}
+use Rattle.edf_pick.specs.Places.{Places, is_task, is_on_cpu}
 use Rattle.task_script.specs.script.ScriptView.{CursorView}
 use Rattle.domain_run.specs.declared.task.Task.{Task}
 use Rattle.domain_run.specs.declared.task.Condition.{Condition}
@@ -15,7 +15,7 @@ use Rattle.domain_run.specs.declared.happened.Happened.{Happened}
 use Rattle.domain_run.specs.Parts.{replenish_due, settled, is_listed, unblocked, with_cpu, with_last_cpu, ran}
 use Rattle.domain_run.specs.Domain.{Domain}
 use Rattle.domain_run.specs.Tick.{prepared, with_tick_begun, rate_of, ran_if, ticked, ticks}
-use Rattle.domain_run.specs.Happened.{told_by_run, told_if_ran, told_by_replenishment, with_its_cpu, told_to_begin, told_by_beginning, told_by_end, told_by_tick, told_by_ticks}
+use Rattle.domain_run.specs.Happened.{logged_by_run, logged_if_ran, logged_by_replenishment, with_its_cpu, logged_to_begin, logged_by_beginning, logged_by_end, logged_by_tick, logged_by_ticks}
 use Rattle.run_figures.specs.declared.job.Job.{Job}
 use Rattle.run_figures.specs.Jobs.{of_task}
 use Rattle.deadline_promise.proofs.Kept.{IsPaced, IsFit, IsCalm}
@@ -23,9 +23,9 @@ use Rattle.deadline_promise.proofs.Same.{same_replenished, same_settled, same_un
 use Rattle.deadline_promise.proofs.Ticking.{Running, HasRoom, rate_plain, ready_is, begun_running, begun_room, ticks_calm}
 use Rattle.deadline_promise.proofs.Jobs.{over_in, open_after, over_more, open_more, over_homed, open_homed}
 use Rattle.deadline_promise.proofs.OnTime.{Runs, OnTimeIn, MidIn, Mid, AreOnTime, AreMid}
-use Rattle.deadline_promise.proofs.Waking.{Begins, told_to_wake, woken_up, begins}
+use Rattle.deadline_promise.proofs.Waking.{Begins, logged_to_wake, woken_up, begins}
 use Rattle.deadline_promise.proofs.Ending.{IsDone, IsBefore, Ends, no_pairs, ends}
-use Rattle.deadline_promise.proofs.Own.{own, own_order, own_homed, own_prepared, own_begun, own_ticked, told_of_begin, told_of_end}
+use Rattle.deadline_promise.proofs.Own.{own, own_order, own_homed, own_prepared, own_begun, own_ticked, logged_of_begin, logged_of_end}
 
 append_none : {X : Type 0} (xs : List X) → xs ++ [] ≡ xs
 append_none [] = refl
@@ -33,21 +33,21 @@ append_none (x ∷ xs) = ap (λ ys. x ∷ ys) (append_none xs)
 
 -- ---- PARTS 1 TO 3 of the tasks of a number
 list_begins : (time : ℕ) (o : Option Job) (ts : List Task) → All IsPaced ts → All IsFit ts → AreOnTime time ts o
-    → Begins time o (flat_map (told_by_replenishment time) ts ++ told_to_wake time (map (replenish_due time) ts)) (woken_up time (map (replenish_due time) ts))
+    → Begins time o (flat_map (logged_by_replenishment time) ts ++ logged_to_wake time (map (replenish_due time) ts)) (woken_up time (map (replenish_due time) ts))
 list_begins time o [] paced fit on = record { few = omega arith; over = refl; tasks = on }
 list_begins time o (t ∷ []) paced fit on =
-    subst (λ l. Begins time o (l ++ told_to_wake time (replenish_due time t ∷ [])) (woken_up time (replenish_due time t ∷ []))) (sym (append_none (told_by_replenishment time t)))
+    subst (λ l. Begins time o (l ++ logged_to_wake time (replenish_due time t ∷ [])) (woken_up time (replenish_due time t ∷ []))) (sym (append_none (logged_by_replenishment time t)))
     (begins time o t (All-head IsPaced t [] paced) (All-head IsFit t [] fit) on)
 list_begins time o (t ∷ u ∷ ts) paced fit on = absurd on
 
 few_pairs : (hs : List Happened) → length hs ≤ 1 → AllPairs IsBefore hs
 few_pairs hs few i j d less within = absurd (omega (arith, few, less, within))
 
--- what is told of them where a tick begins
-beginning_of : (n : ℕ) (d : Domain) → length (of_task n (told_to_begin d)) ≤ 1 → of_task n (told_by_beginning d) ≡ map (with_its_cpu (with_tick_begun d).curr) (of_task n (told_to_begin d))
+-- what is logged of them where a tick begins
+beginning_of : (n : ℕ) (d : Domain) → length (of_task n (logged_to_begin d)) ≤ 1 → of_task n (logged_by_beginning d) ≡ map (with_its_cpu (with_tick_begun d).curr) (of_task n (logged_to_begin d))
 beginning_of n d few =
     let w = with_its_cpu (with_tick_begun d).curr in
-    let hs = told_to_begin d in
+    let hs = logged_to_begin d in
     let homed = own_homed n (with_tick_begun d).curr hs in
     let long : length (map w (of_task n hs)) ≡ length (of_task n hs) = simp length-map in
     let short : length (of_task n (map w hs)) ≤ 1 = omega (arith, few, ap (λ (l : List Happened). length l) homed, long) in
@@ -80,18 +80,18 @@ still_on_time time p s work c o Waiting h = absurd h
 still_on_time time p s work c o Leaving h = h
 
 pub list_ends : (e : Domain) (period : ℕ) (o : Option Job) (ts : List Task) → All (Running e) ts → All (HasRoom e.time) ts → All (λ t. t.params.period ≡ period) ts → AreMid e.time ts o
-    → Ends (e.time + 1) period o (flat_map (told_if_ran e) ts) (map (ran_if e) ts)
+    → Ends (e.time + 1) period o (flat_map (logged_if_ran e) ts) (map (ran_if e) ts)
 list_ends e period o [] running room same mid = record { rising = no_pairs; over = All-nil (IsDone period); tasks = mid }
 list_ends e period o (t ∷ []) running room same mid =
     let r = All-head (Running e) t [] running in
     let p = All-head (λ (u : Task). u.params.period ≡ period) t [] same in
-    subst (λ l. Ends (e.time + 1) period o l (ran_if e t ∷ [])) (sym (append_none (told_if_ran e t)))
-    (subst (λ k. Ends (e.time + 1) k o (told_if_ran e t) (ran_if e t ∷ [])) p
-    (elim (stands t.number e.curr) as (λ b. stands t.number e.curr ≡ b → Ends (e.time + 1) t.params.period o (cond b (told_by_run e.time (rate_of e t) t) []) (cond b (ran e.time (rate_of e t) t) t ∷ [])) [
+    subst (λ l. Ends (e.time + 1) period o l (ran_if e t ∷ [])) (sym (append_none (logged_if_ran e t)))
+    (subst (λ k. Ends (e.time + 1) k o (logged_if_ran e t) (ran_if e t ∷ [])) p
+    (elim (is_on_cpu t.number e.curr) as (λ b. is_on_cpu t.number e.curr ≡ b → Ends (e.time + 1) t.params.period o (cond b (logged_by_run e.time (rate_of e t) t) []) (cond b (ran e.time (rate_of e t) t) t ∷ [])) [
       | true ↦ λ s.
           let ready = r.2 s in
           let runs : Runs e.time t.params t.server t.work t.cursor o = subst (MidIn e.time t.params t.server t.work t.cursor o) (ready_is t.condition ready) mid.1 in
-          subst (λ k. Ends (e.time + 1) t.params.period o (told_by_run e.time k t) (ran e.time k t ∷ [])) (sym (rate_plain e t r.0))
+          subst (λ k. Ends (e.time + 1) t.params.period o (logged_by_run e.time k t) (ran e.time k t ∷ [])) (sym (rate_plain e t r.0))
           (ends e.time o t r.0 (r.1.fit.lifted ready) mid.0 runs (λ x at. All-head (HasRoom e.time) t [] room x ready at))
       | false ↦ λ s. record { rising = no_pairs; over = All-nil (IsDone t.params.period); tasks = (mid.0, still_on_time e.time t.params t.server t.work t.cursor o t.condition mid.1) }
     ] refl))
@@ -114,19 +114,19 @@ period_woken period time ts all =
     (All-filter is_listed (HasPeriod period) two
     (period_map period (settled time) (λ t. (same_settled time t).params) one (period_map period (replenish_due time) (λ t. (same_replenished time t).params) ts all)))
 
--- what some ticks tell of the tasks of a number, and how they leave them
-pub record StaysOnTime (n period time : ℕ) (o : Option Job) (told : List Happened) (after : List Task) : Type 0 where
-  pub over : All (IsDone period) (over_in o (of_task n told))
-  pub tasks : AreOnTime time (own n after) (open_after o (of_task n told))
+-- what some ticks log of the tasks of a number, and how they leave them
+pub record StaysOnTime (n period time : ℕ) (o : Option Job) (logged : List Happened) (after : List Task) : Type 0 where
+  pub over : All (IsDone period) (over_in o (of_task n logged))
+  pub tasks : AreOnTime time (own n after) (open_after o (of_task n logged))
   pub periods : All (HasPeriod period) (own n after)
 
 module _ (n period : ℕ) (d : Domain) (o : Option Job) (calm : IsCalm d) (on : AreOnTime d.time (own n d.tasks) o) (periods : All (HasPeriod period) (own n d.tasks)) where
-  tick_begins : Begins d.time o (of_task n (told_to_begin d)) (own n (prepared d.time d.tasks))
+  tick_begins : Begins d.time o (of_task n (logged_to_begin d)) (own n (prepared d.time d.tasks))
   tick_begins =
       let is_own : Task → Bool = λ t. eqb t.number n in
       let b = list_begins d.time o (own n d.tasks) (All-filter is_own IsPaced d.tasks calm.paced) (All-filter is_own IsFit d.tasks calm.fit) on in
-      subst (λ hs. Begins d.time o hs (own n (prepared d.time d.tasks))) (sym (told_of_begin n d))
-      (subst (Begins d.time o (flat_map (told_by_replenishment d.time) (own n d.tasks) ++ told_to_wake d.time (map (replenish_due d.time) (own n d.tasks)))) (sym (own_prepared n d.time d.tasks)) b)
+      subst (λ hs. Begins d.time o hs (own n (prepared d.time d.tasks))) (sym (logged_of_begin n d))
+      (subst (Begins d.time o (flat_map (logged_by_replenishment d.time) (own n d.tasks) ++ logged_to_wake d.time (map (replenish_due d.time) (own n d.tasks)))) (sym (own_prepared n d.time d.tasks)) b)
 
   begun_periods : All (HasPeriod period) (own n (with_tick_begun d).tasks)
   begun_periods =
@@ -134,56 +134,56 @@ module _ (n period : ℕ) (d : Domain) (o : Option Job) (calm : IsCalm d) (on : 
       (period_map period (with_last_cpu (with_tick_begun d).curr) (λ t. (same_homed (with_tick_begun d).curr t).params) (own n (prepared d.time d.tasks))
       (subst (All (HasPeriod period)) (sym (own_prepared n d.time d.tasks)) (period_woken period d.time (own n d.tasks) periods)))
 
-  tick_ends : Ends (d.time + 1) period (open_after o (of_task n (told_to_begin d))) (flat_map (told_if_ran (with_tick_begun d)) (own n (with_tick_begun d).tasks)) (map (ran_if (with_tick_begun d)) (own n (with_tick_begun d).tasks))
+  tick_ends : Ends (d.time + 1) period (open_after o (of_task n (logged_to_begin d))) (flat_map (logged_if_ran (with_tick_begun d)) (own n (with_tick_begun d).tasks)) (map (ran_if (with_tick_begun d)) (own n (with_tick_begun d).tasks))
   tick_ends =
       let e = with_tick_begun d in
       let is_own : Task → Bool = λ t. eqb t.number n in
-      let q = open_after o (of_task n (told_to_begin d)) in
+      let q = open_after o (of_task n (logged_to_begin d)) in
       let mid : AreMid d.time (own n e.tasks) q = subst (λ ts. AreMid d.time ts q) (sym (own_begun n d)) (mid_homed d.time e.curr (own n (prepared d.time d.tasks)) q tick_begins.tasks) in
       list_ends e period q (own n e.tasks) (All-filter is_own (Running e) e.tasks (begun_running d calm)) (All-filter is_own (HasRoom d.time) e.tasks (begun_room d calm)) begun_periods mid
 
-  tick_tells : of_task n (told_by_tick d) ≡ map (with_its_cpu (with_tick_begun d).curr) (of_task n (told_to_begin d)) ++ flat_map (told_if_ran (with_tick_begun d)) (own n (with_tick_begun d).tasks)
-  tick_tells =
+  tick_logs : of_task n (logged_by_tick d) ≡ map (with_its_cpu (with_tick_begun d).curr) (of_task n (logged_to_begin d)) ++ flat_map (logged_if_ran (with_tick_begun d)) (own n (with_tick_begun d).tasks)
+  tick_logs =
       let e = with_tick_begun d in
       let one = beginning_of n d tick_begins.few in
-      let ended = told_of_end n e in
-      let two : of_task n (told_by_end e) ≡ flat_map (told_if_ran e) (own n e.tasks) =
-      own_order n (flat_map (told_if_ran e) e.tasks) (subst (AllPairs IsBefore) (sym ended) tick_ends.rising) ∙ ended in
-      filter-append (λ (h : Happened). eqb h.number n) (told_by_beginning d) (told_by_end e) ∙ (λ i. one i ++ two i)
+      let ended = logged_of_end n e in
+      let two : of_task n (logged_by_end e) ≡ flat_map (logged_if_ran e) (own n e.tasks) =
+      own_order n (flat_map (logged_if_ran e) e.tasks) (subst (AllPairs IsBefore) (sym ended) tick_ends.rising) ∙ ended in
+      filter-append (λ (h : Happened). eqb h.number n) (logged_by_beginning d) (logged_by_end e) ∙ (λ i. one i ++ two i)
 
-  pub tick_on_time : StaysOnTime n period (d.time + 1) o (told_by_tick d) (ticked d).tasks
+  pub tick_on_time : StaysOnTime n period (d.time + 1) o (logged_by_tick d) (ticked d).tasks
   tick_on_time =
       let e = with_tick_begun d in
       let w = with_its_cpu e.curr in
-      let hs = of_task n (told_to_begin d) in
+      let hs = of_task n (logged_to_begin d) in
       let q = open_after o hs in
-      let f = flat_map (told_if_ran e) (own n e.tasks) in
+      let f = flat_map (logged_if_ran e) (own n e.tasks) in
       let homed : open_after o (map w hs) ≡ q = open_homed e.curr o hs in
-      let over_is : over_in o (of_task n (told_by_tick d)) ≡ over_in q f =
-      ap (over_in o) tick_tells ∙ over_more o (map w hs) f
+      let over_is : over_in o (of_task n (logged_by_tick d)) ≡ over_in q f =
+      ap (over_in o) tick_logs ∙ over_more o (map w hs) f
       ∙ (λ i. (over_homed e.curr o hs ∙ tick_begins.over) i ++ over_in (homed i) f) in
-      let open_is : open_after o (of_task n (told_by_tick d)) ≡ open_after q f =
-      ap (open_after o) tick_tells ∙ open_more o (map w hs) f ∙ ap (λ x. open_after x f) homed in
+      let open_is : open_after o (of_task n (logged_by_tick d)) ≡ open_after q f =
+      ap (open_after o) tick_logs ∙ open_more o (map w hs) f ∙ ap (λ x. open_after x f) homed in
       record {
         over = subst (All (IsDone period)) (sym over_is) tick_ends.over;
-        tasks = subst (λ ts. AreOnTime (d.time + 1) ts (open_after o (of_task n (told_by_tick d)))) (sym (own_ticked n d))
+        tasks = subst (λ ts. AreOnTime (d.time + 1) ts (open_after o (of_task n (logged_by_tick d)))) (sym (own_ticked n d))
             (subst (AreOnTime (d.time + 1) (map (ran_if e) (own n e.tasks))) (sym open_is) tick_ends.tasks);
         periods = subst (All (HasPeriod period)) (sym (own_ticked n d)) (period_map period (ran_if e) (λ t. (same_ran_if e t).params) (own n e.tasks) begun_periods);
       }
 
 -- ---- ANY NUMBER OF TICKS
-pub ticks_on_time : (k n period : ℕ) (d : Domain) → IsCalm d → AreOnTime d.time (own n d.tasks) None → All (HasPeriod period) (own n d.tasks) → StaysOnTime n period (ticks k d).time None (told_by_ticks k d) (ticks k d).tasks
+pub ticks_on_time : (k n period : ℕ) (d : Domain) → IsCalm d → AreOnTime d.time (own n d.tasks) None → All (HasPeriod period) (own n d.tasks) → StaysOnTime n period (ticks k d).time None (logged_by_ticks k d) (ticks k d).tasks
 ticks_on_time zero n period d calm on periods = record { over = All-nil (IsDone period); tasks = on; periods = periods }
 ticks_on_time (suc k) n period d calm on periods =
     let e = ticks k d in
     let before = ticks_on_time k n period d calm on periods in
-    let hs = of_task n (told_by_ticks k d) in
-    let gs = of_task n (told_by_tick e) in
+    let hs = of_task n (logged_by_ticks k d) in
+    let gs = of_task n (logged_by_tick e) in
     let o = open_after None hs in
     let tick = tick_on_time n period e o (ticks_calm k d calm) before.tasks before.periods in
-    let told : of_task n (told_by_ticks k d ++ told_by_tick e) ≡ hs ++ gs = filter-append (λ (h : Happened). eqb h.number n) (told_by_ticks k d) (told_by_tick e) in
+    let logged : of_task n (logged_by_ticks k d ++ logged_by_tick e) ≡ hs ++ gs = filter-append (λ (h : Happened). eqb h.number n) (logged_by_ticks k d) (logged_by_tick e) in
     record {
-      over = subst (All (IsDone period)) (sym (ap (over_in None) told ∙ over_more None hs gs)) (All-append (IsDone period) (over_in None hs) (over_in o gs) before.over tick.over);
-      tasks = subst (AreOnTime (e.time + 1) (own n (ticked e).tasks)) (sym (ap (open_after None) told ∙ open_more None hs gs)) tick.tasks;
+      over = subst (All (IsDone period)) (sym (ap (over_in None) logged ∙ over_more None hs gs)) (All-append (IsDone period) (over_in None hs) (over_in o gs) before.over tick.over);
+      tasks = subst (AreOnTime (e.time + 1) (own n (ticked e).tasks)) (sym (ap (open_after None) logged ∙ open_more None hs gs)) tick.tasks;
       periods = tick.periods;
     }

@@ -1,7 +1,6 @@
 -- A task whose script keeps its budget, and its job under way, as a tick finds them.
 use Rattle.std.proofs.Common.{◌≡◌, ℕ, ◌+◌, ◌*◌, ◌<◌, ◌≤◌, false, Option, Some, None, List, [], ◌∷◌, sym, subst}
 use Rattle.std.specs.Prelude.{IfSome}
-use Rattle.attr_check.specs.Ratio.{unit}
 use Rattle.attr_check.specs.ParamsView.{ParamsView}
 use Rattle.cbs_rules.specs.declared.server.Server.{Server}
 use Rattle.cbs_rules.specs.Budget.{budget, above_zero}
@@ -12,6 +11,7 @@ use Rattle.domain_run.specs.declared.task.Condition.TheVariants.{Ready, Throttle
 use Rattle.run_figures.specs.declared.job.Job.{Job}
 use Rattle.deadline_promise.specs.KeptBudget.{work_from, KeepsBudget}
 use Rattle.deadline_promise.proofs.Asking.{Refers}
+use Rattle.limits.specs.Limits.{unit}
 
 -- a job that was released at a time and has not ended
 abbrev pub under_way : ℕ → ℕ → ℕ → Job

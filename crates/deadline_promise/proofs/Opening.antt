@@ -19,9 +19,9 @@ use Rattle.domain_run.specs.Tick.{sum_of}
 use Rattle.domain_run.specs.Calls.{admit_reply, new_task, with_number, with_task_listed, is_refusal, after_call}
 use Rattle.domain_run.specs.Run.{after_calls, run_of}
 use Rattle.domain_run.specs.Sound.{IsAdmitted}
-use Rattle.domain_run.specs.Happened.{told_by_ticks, told_by_call, told_by_calls}
+use Rattle.domain_run.specs.Happened.{logged_by_ticks, logged_by_call, logged_by_calls}
 use Rattle.domain_run.proofs.CallerLemmas.{AreNumbered, IsGranted, granted_is, with_number_contains, sum_push}
-use Rattle.deadline_promise.specs.Promise.{IsSoundAdmission, told_of_run}
+use Rattle.deadline_promise.specs.Promise.{IsSoundAdmission, logged_of_run}
 
 -- a task as it is admitted: blocked until its start, without a deadline and with nothing left
 pub record IsBegun (t : Task) : Type 0 where
@@ -117,28 +117,28 @@ run_opened cpus limit calls are =
       begun = All-nil IsBegun;
     })
 
--- ---- what is told: an admission tells nothing
+-- ---- what is logged: an admission logs nothing
 
 append_none : {X : Type 0} (xs : List X) → xs ++ [] ≡ xs
 append_none [] = refl
 append_none (x ∷ xs) = ap (λ ys. x ∷ ys) (append_none xs)
 
-none_told : (d : Domain) (c : Call) → IsSoundAdmission c → told_by_call d c ≡ []
-none_told d (Admit number name params delay script) h =
+none_logged : (d : Domain) (c : Call) → IsSoundAdmission c → logged_by_call d c ≡ []
+none_logged d (Admit number name params delay script) h =
     elim (is_refusal (admit_reply d number params)) as (λ b. cond {A = List Happened} b [] [] ≡ []) [ true ↦ refl | false ↦ refl ]
-none_told d (Regrade number params word) h = absurd h
-none_told d (Wake number) h = absurd h
-none_told d (Leave number) h = absurd h
-none_told d (Advance n) h = absurd h
-none_told d (Limit limit_to word) h = absurd h
-none_told d (Depart number) h = absurd h
-none_told d (Arrive number name params script) h = absurd h
+none_logged d (Regrade number params word) h = absurd h
+none_logged d (Wake number) h = absurd h
+none_logged d (Leave number) h = absurd h
+none_logged d (Advance n) h = absurd h
+none_logged d (Limit limit_to word) h = absurd h
+none_logged d (Depart number) h = absurd h
+none_logged d (Arrive number name params script) h = absurd h
 
-calls_told : (d : Domain) (n : ℕ) (calls : List Call) → All IsSoundAdmission calls → told_by_calls d (calls ++ Advance n ∷ []) ≡ told_by_ticks n (after_calls d calls)
-calls_told d n [] are = append_none (told_by_ticks n d)
-calls_told d n (c ∷ calls) are =
-    ap (λ hs. hs ++ told_by_calls (after_call d c) (calls ++ Advance n ∷ [])) (none_told d c (All-head IsSoundAdmission c calls are))
-    ∙ calls_told (after_call d c) n calls (All-tail IsSoundAdmission c calls are)
+calls_logged : (d : Domain) (n : ℕ) (calls : List Call) → All IsSoundAdmission calls → logged_by_calls d (calls ++ Advance n ∷ []) ≡ logged_by_ticks n (after_calls d calls)
+calls_logged d n [] are = append_none (logged_by_ticks n d)
+calls_logged d n (c ∷ calls) are =
+    ap (λ hs. hs ++ logged_by_calls (after_call d c) (calls ++ Advance n ∷ [])) (none_logged d c (All-head IsSoundAdmission c calls are))
+    ∙ calls_logged (after_call d c) n calls (All-tail IsSoundAdmission c calls are)
 
-pub run_told : (cpus limit n : ℕ) (calls : List Call) → All IsSoundAdmission calls → told_of_run cpus limit calls n ≡ told_by_ticks n (run_of cpus limit calls)
-run_told cpus limit n calls are = calls_told (empty_domain cpus limit) n calls are
+pub run_logged : (cpus limit n : ℕ) (calls : List Call) → All IsSoundAdmission calls → logged_of_run cpus limit calls n ≡ logged_by_ticks n (run_of cpus limit calls)
+run_logged cpus limit n calls are = calls_logged (empty_domain cpus limit) n calls are

@@ -2,7 +2,6 @@
 use Rattle.std.proofs.Common.{ℕ, ◌-◌, ◌*◌, ◌≤◌, cond, ◌&&◌, Option, Some, None, List, [], ◌∷◌, arith}
 use Rattle.std.specs.Prelude.{sum_by, ℤ}
 use Rattle.std.proofs.lemmas.List.Sums.{sum_by-cons}
-use Rattle.attr_check.specs.Ratio.{unit}
 use Rattle.attr_check.specs.ParamsView.{ParamsView}
 use Rattle.cbs_rules.specs.Budget.{above_zero}
 use Rattle.domain_run.specs.declared.task.Task.{Task}
@@ -14,6 +13,7 @@ use Rattle.deadline_promise.specs.Reach.{reach_kept, reach_in, reach}
 use Rattle.deadline_promise.specs.Promise.{due_left}
 use Rattle.deadline_promise.proofs.Kept.{IsCalm}
 use Rattle.deadline_promise.proofs.Ticking.{ticks_calm}
+use Rattle.limits.specs.Limits.{unit}
 
 part_kept : (p : ParamsView) (x : ℕ) (o : Option ℕ) (left : ℤ) → cond (has_come x o) (above_zero left) 0 ≤ reach_kept p x o left
 part_kept p x None left = omega arith

@@ -4,7 +4,7 @@ use Rattle.std.specs.Prelude.{All, AllPairs, filter}
 use Rattle.std.specs.List.{flat_map}
 use Rattle.std.proofs.lemmas.Bool.{false≢true, ne_eqb}
 use Rattle.std.proofs.lemmas.List.Elements.{All-nil, All-cons, All-head, All-tail, All-append, filter-append}
-use Rattle.edf_pick.specs.Places.{Places, stands}
+use Rattle.edf_pick.specs.Places.{Places, is_on_cpu}
 use Rattle.task_script.specs.declared.script.Segment.{Segment}
 use Rattle.task_script.specs.declared.script.Segment.TheVariants.{Run as RunFor, Until, Wait as WaitFor, End}
 use Rattle.task_script.specs.script.Segments.{passes_late_timer, next_segment}
@@ -17,11 +17,11 @@ use Rattle.domain_run.specs.Conditions.{is_throttled, is_over, has_come}
 use Rattle.domain_run.specs.Parts.{replenish_due, settled, is_listed, unblocked, with_last_cpu, ran}
 use Rattle.domain_run.specs.Domain.{Domain}
 use Rattle.domain_run.specs.Tick.{prepared, with_tick_begun, rate_of, ran_if, ticked}
-use Rattle.domain_run.specs.Happened.{happened_to, due, job_due, told_by_work, told_by_budget, told_by_segment, told_by_run, told_if_ran, told_by_replenishment, told_by_wake, told_by_unblocking, with_happened, in_order, is_first, with_its_cpu, told_to_begin}
+use Rattle.domain_run.specs.Happened.{happened_to, due, job_due, logged_by_work, logged_by_budget, logged_by_segment, logged_by_run, logged_if_ran, logged_by_replenishment, logged_by_wake, logged_by_unblocking, with_happened, in_order, is_first, with_its_cpu, logged_to_begin}
 use Rattle.domain_run.proofs.CallerLemmas.{AreNumbered}
 use Rattle.run_figures.specs.Jobs.{of_task}
 use Rattle.deadline_promise.proofs.Same.{same_replenished, same_settled, same_unblocked, same_homed, same_ran, same_ran_if}
-use Rattle.deadline_promise.proofs.Waking.{told_to_wake, woken_up}
+use Rattle.deadline_promise.proofs.Waking.{logged_to_wake, woken_up}
 use Rattle.deadline_promise.proofs.Ending.{IsBefore}
 
 -- the listed tasks of a number
@@ -72,7 +72,7 @@ own_one (t ∷ ts) (suc k) z numbered within =
     let other : eqb t.number n ≡ false = ne_eqb t.number n (λ e. numbered zero (suc k) z (omega arith) within e) in
     ap (λ b. cond b (t ∷ own n ts) (own n ts)) other ∙ own_one ts k z rest inside
 
--- ---- what is told of a task has its number
+-- ---- what is logged of a task has its number
 abbrev IsOf : ℕ → Happened → Type 0
 IsOf m h = h.number ≡ m
 
@@ -84,12 +84,12 @@ of_all n m (h ∷ hs) all =
     ∙ ap (λ l. cond (eqb m n) (h ∷ l) l) rest
     ∙ elim (eqb m n) as (λ b. cond b (h ∷ cond b hs []) (cond b hs []) ≡ cond b (h ∷ hs) []) [ true ↦ refl | false ↦ refl ]
 
-own_told : (n : ℕ) (f : Task → List Happened) → ((t : Task) → All (IsOf t.number) (f t)) → (ts : List Task) → of_task n (flat_map f ts) ≡ flat_map f (own n ts)
-own_told n f of [] = refl
-own_told n f of (t ∷ ts) =
+own_logged : (n : ℕ) (f : Task → List Happened) → ((t : Task) → All (IsOf t.number) (f t)) → (ts : List Task) → of_task n (flat_map f ts) ≡ flat_map f (own n ts)
+own_logged n f of [] = refl
+own_logged n f of (t ∷ ts) =
     filter-append (λ (h : Happened). eqb h.number n) (f t) (flat_map f ts)
     ∙ ap (λ l. l ++ of_task n (flat_map f ts)) (of_all n t.number (f t) (of t))
-    ∙ ap (λ l. cond (eqb t.number n) (f t) [] ++ l) (own_told n f of ts)
+    ∙ ap (λ l. cond (eqb t.number n) (f t) [] ++ l) (own_logged n f of ts)
     ∙ elim (eqb t.number n) as (λ b. cond b (f t) [] ++ flat_map f (own n ts) ≡ flat_map f (cond b (t ∷ own n ts) (own n ts))) [ true ↦ refl | false ↦ refl ]
 
 all_if : (P : Happened → Type 0) (b : Bool) (xs : List Happened) → All P xs → All P (cond b xs [])
@@ -102,12 +102,12 @@ one_of time t what = All-cons (IsOf t.number) (happened_to time t what) [] refl 
 two_of : (time : ℕ) (t : Task) (one two : What) → All (IsOf t.number) (happened_to time t one ∷ happened_to time t two ∷ [])
 two_of time t one two = All-cons (IsOf t.number) (happened_to time t one) (happened_to time t two ∷ []) refl (one_of time t two)
 
-of_replenishment : (time : ℕ) (t : Task) → All (IsOf t.number) (told_by_replenishment time t)
+of_replenishment : (time : ℕ) (t : Task) → All (IsOf t.number) (logged_by_replenishment time t)
 of_replenishment time t =
     let what = Replenished (due (replenish_due time t)) in
     all_if (IsOf t.number) (is_throttled t.condition && has_come time t.server.deadline) (happened_to time t what ∷ []) (one_of time t what)
 
-of_wake : (time : ℕ) (t w : Task) (s : Segment) → All (IsOf t.number) (told_by_wake time t w s)
+of_wake : (time : ℕ) (t w : Task) (s : Segment) → All (IsOf t.number) (logged_by_wake time t w s)
 of_wake time t w (RunFor n) =
     let spent = happened_to time t (WokenSpent (due w)) in
     All-cons (IsOf t.number) (happened_to time t (Released (job_due time t))) (cond (is_throttled w.condition) (spent ∷ []) []) refl
@@ -116,12 +116,12 @@ of_wake time t w (Until u) = All-nil (IsOf t.number)
 of_wake time t w WaitFor = All-nil (IsOf t.number)
 of_wake time t w End = All-nil (IsOf t.number)
 
-of_unblocking : (time : ℕ) (t : Task) → All (IsOf t.number) (told_by_unblocking time t)
+of_unblocking : (time : ℕ) (t : Task) → All (IsOf t.number) (logged_by_unblocking time t)
 of_unblocking time t =
     let s = (next_segment t.cursor time).segment in
-    all_if (IsOf t.number) (is_over time t.condition) (told_by_wake time t (unblocked time t) s) (of_wake time t (unblocked time t) s)
+    all_if (IsOf t.number) (is_over time t.condition) (logged_by_wake time t (unblocked time t) s) (of_wake time t (unblocked time t) s)
 
-of_segment : (time : ℕ) (t : Task) (late : Bool) (s : Segment) → All (IsOf t.number) (told_by_segment time t late s)
+of_segment : (time : ℕ) (t : Task) (late : Bool) (s : Segment) → All (IsOf t.number) (logged_by_segment time t late s)
 of_segment time t late (RunFor n) =
     let next = NextReleased (job_due time t) in
     all_if (IsOf t.number) late (happened_to time t JobEnds ∷ happened_to time t next ∷ []) (two_of time t JobEnds next)
@@ -129,19 +129,19 @@ of_segment time t late (Until u) = one_of time t JobEnds
 of_segment time t late WaitFor = one_of time t JobEnds
 of_segment time t late End = one_of time t JobEnds
 
-of_run : (time rate : ℕ) (t : Task) → All (IsOf t.number) (told_by_run time rate t)
+of_run : (time rate : ℕ) (t : Task) → All (IsOf t.number) (logged_by_run time rate t)
 of_run time rate t =
     let u : Task = record t { server = charged rate 1 t.server; work = t.work - 1 } in
     let e = time + 1 in
     let r = ran time rate t in
-    let by = told_by_segment e u (passes_late_timer t.cursor e) (next_segment t.cursor e).segment in
-    All-append (IsOf t.number) (told_by_work e u) (told_by_budget e r)
+    let by = logged_by_segment e u (passes_late_timer t.cursor e) (next_segment t.cursor e).segment in
+    All-append (IsOf t.number) (logged_by_work e u) (logged_by_budget e r)
     (all_if (IsOf t.number) (eqb u.work 0) by (of_segment e u (passes_late_timer t.cursor e) (next_segment t.cursor e).segment))
     (all_if (IsOf t.number) (is_throttled r.condition) (happened_to e r (Spent (due r)) ∷ [])
     (All-cons (IsOf t.number) (happened_to e r (Spent (due r))) [] (same_ran time rate t).number (All-nil (IsOf t.number))))
 
-of_ran : (e : Domain) (t : Task) → All (IsOf t.number) (told_if_ran e t)
-of_ran e t = all_if (IsOf t.number) (stands t.number e.curr) (told_by_run e.time (rate_of e t) t) (of_run e.time (rate_of e t) t)
+of_ran : (e : Domain) (t : Task) → All (IsOf t.number) (logged_if_ran e t)
+of_ran e t = all_if (IsOf t.number) (is_on_cpu t.number e.curr) (logged_by_run e.time (rate_of e t) t) (of_run e.time (rate_of e t) t)
 
 -- ---- in its order
 placed_first : (n : ℕ) (h : Happened) (hs : List Happened) → eqb h.number n ≡ true → All (IsBefore h) (of_task n hs) → of_task n (with_happened h hs) ≡ h ∷ of_task n hs
@@ -214,15 +214,15 @@ own_begun n d = own_map n (with_last_cpu (with_tick_begun d).curr) (λ t. (same_
 pub own_ticked : (n : ℕ) (d : Domain) → own n (ticked d).tasks ≡ map (ran_if (with_tick_begun d)) (own n (with_tick_begun d).tasks)
 own_ticked n d = own_map n (ran_if (with_tick_begun d)) (λ t. (same_ran_if (with_tick_begun d) t).number) (with_tick_begun d).tasks
 
-pub told_of_begin : (n : ℕ) (d : Domain) → of_task n (told_to_begin d) ≡ flat_map (told_by_replenishment d.time) (own n d.tasks) ++ told_to_wake d.time (map (replenish_due d.time) (own n d.tasks))
-told_of_begin n d =
+pub logged_of_begin : (n : ℕ) (d : Domain) → of_task n (logged_to_begin d) ≡ flat_map (logged_by_replenishment d.time) (own n d.tasks) ++ logged_to_wake d.time (map (replenish_due d.time) (own n d.tasks))
+logged_of_begin n d =
     let listed = filter is_listed (map (settled d.time) (map (replenish_due d.time) d.tasks)) in
-    let one = flat_map (told_by_replenishment d.time) d.tasks in
-    let two = flat_map (told_by_unblocking d.time) listed in
+    let one = flat_map (logged_by_replenishment d.time) d.tasks in
+    let two = flat_map (logged_by_unblocking d.time) listed in
     filter-append (λ (h : Happened). eqb h.number n) one two
-    ∙ ap (λ l. l ++ of_task n two) (own_told n (told_by_replenishment d.time) (of_replenishment d.time) d.tasks)
-    ∙ ap (λ l. flat_map (told_by_replenishment d.time) (own n d.tasks) ++ l)
-    (own_told n (told_by_unblocking d.time) (of_unblocking d.time) listed ∙ ap (flat_map (told_by_unblocking d.time)) (listed_map n d.time d.tasks))
+    ∙ ap (λ l. l ++ of_task n two) (own_logged n (logged_by_replenishment d.time) (of_replenishment d.time) d.tasks)
+    ∙ ap (λ l. flat_map (logged_by_replenishment d.time) (own n d.tasks) ++ l)
+    (own_logged n (logged_by_unblocking d.time) (of_unblocking d.time) listed ∙ ap (flat_map (logged_by_unblocking d.time)) (listed_map n d.time d.tasks))
 
-pub told_of_end : (n : ℕ) (e : Domain) → of_task n (flat_map (told_if_ran e) e.tasks) ≡ flat_map (told_if_ran e) (own n e.tasks)
-told_of_end n e = own_told n (told_if_ran e) (of_ran e) e.tasks
+pub logged_of_end : (n : ℕ) (e : Domain) → of_task n (flat_map (logged_if_ran e) e.tasks) ≡ flat_map (logged_if_ran e) (own n e.tasks)
+logged_of_end n e = own_logged n (logged_if_ran e) (of_ran e) e.tasks

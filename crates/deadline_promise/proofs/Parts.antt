@@ -3,7 +3,6 @@ use Rattle.std.proofs.Common.{◌≡◌, ℕ, zero, suc, ◌+◌, ◌-◌, ◌*�
 use Rattle.std.specs.Prelude.{ℤ, pos, negsuc, ◌-ℤ◌, ◌<ℤ◌, int_le, IsTrue, IsSome}
 use Rattle.std.proofs.lemmas.Bool.{false≢true}
 use Rattle.std.proofs.lemmas.Int.{ints}
-use Rattle.attr_check.specs.Ratio.{unit}
 use Rattle.attr_check.specs.ParamsView.{ParamsView}
 use Rattle.cbs_rules.specs.declared.server.Server.{Server}
 use Rattle.cbs_rules.specs.Budget.{budget, above_zero, below_zero}
@@ -19,6 +18,7 @@ use Rattle.domain_run.specs.Parts.{replenish_due, settled, enqueued, started, st
 use Rattle.deadline_promise.specs.Reach.{share_up, reach_from, reach_kept, reach_new, reach_resting, reach_in, reach}
 use Rattle.deadline_promise.proofs.Kept.{IsShare, IsWhole, IsPaced}
 use Rattle.deadline_promise.proofs.Reaching.{resting_kept, resting_bound, resting_later, renewed_reach, replenished_reach, less_reach, unit_reach}
+use Rattle.limits.specs.Limits.{unit}
 
 -- a server that takes no more than this until x
 abbrev pub Serves : ParamsView → ℕ → ℕ → Server → Type 0

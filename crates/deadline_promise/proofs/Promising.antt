@@ -4,7 +4,6 @@ use Rattle.std.specs.Prelude.{All}
 use Rattle.std.specs.List.{list_any}
 use Rattle.std.proofs.lemmas.Bool.{false≢true, ltb-false}
 use Rattle.std.proofs.lemmas.Option.{slice_get-get_or}
-use Rattle.attr_check.specs.Ratio.{unit}
 use Rattle.attr_check.specs.ParamsView.{ParamsView}
 use Rattle.domain_run.specs.declared.task.Task.{Task}
 use Rattle.domain_run.specs.Domain.{Domain}
@@ -21,6 +20,7 @@ use Rattle.deadline_promise.proofs.Opening.{IsOpened, run_opened}
 use Rattle.deadline_promise.proofs.Sums.{none_any}
 use Rattle.deadline_promise.proofs.Listing.{found_there}
 use Rattle.deadline_promise.proofs.Figuring.{never_late}
+use Rattle.limits.specs.Limits.{unit}
 
 -- ---- what the answer tested
 record DomainAllows (d : Domain) : Type 0 where

@@ -3,12 +3,12 @@ use Rattle.std.proofs.Common.{◌≡◌, ℕ, ◌+◌, ◌-◌, ◌*◌, ◌<◌
 use Rattle.std.specs.Prelude.{ℤ, pos, negsuc, nat_le}
 use Rattle.std.proofs.lemmas.Bool.{cond_both, leb-true, leb-false, ltb-true, ltb-false}
 use Rattle.std.proofs.Math.Nat.{mul-add, add-mul, mul-le-mul_left, mul-le-mul_right, mul_right_comm}
-use Rattle.attr_check.specs.Ratio.{unit}
 use Rattle.attr_check.specs.ParamsView.{ParamsView}
 use Rattle.cbs_rules.specs.Budget.{budget}
 use Rattle.cbs_rules.specs.Serving.{overflows}
 use Rattle.deadline_promise.specs.Reach.{share_up, due_by, reach_from, reach_kept, reach_new, reach_resting}
 use Rattle.deadline_promise.proofs.Kept.{IsShare, IsWhole}
+use Rattle.limits.specs.Limits.{unit}
 
 -- THE HEART: what is left beyond its share until the deadline, with the share of the rest of a
 -- period, is a whole budget

@@ -5,7 +5,7 @@ use Rattle.std.proofs.lemmas.List.{get_or-map, length-map}
 use Rattle.std.proofs.lemmas.List.Kept.{AllPairs-filter}
 use Rattle.cbs_rules.specs.declared.server.Server.{Server}
 use Rattle.cbs_rules.specs.Serving.{is_spent, woken}
-use Rattle.edf_pick.specs.Places.{Places, is_task, stands}
+use Rattle.edf_pick.specs.Places.{Places, is_task, is_on_cpu}
 use Rattle.task_script.specs.declared.script.Segment.{Segment}
 use Rattle.task_script.specs.declared.script.Segment.TheVariants.{Run as RunFor, Until, Wait as WaitFor, End}
 use Rattle.task_script.specs.script.Segments.{next_segment}
@@ -68,7 +68,7 @@ same_ran time rate t =
     same_either _ t _ _ (same_went_on (time + 1) _ t _ (record { number = refl; params = refl })) (record { number = refl; params = refl })
 
 pub same_ran_if : (d : Domain) (t : Task) → Same t (ran_if d t)
-same_ran_if d t = same_either (stands t.number d.curr) t _ t (same_ran d.time _ t) (same_itself t)
+same_ran_if d t = same_either (is_on_cpu t.number d.curr) t _ t (same_ran d.time _ t) (same_itself t)
 
 -- numbers stay apart
 AllPairs-map : {X : Type 0} (R : X → X → Type 0) (f : X → X) → ((a b : X) → R a b → R (f a) (f b)) → (xs : List X) → AllPairs R xs → AllPairs R (map f xs)

@@ -5,7 +5,7 @@ use Rattle.std.proofs.lemmas.Bool.{false≢true}
 use Rattle.std.proofs.lemmas.List.Elements.{All-head, All-tail, All-weaker}
 use Rattle.std.proofs.lemmas.List.Sums.{sum_by-cons}
 use Rattle.std.proofs.Math.Nat.{mul-le-mul_right}
-use Rattle.attr_check.specs.Ratio.{unit, cap}
+use Rattle.attr_check.specs.Ratio.{cap}
 use Rattle.attr_check.specs.ParamsView.{ParamsView, IsOrdered}
 use Rattle.cbs_rules.specs.declared.server.Server.{Server}
 use Rattle.grub_rules.specs.declared.share.Share.{Share}
@@ -25,6 +25,7 @@ use Rattle.deadline_promise.proofs.Ticking.{ticks_calm}
 use Rattle.deadline_promise.proofs.Owed.{demand}
 use Rattle.deadline_promise.proofs.Parts.{resting_reach}
 use Rattle.deadline_promise.proofs.Sums.{sum_shares}
+use Rattle.limits.specs.Limits.{unit}
 
 over : (m b : ℕ) → 0 < b → m < (m / b + 1) * b
 over m b some = omega (arith, some)

@@ -5,14 +5,13 @@ use Rattle.std.specs.List.{list_any}
 use Rattle.std.proofs.lemmas.Bool.{false≢true, leb-true, leb-false}
 use Rattle.std.proofs.lemmas.List.Elements.{All-map, All-filter, All-weaker}
 use Rattle.std.proofs.Math.Nat.{mul-le-mul_right}
-use Rattle.attr_check.specs.Ratio.{unit}
 use Rattle.attr_check.specs.ParamsView.{ParamsView}
 use Rattle.grub_rules.specs.Sums.{uinact}
 use Rattle.grub_rules.specs.Rate as reclaiming
 use Rattle.cbs_rules.specs.Budget.{above_zero}
 use Rattle.cbs_rules.specs.declared.server.Server.{Server}
 use Rattle.edf_pick.specs.declared.candidate.Candidate.{Candidate}
-use Rattle.edf_pick.specs.Places.{Places, is_task, stands, placed}
+use Rattle.edf_pick.specs.Places.{Places, is_task, is_on_cpu, placed}
 use Rattle.domain_run.specs.declared.task.Task.{Task}
 use Rattle.domain_run.specs.declared.task.Condition.{Condition}
 use Rattle.domain_run.specs.declared.task.Condition.TheVariants.{Ready, Throttled, Blocked, Waiting, Leaving}
@@ -26,10 +25,11 @@ use Rattle.deadline_promise.proofs.Kept.{IsPaced, IsFit, IsSet, IsCalm}
 use Rattle.deadline_promise.proofs.Reaching.{due, not_due, nothing, resting_bound}
 use Rattle.deadline_promise.proofs.Parts.{replenish_due_comes, settled_comes, unblocked_comes, homed_comes, later_reach, ran_comes, ran_unit_reach}
 use Rattle.deadline_promise.proofs.Fitting.{replenish_due_set, settled_set, unblocked_set, homed_set, ran_fit}
-use Rattle.deadline_promise.proofs.Choosing.{and_both, one_placed, first_stands, of_tasks}
+use Rattle.deadline_promise.proofs.Choosing.{and_both, one_placed, first_runs, of_tasks}
 use Rattle.deadline_promise.proofs.Same.{same_replenished, same_settled, same_unblocked, same_homed, same_ran_if, prepared_apart}
-use Rattle.deadline_promise.proofs.Standing.{standing_ready}
+use Rattle.deadline_promise.proofs.OnCpu.{running_ready}
 use Rattle.deadline_promise.proofs.Sums.{sum_less, sum_filter, sum_falls, sum_shares, sum_has, any_over, none_any}
+use Rattle.limits.specs.Limits.{unit}
 
 -- ---- parts 1 to 3
 
@@ -92,7 +92,7 @@ prepared_shares time ts =
 
 -- as part 6 finds it
 abbrev pub Running : Domain → Task → Type 0
-Running e t = IsPaced t × IsSet e.time t × (IsTrue (stands t.number e.curr) → IsTrue (is_ready t.condition))
+Running e t = IsPaced t × IsSet e.time t × (IsTrue (is_on_cpu t.number e.curr) → IsTrue (is_ready t.condition))
 
 homed_running : (e : Domain) (o : Option ℕ) (t : Task) → Running e t → Running e (with_cpu o t)
 homed_running e None t h = h
@@ -106,7 +106,7 @@ Done e x bound u = IsPaced u × IsFit u × (reach (e.time + 1) x u ≤ bound)
 
 pub ran_if_done : (e : Domain) (x : ℕ) (t : Task) → Running e t → Done e x (reach e.time x t) (ran_if e t)
 ran_if_done e x t h =
-    let b = stands t.number e.curr in
+    let b = is_on_cpu t.number e.curr in
     elim b as (λ y. b ≡ y → Done e x (reach e.time x t) (cond y (ran e.time (rate_of e t) t) t)) [
       | true ↦ λ s.
           let ready = h.2 s in
@@ -126,17 +126,17 @@ ready_contends (Blocked u) is = is
 ready_contends Waiting is = is
 ready_contends Leaving is = is
 
--- ready, due by x; and one that stands
+-- ready, due by x; and one that runs
 abbrev due_task : ℕ → Task → Bool
 due_task x t = is_ready t.condition && leb (unwrap_or t.server.deadline 0) x
 
 abbrev chosen_task : Places → ℕ → Task → Bool
-chosen_task places x t = is_ready t.condition && (stands t.number places && leb (unwrap_or t.server.deadline 0) x)
+chosen_task places x t = is_ready t.condition && (is_on_cpu t.number places && leb (unwrap_or t.server.deadline 0) x)
 
 ran_if_falls : (e : Domain) (x : ℕ) (t : Task) → Running e t → chosen_task e.curr x t ≡ true → reach (e.time + 1) x (ran_if e t) + unit ≤ reach e.time x t
 ran_if_falls e x t h is =
-    let a = and_both (is_ready t.condition) (stands t.number e.curr && leb (unwrap_or t.server.deadline 0) x) is in
-    let b = and_both (stands t.number e.curr) (leb (unwrap_or t.server.deadline 0) x) a.1 in
+    let a = and_both (is_ready t.condition) (is_on_cpu t.number e.curr && leb (unwrap_or t.server.deadline 0) x) is in
+    let b = and_both (is_on_cpu t.number e.curr) (leb (unwrap_or t.server.deadline 0) x) a.1 in
     let d = has_deadline t.server.deadline x (h.0.dated (ready_contends t.condition a.0)) b.1 in
     let falls = ran_unit_reach e.time x d.0 t h.0 a.0 d.1 d.2 (h.1.fit.lifted a.0) in
     let same : ran_if e t ≡ ran e.time unit t = ap (λ s. cond s (ran e.time (rate_of e t) t) t) b.0 ∙ ap (λ r. ran e.time r t) (rate_plain e t h.0) in
@@ -164,7 +164,7 @@ throttled_reach p time x (Some d) s none ahead = ahead_reach p time x (Some d) (
 ran_if_low : (e : Domain) (x : ℕ) (t : Task) → Running e t → due_task x t ≡ false → reach (e.time + 1) x (ran_if e t) ≤ share_up t.params * (x - (e.time + 1))
 ran_if_low e x t h none =
     let done = ran_if_done e x t h in
-    let stays : stands t.number e.curr ≡ false → ran_if e t ≡ t = λ s. ap (λ b. cond b (ran e.time (rate_of e t) t) t) s in
+    let stays : is_on_cpu t.number e.curr ≡ false → ran_if e t ≡ t = λ s. ap (λ b. cond b (ran e.time (rate_of e t) t) t) s in
     let most = share_up t.params * (x - (e.time + 1)) in
     let p = t.params in
     let s = t.server in
@@ -181,9 +181,9 @@ ran_if_low e x t h none =
       | Leaving ↦ λ is. omega (arith, ap (reach (e.time + 1) x) (stays (not_ready Leaving is refl)), ap (reach_in (e.time + 1) x p s) is)
     ] refl
   where
-    not_ready : (c : Condition) → t.condition ≡ c → is_ready c ≡ false → stands t.number e.curr ≡ false
+    not_ready : (c : Condition) → t.condition ≡ c → is_ready c ≡ false → is_on_cpu t.number e.curr ≡ false
     not_ready c is other =
-        elim (stands t.number e.curr) as (λ b. stands t.number e.curr ≡ b → b ≡ false) [
+        elim (is_on_cpu t.number e.curr) as (λ b. is_on_cpu t.number e.curr ≡ b → b ≡ false) [
           | true ↦ λ y. absurd (false≢true (sym other ∙ sym (ap is_ready is) ∙ h.2 y))
           | false ↦ λ y. refl
         ] refl
@@ -205,9 +205,9 @@ chosen_there d x is some =
     let one = any_over (with_last_cpu places) (due_task x) (λ t. homed_due x (position (is_task t.number) places) t) ts in
     let two = any_over (with_last_cpu places) (chosen_task places x) (λ t. homed_chosen places x (position (is_task t.number) places) t) ts in
     let there : list_any (λ (c : Candidate). leb c.deadline x) (candidates ts) ≡ true = of_tasks (λ c. leb c.deadline x) ts ∙ sym one ∙ some in
-    let stand : list_any (λ (c : Candidate). stands c.number places && leb c.deadline x) (candidates ts) ≡ true =
-    subst (λ n. list_any (λ (c : Candidate). stands c.number (placed n (candidates ts) d.curr) && leb c.deadline x) (candidates ts) ≡ true) (sym is.one) (first_stands x (candidates ts) d.curr is.wide there) in
-    two ∙ sym (of_tasks (λ c. stands c.number places && leb c.deadline x) ts) ∙ stand
+    let on_one : list_any (λ (c : Candidate). is_on_cpu c.number places && leb c.deadline x) (candidates ts) ≡ true =
+    subst (λ n. list_any (λ (c : Candidate). is_on_cpu c.number (placed n (candidates ts) d.curr) && leb c.deadline x) (candidates ts) ≡ true) (sym is.one) (first_runs x (candidates ts) d.curr is.wide there) in
+    two ∙ sym (of_tasks (λ c. is_on_cpu c.number places && leb c.deadline x) ts) ∙ on_one
 
 pub begun_running : (d : Domain) → IsCalm d → All (Running (with_tick_begun d)) (with_tick_begun d).tasks
 begun_running d is =
@@ -216,9 +216,9 @@ begun_running d is =
     let e = with_tick_begun d in
     let between : All Between d.tasks = λ k x h. (is.paced k x h, is.fit k x h) in
     let within = prepared_within d.time d.tasks between in
-    let ready : All (λ t. IsTrue (stands t.number places) → IsTrue (is_ready t.condition)) ts =
-    subst (λ n. All (λ t. IsTrue (stands t.number (placed n (candidates ts) d.curr)) → IsTrue (is_ready t.condition)) ts) (sym is.one)
-    (standing_ready ts d.curr is.wide (prepared_apart d.time d.tasks is.numbered)) in
+    let ready : All (λ t. IsTrue (is_on_cpu t.number places) → IsTrue (is_ready t.condition)) ts =
+    subst (λ n. All (λ t. IsTrue (is_on_cpu t.number (placed n (candidates ts) d.curr)) → IsTrue (is_ready t.condition)) ts) (sym is.one)
+    (running_ready ts d.curr is.wide (prepared_apart d.time d.tasks is.numbered)) in
     All-map (Running e) (with_last_cpu places) ts (λ k x h. let t = get_or ts k x in let w = within k x h in homed_running e (position (is_task t.number) places) t (w.0, w.1, ready k x h))
 
 begun_reach : (d : Domain) (x : ℕ) → IsCalm d → sum_by (reach d.time x) (with_tick_begun d).tasks ≤ sum_by (reach d.time x) d.tasks

@@ -1,7 +1,6 @@
 -- The answer for a task: never late, or the first reason why that is not promised (own).
 use Rattle.std.specs.Prelude.{ℕ, ◌+◌, ◌<◌, ◌≡◌, ◌==◌, Bool, true, false, nat_lt, if◌then◌else◌, List, All, length, find, Option, Some, None}
 use Rattle.std.specs.List.{list_any}
-use Rattle.attr_check.specs.Ratio.{unit}
 use Rattle.attr_check.specs.ParamsView.{ParamsView}
 use Rattle.domain_run.specs.declared.task.Task.{Task}
 use Rattle.domain_run.specs.declared.call.Call.{Call}
@@ -12,6 +11,7 @@ use Rattle.deadline_promise.specs.declared.answer.Promise.{Promise}
 use Rattle.deadline_promise.specs.declared.answer.Promise.TheVariants.{NeverLate, Refused, SeveralCpus, Reclaiming, ShortDeadline, FullLimit, OverBudget, NearReleases, MixedWaits}
 use Rattle.deadline_promise.specs.Demand.{IsDemand}
 use Rattle.deadline_promise.specs.Promise.{IsSoundAdmission, KeepsPromise}
+use Rattle.limits.specs.Limits.{unit}
 
 -- a stretch of work is above the runtime; work without end is
 abbrev pub is_over_budget : ℕ → Option ℕ → Bool

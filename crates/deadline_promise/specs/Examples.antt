@@ -18,7 +18,7 @@ use Rattle.run_figures.specs.Jobs.{jobs_of}
 use Rattle.run_figures.specs.Figures.{is_late}
 use Rattle.deadline_promise.specs.Reach.{share_up, reach_in, reach}
 use Rattle.deadline_promise.specs.KeptBudget.{work_from}
-use Rattle.deadline_promise.specs.Promise.{due_left, told_of_run}
+use Rattle.deadline_promise.specs.Promise.{due_left, logged_of_run}
 
 -- HALF A CPU, rounded up
 half : share_up (plain 4 8 8) ≡ 524289
@@ -76,7 +76,7 @@ two =
 
 abbrev late : ℕ → ℕ → List Call → ℕ → ℕ → ℕ
 late cpus limit calls n number =
-    count_by (is_late n) (jobs_of (told_of_run cpus limit calls n) number)
+    count_by (is_late n) (jobs_of (logged_of_run cpus limit calls n) number)
 
 -- until 8 both may take 3 us; after 2 ticks 1 us and 3 us are left, due at 8
 reach_at_0 : sum_by (reach 0 8) (run_of 1 996147 two).tasks ≡ 6291456

@@ -1,7 +1,6 @@
 -- THE PROMISE: on one CPU a task that keeps its budget is never late, whatever the others do (own;
 -- the isolation of constant bandwidth servers, under earliest deadline first).
 use Rattle.std.specs.Prelude.{ℕ, ◌+◌, ◌-◌, ◌*◌, ◌≤◌, ◌≡◌, false, ◌&&◌, if◌then◌else◌, List, [], ◌∷◌, ◌++◌, All, length, sum_by, None, IfSome}
-use Rattle.attr_check.specs.Ratio.{unit}
 use Rattle.attr_check.specs.ParamsView.{IsOrdered}
 use Rattle.cbs_rules.specs.Budget.{above_zero}
 use Rattle.task_script.specs.script.ScriptView.{IsScript}
@@ -13,7 +12,7 @@ use Rattle.domain_run.specs.Conditions.{is_ready, has_come}
 use Rattle.domain_run.specs.Domain.{empty_domain}
 use Rattle.domain_run.specs.Tick.{ticks}
 use Rattle.domain_run.specs.Run.{run_of}
-use Rattle.domain_run.specs.Happened.{told_by_calls}
+use Rattle.domain_run.specs.Happened.{logged_by_calls}
 use Rattle.run_figures.specs.declared.job.Job.{Job}
 use Rattle.run_figures.specs.declared.run.Admitted.{Admitted}
 use Rattle.run_figures.specs.Jobs.{jobs_of}
@@ -21,6 +20,7 @@ use Rattle.run_figures.specs.Runs.{RunView}
 use Rattle.run_figures.specs.Figures.{figures_of}
 use Rattle.deadline_promise.specs.Reach.{IsUncrowded}
 use Rattle.deadline_promise.specs.KeptBudget.{KeepsBudget}
+use Rattle.limits.specs.Limits.{unit}
 
 -- a call that asks for the admission of a task, with parameters and a script within their limits
 abbrev pub IsSoundAdmission : Call → Type 0
@@ -62,21 +62,22 @@ pub record IsInTime (time period : ℕ) (job : Job) : Type 0 where
   pub ended : IfSome job.ended (λ e. e ≤ job.deadline)
   pub under_way : job.ended ≡ None → time ≤ job.deadline
 
--- what a run of these calls and n ticks tells
-abbrev pub told_of_run : ℕ → ℕ → List Call → ℕ → List Happened
-told_of_run cpus limit calls n = told_by_calls (empty_domain cpus limit) (calls ++ Advance n ∷ [])
+-- what a run of these calls and n ticks logs
+abbrev pub logged_of_run : ℕ → ℕ → List Call → ℕ → List Happened
+logged_of_run cpus limit calls n = logged_by_calls (empty_domain cpus limit)
+    (calls ++ Advance n ∷ [])
 
--- the figures of a task, of any run that was told this and ends then
+-- the figures of a task, of any run that has logged this and ends then
 abbrev pub NoneLate : ℕ → ℕ → List Happened → Type 0
-NoneLate time number told =
-    (run : RunView) (task : Admitted) → run.time ≡ time → run.happened ≡ told
+NoneLate time number logged =
+    (run : RunView) (task : Admitted) → run.time ≡ time → run.happened ≡ logged
     → task.number ≡ number → (figures_of run task).late ≡ 0
 
 -- NEVER LATE: after n ticks, all jobs of a task whose script keeps its budget are in time, and none
 -- is late in its figures
 pub record KeepsPromise (cpus limit : ℕ) (calls : List Call) (n : ℕ) (t : Task) : Type 0 where
-  pub jobs : All (IsInTime n t.params.period) (jobs_of (told_of_run cpus limit calls n) t.number)
-  pub figures : NoneLate n t.number (told_of_run cpus limit calls n)
+  pub jobs : All (IsInTime n t.params.period) (jobs_of (logged_of_run cpus limit calls n) t.number)
+  pub figures : NoneLate n t.number (logged_of_run cpus limit calls n)
 
 abbrev pub IsNeverLate : Type 0
 IsNeverLate =

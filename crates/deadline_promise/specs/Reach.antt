@@ -1,7 +1,6 @@
 -- How much of its CPU a task may still take until a time x, seen at a time (own; after the demand
 -- of constant bandwidth servers). All of it is in 1/2^20 us.
 use Rattle.std.specs.Prelude.{ℕ, ℤ, ◌+◌, ◌-◌, ◌*◌, ◌≤◌, nat_le, if◌then◌else◌, sum_by, Option, Some, None}
-use Rattle.attr_check.specs.Ratio.{unit}
 use Rattle.attr_check.specs.ParamsView.{ParamsView}
 use Rattle.cbs_rules.specs.declared.server.Server.{Server}
 use Rattle.cbs_rules.specs.Budget.{budget, above_zero}
@@ -10,6 +9,7 @@ use Rattle.domain_run.specs.declared.task.Task.{Task}
 use Rattle.domain_run.specs.declared.task.Condition.{Condition}
 use Rattle.domain_run.specs.declared.task.Condition.TheVariants.{Ready, Throttled, Blocked, Waiting, Leaving}
 use Rattle.domain_run.specs.Domain.{Domain}
+use Rattle.limits.specs.Limits.{unit}
 
 -- its bandwidth, rounded up: share_up * period is at least a whole budget
 abbrev pub share_up : ParamsView → ℕ

@@ -4,6 +4,7 @@ ghost use Rattle.std.specs.Prelude.{◌≡◌, ◌≤◌, ◌^◌, All, IfSome, 
 ghost use Rattle.task_script.specs.script.ScriptView.{IsEvent, IsPhase};
 ghost use Rattle.deadline_promise.specs.Demand.{IsDemand};
 ghost use Rattle.deadline_promise.specs.private.Spans as spans;
+ghost use Rattle.limits.specs.Limits.{max_script_number};
 
 use crate::blocks::Blocks;
 use crate::span::Span;
@@ -56,7 +57,7 @@ fn span_of_round(phases: &[Phase]) -> Span
 
 fn rounds_of(script: &Script) -> Option<u64>
     ensures rounds { result ≡ script.now.rounds }
-    ensures few { IfSome result (λ n. n ≤ 1000000000) }
+    ensures few { IfSome result (λ n. n ≤ max_script_number) }
 {
     // For the prover alone: a look into it brings what its type keeps.
     let _ = script.phases();
@@ -66,7 +67,7 @@ fn rounds_of(script: &Script) -> Option<u64>
 
 fn work_max(round: Span, rounds: Option<u64>) -> Option<u128>
     requires small { spans.IsSmallSpan (2 ^ 72) round }
-    requires few { IfSome rounds (λ n. n ≤ 1000000000) }
+    requires few { IfSome rounds (λ n. n ≤ max_script_number) }
     ensures { result ≡ spans.work_max_by rounds round }
 {
     match rounds {

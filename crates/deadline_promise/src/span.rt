@@ -3,6 +3,7 @@
 
 ghost use Rattle.std.specs.Prelude.{◌≡◌, ◌≤◌, ◌^◌};
 ghost use Rattle.deadline_promise.specs.private.Spans as spec;
+ghost use Rattle.limits.specs.Limits.{max_script_number};
 
 use task_script::Event;
 
@@ -108,7 +109,7 @@ impl Span {
     /// So many times over, at least once.
     pub fn times(self, count: u64) -> Span
         requires small { spec.IsSmallSpan (2 ^ 90) self }
-        requires count { count ≤ 1000000000 }
+        requires count { count ≤ max_script_number }
         ensures { result ≡ spec.span_times self count }
     {
         if self.free {

@@ -12,7 +12,8 @@ use Rattle.call_book.specs.Book.{BookView, own_entries}
 use Rattle.call_book.specs.Playing.{PlayingView}
 use Rattle.calls_trace.specs.declared.fault.TraceFault.{TraceFault}
 use Rattle.calls_trace.specs.declared.fault.TraceFault.TheVariants as traces
-use Rattle.calls_trace.specs.Told.{told_of}
+use Rattle.calls_trace.specs.Charted.{last_time}
+use Rattle.calls_trace.specs.DomainEvents.{logged_of}
 use Rattle.calls_trace.specs.Written.{IsWritten, IsUnwritten}
 use Rattle.session.specs.declared.refusal.Refusal.{Refusal}
 use Rattle.session.specs.declared.report.Report.{Report}
@@ -24,23 +25,23 @@ use Rattle.session.specs.SessionId.{SessionId, IsDomainIndex}
 use Rattle.session.specs.Asks.{ClientView, client_pass_in}
 use Rattle.session.specs.Begun.{UnderWayView, section_of, IsRunBegun}
 use Rattle.session.specs.Report.{IsHistoryOf, IsLeft}
-use Rattle.session.specs.RunEnd.{FirstIsOne, EndsWith, IsFinished, IsFullWith, IsRunStopped, told_at_end}
+use Rattle.session.specs.RunEnd.{FirstIsOne, EndsWith, IsFinished, IsFullWith, IsRunStopped, logged_at_end}
 use Rattle.dl_session.specs.declared.fault.SessionFault.{SessionFault}
 use Rattle.dl_session.specs.declared.fault.SessionFault.TheVariants as faults
 use Rattle.dl_session.specs.Upward.{of_end, from_trace, IsUnasked}
 use Rattle.dl_session.specs.FullBook.{IsFullDomain}
 use Rattle.dl_session.specs.private.Asked.{HaveAsked, AnswerTasks, IsRunWritten, IsRunUnwritten}
-use Rattle.dl_session.specs.private.PlayedBooks.{played_histories, AreLogging, AreReady, TellsAll}
+use Rattle.dl_session.specs.private.PlayedBooks.{played_histories, AreLogging, AreReady, LogsAll}
 use Rattle.dl_session.specs.private.Printing.{IsMadeText, IsWrittenAs, IsUnwrittenAs}
 use Rattle.dl_session.specs.private.Running.{AreLeftAs}
-use Rattle.dl_session.specs.private.Telling.{told_text, print_of}
-use Rattle.dl_session.specs.declared.telling.Telling.{Telling}
-use Rattle.dl_session.specs.declared.telling.Telling.TheVariants as tellings
+use Rattle.dl_session.specs.private.HistoryText.{logged_text, print_of}
+use Rattle.dl_session.specs.declared.history_text.HistoryText.{HistoryText}
+use Rattle.dl_session.specs.declared.history_text.HistoryText.TheVariants as tellings
 use Rattle.dl_session.proofs.ScenarioLaw.{answers_all, answers_tasks}
 use Rattle.dl_session.specs.private.Streaming.{streamed_print, streamed_text}
 use Rattle.dl_session.specs.declared.streaming.Streaming.{Streaming}
 use Rattle.dl_session.specs.declared.streaming.Streaming.TheVariants as streams
-use Rattle.dl_session.proofs.Logged.{left_as, section_tells}
+use Rattle.dl_session.proofs.LoggedRun.{left_as, left_of_run, section_logs, sections_last}
 use Rattle.dl_session.proofs.PlayedRuns.{history_at}
 
 -- ---- the clients
@@ -142,30 +143,30 @@ begun_ready id tasks duration logs es refused books rest few short asked begun =
     let are = begun_answers id tasks duration logs es refused books rest asked begun in
     let many = ap (λ (bs : List BookView). length bs) begun.same in
     let long = length-map books (λ (p : PlayingView). p.book) in
-    let tells : (d : ℕ) (p : PlayingView) → d < length books → TellsAll (get_or books d p) = λ d p inside.
+    let has_logged : (d : ℕ) (p : PlayingView) → d < length books → LogsAll (get_or books d p) = λ d p inside.
     let q = get_or books d p in
     let h = section_of q.book in
     let there : d < length id.cpu_sets = omega (arith, inside, begun.count, many, long) in
     let place : d < length (map section_of rest.books) = omega (arith, there, count) in
     let at : get_or (map section_of rest.books) d h ≡ h = ap (λ (hs : List SectionView). get_or hs d h) same ∙ history_at books d p h inside in
-    let ends = begun.tell d p inside in
+    let ends = begun.say d p inside in
     record {
       few = omega (arith, ends.most, short);
-      all = ends.tells ∙ sym (subst (λ (s : SectionView). told_of s ≡ told_at_end duration s.cpus s.limit s.entries) at
-          (section_tells id id.clients tasks duration (map section_of rest.books) refused are.count are.legal are.answers d h there));
+      all = ends.has_logged ∙ sym (subst (λ (s : SectionView). logged_of s ≡ logged_at_end duration s.cpus s.limit s.entries) at
+          (section_logs id id.clients tasks duration (map section_of rest.books) refused are.count are.legal are.answers d h there));
     } in
     record {
       few = omega (arith, few, begun.count, many, long);
       sections = subst (All IsSection) same sections;
       legal = subst AreLegal same lawful;
       whole = begun.whole;
-      untold = λ d p inside. (begun.untold d p inside).told;
-      tell = tells;
+      unlogged = λ d p inside. (begun.unlogged d p inside).logged;
+      say = has_logged;
     }
 
 -- what happens in them is logged where it is wanted
 pub begun_logged : (id : SessionId) (duration : ℕ) (logs : Bool) (es : List ClientView) (books : List PlayingView) (rest : UnderWayView) → IsRunBegun id duration logs es books rest → AreLogging logs books
-begun_logged id duration logs es books rest begun d p inside = (begun.untold d p inside).logs
+begun_logged id duration logs es books rest begun d p inside = (begun.unlogged d p inside).logs
 
 pub begun_legal : (id : SessionId) (duration : ℕ) (logs : Bool) (es : List ClientView) (books : List PlayingView) (rest : UnderWayView) → IsRunBegun id duration logs es books rest → AreLegal (map section_of rest.books)
 begun_legal id duration logs es books rest begun =
@@ -187,10 +188,17 @@ finished_answers id tasks duration wanted es refused f asked finished =
     }
 
 pub finished_left : (id : SessionId) (tasks : List TaskSpecView) (duration : ℕ) (wanted : Wanted) (es : List ClientView) (refused : List (ℕ × Refusal)) (f : Finished)
-    → HaveAsked id tasks es refused → IsFinished id duration wanted es f → AreLeftAs wanted f.report.histories.items f.states.items f.logs.items f.heard.items
+    → HaveAsked id tasks es refused → IsFinished id duration wanted es f → AreLeftAs wanted f.report.histories.items (left_of_run f)
 finished_left id tasks duration wanted es refused f asked finished =
     let are = finished_answers id tasks duration wanted es refused f asked finished in
     left_as id id.clients tasks duration wanted f refused are.count are.legal are.answers finished.left
+
+-- all runs end after the whole duration
+pub finished_lasts : (id : SessionId) (tasks : List TaskSpecView) (duration : ℕ) (wanted : Wanted) (es : List ClientView) (refused : List (ℕ × Refusal)) (f : Finished)
+    → 0 < length id.cpu_sets → HaveAsked id tasks es refused → IsFinished id duration wanted es f → last_time f.report.histories.items ≡ duration
+finished_lasts id tasks duration wanted es refused f some asked finished =
+    let are = finished_answers id tasks duration wanted es refused f asked finished in
+    sections_last id id.clients tasks duration f.report.histories.items refused some are.count are.legal are.answers
 
 -- ---- histories that answer the tasks
 
@@ -238,9 +246,9 @@ is_unwritten id tasks duration print refused hs w text (traces.Write n) f are sa
 is_unwritten id tasks duration print refused hs w text traces.Memory f are said unwritten is = subst (IsRunUnwritten id tasks duration print w) (sym is) unwritten
 
 -- the text of histories is what is printed
-pub told_as : (telling : Telling) (tasks : List TaskSpecView) (hs : List SectionView) → IsMadeText (print_of telling) tasks hs (told_text telling hs)
-told_as tellings.Calls tasks hs = refl
-told_as tellings.Replies tasks hs = refl
+pub logged_as : (history_text : HistoryText) (tasks : List TaskSpecView) (hs : List SectionView) → IsMadeText (print_of history_text) tasks hs (logged_text history_text hs)
+logged_as tellings.Calls tasks hs = refl
+logged_as tellings.Replies tasks hs = refl
 
 -- the text that is written while the run is made is what is printed
 pub streamed_as : (streaming : Streaming) (tasks : List TaskSpecView) (hs : List SectionView) → IsMadeText (streamed_print streaming) tasks hs (streamed_text streaming hs)

@@ -51,8 +51,8 @@ IsWithin most d = (cap d.cpus d.limit ≡ most) × (sum_of d.tasks ≤ most)
 
 capped_one : (most : ℕ) (d : Domain) (call : Call) (reply : Option Reply) → IsWithin most d → reply ≡ Some (reply_to d call) → IsCapped most call reply
 capped_one most d call reply is first = λ a seen same said.
-    let told : reply_to d call ≡ Busy seen = same_Some _ _ (sym first ∙ said) in
-    let busy : reply_to d (admission a) ≡ Busy seen = subst (λ (c : Call). reply_to d c ≡ Busy seen) same told in
+    let logged : reply_to d call ≡ Busy seen = same_Some _ _ (sym first ∙ said) in
+    let busy : reply_to d (admission a) ≡ Busy seen = subst (λ (c : Call). reply_to d c ≡ Busy seen) same logged in
     let lacks = admit_busy d a.number a.params seen (subst (λ (n : ℕ). sum_of d.tasks ≤ n) (sym is.0) is.1) busy in
     (subst (λ (n : ℕ). seen ≤ n) is.0 lacks.within, subst (λ (n : ℕ). n < seen + a.params.bw) is.0 lacks.above)
 
@@ -129,8 +129,8 @@ answer_capped id d t (Ok (Busy seen)) capped = λ goes.
     let a : AdmissionView = record { number = t.number; name = t.name; params = params_of t.attr; delay = t.delay; script = t.script } in
     let there : made_at d (domain_with_cpus id.cpu_sets t.cpus) (admit_call t) (Ok (Busy seen)) ≡ Some m =
     ap (λ (o : Option ℕ). made_at d o (admit_call t) (Ok (Busy seen))) goes.domain ∙ ap (λ (b : Bool). cond b (Some m) None) (eq-eqb d d refl) in
-    let told = capped m there a seen refl refl in
-    record { within = told.0; above = told.1 }
+    let logged = capped m there a seen refl refl in
+    record { within = logged.0; above = logged.1 }
 answer_capped id d t (Ok Admitted) capped = tt
 answer_capped id d t (Ok Changed) capped = tt
 answer_capped id d t (Ok Woken) capped = tt

@@ -13,7 +13,7 @@ use Rattle.deadline_promise.specs.declared.answer.Promise.{Promise}
 use Rattle.deadline_promise.specs.declared.answer.Promise.TheVariants.{NeverLate}
 use Rattle.deadline_promise.specs.Demand.{IsDemand}
 use Rattle.deadline_promise.specs.Answer.{promise_if_listed, promise_to, IsPromiseKept}
-use Rattle.deadline_promise.specs.Promise.{IsSoundAdmission, KeepsPromise, NoneLate, told_of_run}
+use Rattle.deadline_promise.specs.Promise.{IsSoundAdmission, KeepsPromise, NoneLate, logged_of_run}
 use Rattle.figure_text.specs.Promises.{PromiseView}
 use Rattle.rtapp_scenario.specs.ScenarioView.{TaskSpecView}
 use Rattle.calls_text.specs.declared.section.Entry.{Entry}
@@ -109,7 +109,7 @@ sound_of tasks c of call =
 
 history_keeps : (tasks : List TaskSpecView) (h : SectionView) (t : TaskSpecView) (k : ℕ) (demand : Demand) → IsPromiseKept → AreFrom 1 tasks → slice_get tasks k ≡ Some t
     → 0 < h.cpus → All IsEntry h.entries → All (λ e. IsOfTask tasks e.call) h.entries → IsDemand t.script demand → promise_to (run_in h) t.number demand ≡ NeverLate
-    → (n : ℕ) → NoneLate n t.number (told_of_run h.cpus h.limit (calls_of h.entries) n)
+    → (n : ℕ) → NoneLate n t.number (logged_of_run h.cpus h.limit (calls_of h.entries) n)
 history_keeps tasks h t k demand kept numbered at some entries of asks answer n =
     let calls = calls_of h.entries in
     let d = run_of h.cpus h.limit calls in
@@ -133,7 +133,7 @@ history_keeps tasks h t k demand kept numbered at some entries of asks answer n 
     (kept h.cpus h.limit n calls demand some sound here.at here.task inside)
     (subst (λ s. IsDemand s demand) (sym script) asks)
     (ap (λ (m : ℕ). promise_to d m demand) here.number_is ∙ answer) in
-    subst (λ (m : ℕ). NoneLate n m (told_of_run h.cpus h.limit calls n)) here.number_is keeps.figures
+    subst (λ (m : ℕ). NoneLate n m (logged_of_run h.cpus h.limit calls n)) here.number_is keeps.figures
 
 -- ---- of a run without an advance
 

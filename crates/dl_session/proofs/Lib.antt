@@ -1,4 +1,4 @@
-pub mod Told
+pub mod DomainEvents
 pub mod ScenarioLaw
 pub mod OrderAdmissions
 pub mod OrderRuns
@@ -7,7 +7,7 @@ pub mod OrderVerdicts
 pub mod OrderSplit
 pub mod ByCap
 pub mod OrderLaw
-pub mod Logged
+pub mod LoggedRun
 pub mod WrittenAs
 pub mod PrintedAs
 pub mod Checked
@@ -17,6 +17,6 @@ pub mod Rows
 pub mod KeptPromises
 pub mod Answering
 pub mod PlayedRuns
-pub mod ToldRuns
+pub mod EventRuns
 pub mod Ran
 pub mod Endings

@@ -51,9 +51,9 @@ pub granted_entries : (client seq : ℕ) (made : List Made) → granted_calls (e
 granted_entries client seq [] = refl
 granted_entries client seq (m ∷ made) =
     let e : Entry = record { client = client; seq = seq; call = m.call; reply = Some m.reply } in
-    let behind = filter (λ (x : Entry). was_admitted x.reply) (entries_from client (seq + 1) made) in
+    let following = filter (λ (x : Entry). was_admitted x.reply) (entries_from client (seq + 1) made) in
     let left = filter (λ (x : Made). is_admitted_reply x.reply) made in
-    elim (is_admitted_reply m.reply) as (λ b. map (λ (x : Entry). x.call) (cond b (e ∷ behind) behind) ≡ map (λ (x : Made). x.call) (cond b (m ∷ left) left)) [
+    elim (is_admitted_reply m.reply) as (λ b. map (λ (x : Entry). x.call) (cond b (e ∷ following) following) ≡ map (λ (x : Made). x.call) (cond b (m ∷ left) left)) [
       | true ↦ ap (λ (cs : List Call). m.call ∷ cs) (granted_entries client (seq + 1) made)
       | false ↦ granted_entries client (seq + 1) made
     ]

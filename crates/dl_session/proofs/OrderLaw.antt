@@ -1,4 +1,5 @@
--- THE ORDER OF ADMISSIONS: the trace of a run is that of its admitted tasks entered in their order, and then the advance.
+-- THE ORDER OF ADMISSIONS: the trace of a run is that of its admitted tasks entered in their order,
+-- and then the advance.
 use Rattle.std.proofs.Common.{◌≡◌, ℕ, suc, ◌+◌, ◌<◌, List, [], ◌∷◌, ◌++◌, length, map, get_or, refl, sym, ap, ◌∙◌, subst, arith}
 use Rattle.std.specs.Prelude.{All}
 use Rattle.std.proofs.lemmas.List.{map-append, get_or-map, length-map}

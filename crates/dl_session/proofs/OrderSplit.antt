@@ -21,7 +21,7 @@ use Rattle.dl_session.proofs.OrderRuns.{order_free, IsListing, listing_run, was_
 use Rattle.dl_session.proofs.OrderEntries.{granted_both}
 use Rattle.dl_session.proofs.OrderVerdicts.{others, others_both, one_if, all_verdicts}
 
--- ---- calls behind calls
+-- ---- calls after calls
 
 pub after_both : (d : Domain) (xs ys : List Call) → after_calls d (xs ++ ys) ≡ after_calls (after_calls d xs) ys
 after_both d [] ys = refl
@@ -119,7 +119,7 @@ pub record ShowSame (start : Domain) (xs ys : List Call) : Type 0 where
   pub switches : (after_calls start xs).switches ≡ (after_calls start ys).switches
   pub named : (names : ℕ → List ℕ) → names_of start xs names ≡ names_of start ys names
 
--- a legal history shows what its granted admissions show in any order, with the advance behind them
+-- a legal history shows what its granted admissions show in any order, with the advance after them
 pub shows_same : (start : Domain) (duration : ℕ) (history : List Entry) (calls : List Call) → IsListing start → IsSplit start duration history → Reordered (granted_calls history) calls
     → ShowSame start (calls_of history) (calls ++ last_calls duration)
 shows_same start duration history calls is parts r =

@@ -40,9 +40,9 @@ others_entries : (client seq : ℕ) (made : List Made) → others (entries_from 
 others_entries client seq [] = refl
 others_entries client seq (m ∷ made) =
     let e : Entry = record { client = client; seq = seq; call = m.call; reply = Some m.reply } in
-    let behind = filter (λ (x : Entry). not (is_verdict x.reply)) (entries_from client (seq + 1) made) in
+    let following = filter (λ (x : Entry). not (is_verdict x.reply)) (entries_from client (seq + 1) made) in
     let left = filter (λ (x : Made). not (is_verdict (Some x.reply))) made in
-    elim (not (is_verdict (Some m.reply))) as (λ b. length (cond b (e ∷ behind) behind) ≡ length (cond b (m ∷ left) left)) [
+    elim (not (is_verdict (Some m.reply))) as (λ b. length (cond b (e ∷ following) following) ≡ length (cond b (m ∷ left) left)) [
       | true ↦ ap suc (others_entries client (seq + 1) made)
       | false ↦ others_entries client (seq + 1) made
     ]

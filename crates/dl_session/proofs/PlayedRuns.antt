@@ -26,7 +26,7 @@ use Rattle.dl_session.specs.declared.streaming.Streaming.{Streaming}
 use Rattle.dl_session.specs.declared.streaming.Streaming.TheVariants as streams
 use Rattle.dl_session.specs.private.Named.{AreAllNamed}
 use Rattle.dl_session.specs.private.Streaming.{AreCountable}
-use Rattle.dl_session.proofs.ToldRuns.{events_few}
+use Rattle.dl_session.proofs.EventRuns.{events_few}
 use Rattle.dl_session.specs.private.PlayedBooks.{played_slices, played_book, played_histories, IsNamedBook, AreReady}
 
 -- ---- a book

@@ -7,7 +7,7 @@ use Rattle.json_order.specs.declared.fault.JsonFault.{JsonFault}
 use Rattle.json_order.specs.declared.fault.JsonKind.TheVariants as kinds
 use Rattle.rtapp_scenario.specs.ScenarioView.{TaskSpecView, ScenarioView}
 use Rattle.rtapp_scenario.specs.Scenario.{parsed}
-use Rattle.rtapp_scenario.specs.Told as profile
+use Rattle.rtapp_scenario.specs.FaultText as profile
 use Rattle.rtapp_scenario.specs.declared.fault.ScenarioFault.{ScenarioFault}
 use Rattle.rtapp_scenario.specs.declared.fault.ScenarioFault.TheVariants as scenario_faults
 use Rattle.calls_text.specs.SectionView.{SectionView}
@@ -29,7 +29,7 @@ use Rattle.run_options.specs.declared.options.Print.TheVariants as prints
 use Rattle.deadline_promise.specs.Answer.{IsPromiseKept}
 use Rattle.dl_session.specs.RunAnswer.{IsJson, IsScenario, with_reclaim, advance_for, IsRun, IsTextOfRun, IsRunAnswer, IsRunFault}
 use Rattle.dl_session.specs.private.Printing.{IsMadeText}
-use Rattle.dl_session.specs.private.Running.{IsJsonTold, IsScenarioTold, IsOrMemory}
+use Rattle.dl_session.specs.private.Running.{IsJsonLogged, IsScenarioLogged, IsOrMemory}
 use Rattle.dl_session.specs.private.Asked.{AnswerTasks, IsRunWritten, IsRunUnwritten}
 use Rattle.dl_session.proofs.OrderLaw.{in_order}
 use Rattle.dl_session.proofs.Numbering.{AreFrom, scenario_from}
@@ -42,26 +42,26 @@ use Rattle.session.proofs.CallerLemmas.{length_sets}
 -- of this fault something was said, from which it is a fault of a run; or memory was refused
 faulted : (s : Streams) (o : Options) (e : SessionFault) (this : SessionFault → Type 0) → NothingWritten s → HasNoFault s.reader → HasNoFault s.writer
     → (this e → IsRunFault s o e) → IsOrMemory this e → IsRunFault s o e
-faulted s o faults.Memory this unwritten reads writes f told = record { unwritten = unwritten; reads = reads; writes = writes }
-faulted s o (faults.Json g) this unwritten reads writes f told = f told
-faulted s o (faults.Scenario g) this unwritten reads writes f told = f told
-faulted s o (faults.Calls n) this unwritten reads writes f told = f told
-faulted s o faults.Read this unwritten reads writes f told = f told
-faulted s o (faults.Write n) this unwritten reads writes f told = f told
-faulted s o faults.Start this unwritten reads writes f told = f told
-faulted s o faults.Full this unwritten reads writes f told = f told
+faulted s o faults.Memory this unwritten reads writes f logged = record { unwritten = unwritten; reads = reads; writes = writes }
+faulted s o (faults.Json g) this unwritten reads writes f logged = f logged
+faulted s o (faults.Scenario g) this unwritten reads writes f logged = f logged
+faulted s o (faults.Calls n) this unwritten reads writes f logged = f logged
+faulted s o faults.Read this unwritten reads writes f logged = f logged
+faulted s o (faults.Write n) this unwritten reads writes f logged = f logged
+faulted s o faults.Start this unwritten reads writes f logged = f logged
+faulted s o faults.Full this unwritten reads writes f logged = f logged
 
 pub json_faulted : (s : Streams) (o : Options) (text : List ℕ) (found : JsonFault) (e : SessionFault)
-    → IsInput s text → json.IsJsonFault text found.kind found.at → NothingWritten s → HasNoFault s.reader → HasNoFault s.writer → IsJsonTold found e → IsRunFault s o e
-json_faulted s o text found e input first unwritten reads writes told =
+    → IsInput s text → json.IsJsonFault text found.kind found.at → NothingWritten s → HasNoFault s.reader → HasNoFault s.writer → IsJsonLogged found e → IsRunFault s o e
+json_faulted s o text found e input first unwritten reads writes logged =
     faulted s o e (λ e. (e ≡ faults.Json found) × (found.kind ≢ kinds.Memory)) unwritten reads writes
-    (λ h. subst (IsRunFault s o) (sym h.0) (record { text = text; input = input; not_memory = h.1; first = first; unwritten = unwritten; reads = reads; writes = writes })) told
+    (λ h. subst (IsRunFault s o) (sym h.0) (record { text = text; input = input; not_memory = h.1; first = first; unwritten = unwritten; reads = reads; writes = writes })) logged
 
 pub scenario_faulted : (s : Streams) (o : Options) (value : Json) (found : ScenarioFault) (e : SessionFault)
-    → IsJson s value → profile.IsScenarioFault (parsed value) found → NothingWritten s → HasNoFault s.reader → HasNoFault s.writer → IsScenarioTold found e → IsRunFault s o e
-scenario_faulted s o value found e is first unwritten reads writes told =
+    → IsJson s value → profile.IsScenarioFault (parsed value) found → NothingWritten s → HasNoFault s.reader → HasNoFault s.writer → IsScenarioLogged found e → IsRunFault s o e
+scenario_faulted s o value found e is first unwritten reads writes logged =
     faulted s o e (λ e. (e ≡ faults.Scenario found) × (found ≢ scenario_faults.Memory)) unwritten reads writes
-    (λ h. subst (IsRunFault s o) (sym h.0) (record { value = value; json = is; not_memory = h.1; first = first; unwritten = unwritten; reads = reads; writes = writes })) told
+    (λ h. subst (IsRunFault s o) (sym h.0) (record { value = value; json = is; not_memory = h.1; first = first; unwritten = unwritten; reads = reads; writes = writes })) logged
 
 -- a writer that nobody used
 pub keeps_itself : (bytes : Option (List ℕ)) → Keeps bytes bytes

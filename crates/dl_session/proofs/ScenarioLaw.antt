@@ -21,7 +21,7 @@ use Rattle.dl_session.specs.RunAnswer.{with_reclaim}
 use Rattle.dl_session.proofs.ByCap.{by_cap, by_cap_alone}
 use Rattle.session.specs.RunEnd.{HaveAdvanced}
 
--- ---- entries behind entries
+-- ---- entries after entries
 
 length_entries : (client seq : ℕ) (made : List Made) → length (entries_from client seq made) ≡ length made
 length_entries client seq [] = refl
@@ -76,7 +76,8 @@ history_is hs d inside = get_or-map (λ (h : SectionView). h.entries) hs d no_se
 no_client : ClientView
 no_client = record { number = 0; passes = []; hand = None }
 
--- the client at a place, once all tasks were asked: it has entered those of its own tasks that were answered, and nothing else
+-- the client at a place, once all tasks were asked: it has entered those of its own tasks that were
+-- answered, and nothing else
 record HasAsked (id : SessionId) (asked : List Asked) (n i : ℕ) (e : ClientView) : Type 0 where
   pub number : e.number ≡ i + 1
   pub domains : length e.passes ≡ length id.cpu_sets

@@ -37,7 +37,7 @@ abbrev pub IsEndOfRun : Result Report SessionFault → Ending → Type 0
 IsEndOfRun (Ok report) (ends.Done refused) = refused.now ≡ report.refused.items
 IsEndOfRun (Ok report) (ends.Fault fault) = ⊥
 IsEndOfRun (Ok report) (ends.Words fault) = ⊥
-IsEndOfRun (Err fault) (ends.Fault told) = told.now ≡ fault
+IsEndOfRun (Err fault) (ends.Fault logged) = logged.now ≡ fault
 IsEndOfRun (Err fault) (ends.Done refused) = ⊥
 IsEndOfRun (Err fault) (ends.Words other) = ⊥
 
@@ -46,6 +46,6 @@ abbrev pub IsEndOfReplay : {A : Type 0} → Result A SessionFault → Ending →
 IsEndOfReplay (Ok done) (ends.Done refused) = refused.now ≡ []
 IsEndOfReplay (Ok done) (ends.Fault fault) = ⊥
 IsEndOfReplay (Ok done) (ends.Words fault) = ⊥
-IsEndOfReplay (Err fault) (ends.Fault told) = told.now ≡ fault
+IsEndOfReplay (Err fault) (ends.Fault logged) = logged.now ≡ fault
 IsEndOfReplay (Err fault) (ends.Done refused) = ⊥
 IsEndOfReplay (Err fault) (ends.Words other) = ⊥

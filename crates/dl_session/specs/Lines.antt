@@ -3,7 +3,7 @@ use Rattle.std.specs.Prelude.{ℕ, List, [], ◌++◌, codes, decimal, string_by
 use Rattle.one_line.specs.Shown.{shown}
 use Rattle.json_order.specs.Fault.{kind_number}
 use Rattle.json_order.specs.declared.fault.JsonFault.{JsonFault}
-use Rattle.rtapp_scenario.specs.Told.{fault_number}
+use Rattle.rtapp_scenario.specs.FaultText.{fault_number}
 use Rattle.rtapp_scenario.specs.declared.fault.ScenarioFault.{ScenarioFault}
 use Rattle.rtapp_scenario.specs.declared.fault.ScenarioFault.TheVariants.{NoTasks, Duration, Unsupported, Value, Name, Policy, TooMany, Idle, Memory}
 use Rattle.dl_session.specs.declared.fault.SessionFault.{SessionFault}
@@ -11,7 +11,7 @@ use Rattle.dl_session.specs.declared.fault.SessionFault.TheVariants as faults
 use Rattle.dl_session.specs.declared.fault.RefusedLine.{RefusedLine}
 use Rattle.session.specs.RefusalText.{refusal_text}
 
--- behind the number of a scenario's fault: the key to mend, on one line
+-- after the number of a scenario's fault: the key to mend, on one line
 abbrev pub key_shown : ScenarioFault → List ℕ
 key_shown NoTasks = []
 key_shown Duration = []

@@ -6,7 +6,7 @@ use Rattle.deadline_promise.specs.declared.answer.Promise.{Promise}
 use Rattle.deadline_promise.specs.declared.answer.Promise.TheVariants.{NeverLate, Refused}
 use Rattle.deadline_promise.specs.Demand.{IsDemand}
 use Rattle.deadline_promise.specs.Answer.{promise_to}
-use Rattle.deadline_promise.specs.Promise.{NoneLate, told_of_run}
+use Rattle.deadline_promise.specs.Promise.{NoneLate, logged_of_run}
 use Rattle.figure_text.specs.Promises.{PromiseView, promises_text}
 use Rattle.rtapp_scenario.specs.ScenarioView.{TaskSpecView}
 use Rattle.calls_text.specs.SectionView.{SectionView}
@@ -49,7 +49,7 @@ AreEach is (x ∷ xs) (y ∷ ys) = is x y × AreEach is xs ys
 -- whatever number of ticks is made after these admissions, the figures of the task tell no late job
 abbrev pub IsNeverLateIn : SectionView → ℕ → Type 0
 IsNeverLateIn h number =
-    (n : ℕ) → NoneLate n number (told_of_run h.cpus h.limit (calls_of h.entries) n)
+    (n : ℕ) → NoneLate n number (logged_of_run h.cpus h.limit (calls_of h.entries) n)
 
 -- the same in the domain at a place
 abbrev pub IsNeverLateAt : List SectionView → ℕ → Option ℕ → Type 0

@@ -8,7 +8,7 @@ use Rattle.json_order.specs.declared.fault.JsonFault.{JsonFault}
 use Rattle.json_order.specs.declared.fault.JsonKind.TheVariants as kinds
 use Rattle.rtapp_scenario.specs.ScenarioView.{TaskSpecView, ScenarioView}
 use Rattle.rtapp_scenario.specs.Scenario.{parsed}
-use Rattle.rtapp_scenario.specs.Told as profile
+use Rattle.rtapp_scenario.specs.FaultText as profile
 use Rattle.rtapp_scenario.specs.declared.fault.ScenarioFault.{ScenarioFault}
 use Rattle.rtapp_scenario.specs.declared.fault.ScenarioFault.TheVariants as scenario_faults
 use Rattle.calls_text.specs.SectionView.{SectionView}
@@ -33,7 +33,7 @@ use Rattle.dl_session.specs.InOrder.{sections_in_order}
 use Rattle.dl_session.specs.Promised.{ArePromises}
 use Rattle.reply_text.specs.Replies.{replies_of}
 use Rattle.calls_trace.specs.Replay.{trace_of_sections}
-use Rattle.calls_trace.specs.Told.{events_of_sections, jobs_of_sections, summary_of_sections}
+use Rattle.calls_trace.specs.DomainEvents.{events_of_sections, jobs_of_sections, summary_of_sections}
 use Rattle.calls_trace.specs.Charted.{chart_of_sections}
 use Rattle.calls_trace.specs.Answer.{Streams, IsInput, NothingWritten, IsUnread, IsOutOfMemory}
 

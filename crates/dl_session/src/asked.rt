@@ -23,6 +23,7 @@ pub(crate) struct Asked<'t, N: Names> {
     pub(crate) tasks: &'t [TaskSpec],
     /// Those that were refused, by number.
     pub(crate) refused: Vec<(u32, Refusal)>,
+    ghost some: { 0 < length N.id.cpu_sets },
     ghost few: { length N.id.cpu_sets ≤ 8 },
 }
 

@@ -14,7 +14,7 @@ use one_line::write_shown;
 use std::alloc::Global;
 use std::fmt;
 
-/// The names of two traces, as they are told: those of files, or `standard input`.
+/// The names of two traces, as they are logged: those of files, or `standard input`.
 #[derive(Clone, Copy)]
 pub struct TraceNames<'a> {
     pub model: &'a str,
@@ -144,7 +144,7 @@ fn put_ending(out: &mut Draft, ending: &ComparisonEnding<'_>)
     }
 }
 
-/// Writes words, and behind them a name on one line.
+/// Writes words, and after them a name on one line.
 fn write_named<W: fmt::Write>(f: &mut fmt::Formatter<W>, words: &str, name: &str) -> fmt::Result
     ensures { WritesOnOk W.write_str_gives f.old result
         (words.now ++ shown name.now) f.new }

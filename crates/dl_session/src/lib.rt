@@ -29,6 +29,7 @@ mod asked;
 mod comparing;
 mod ending;
 mod fault;
+mod history_text;
 mod played;
 mod played_books;
 mod printing;
@@ -37,7 +38,6 @@ mod putting;
 mod replaying;
 mod running;
 mod streaming;
-mod telling;
 
 pub use admitting::admit_all;
 pub use calls_trace::{ReplayPrint, Span};

@@ -1,7 +1,7 @@
 //! A book whose advance is made while its switches, or also what happens, are written.
 
 ghost use Rattle.std.specs.Prelude.{◌+◌, ◌≤◌};
-ghost use Rattle.call_book.specs.Playing.{all_told};
+ghost use Rattle.call_book.specs.Playing.{all_logged};
 ghost use Rattle.dl_session.specs.private.Named.{AreAllNamed};
 ghost use Rattle.dl_session.specs.private.Tellable.{IsTellable};
 
@@ -18,5 +18,5 @@ pub(crate) struct PlayedRun {
     pub(crate) book: PlayingBook,
     ghost inside: { base + book.at.cpus ≤ 512 },
     ghost named: { AreAllNamed book.at.used names },
-    ghost tellable: { IsTellable base names (all_told book) },
+    ghost tellable: { IsTellable base names (all_logged book) },
 }

@@ -7,23 +7,23 @@ ghost use Rattle.calls_text.specs.Limits.{IsSection};
 ghost use Rattle.calls_text.specs.Histories.{IsLegal};
 ghost use Rattle.switch_text.specs.Names.{name_of_task, SameNames};
 ghost use Rattle.switch_text.specs.Runs.{IsPrintable};
-ghost use Rattle.switch_text.specs.SlicedEvents.{is_told_by, told_runs, whole_told_run, without_fronts, IsAllAtHand};
+ghost use Rattle.switch_text.specs.SlicedEvents.{is_logged_by, logged_runs, whole_logged_run, without_fronts, IsAllAtHand};
 ghost use Rattle.switch_text.specs.SlicedTrace.{whole_of, wholes, without_first};
-ghost use Rattle.switch_text.specs.Telling.{IsTold};
-ghost use Rattle.switch_text.specs.ToldLine.{has_line};
+ghost use Rattle.switch_text.specs.EventLines.{IsLogged};
+ghost use Rattle.switch_text.specs.LoggedLine.{has_line};
 ghost use Rattle.call_book.specs.Book.{BookView};
 ghost use Rattle.call_book.specs.Playing.{HasWholeRun};
 ghost use Rattle.calls_trace.specs.Replay.{run_view, runs_from};
-ghost use Rattle.calls_trace.specs.Told.{told_from};
+ghost use Rattle.calls_trace.specs.DomainEvents.{logged_from};
 ghost use Rattle.session.specs.Begun.{section_of, played_books};
-ghost use Rattle.dl_session.specs.private.PlayedBooks.{played_slices, played_events, played_book, played_histories, told_at, IsNamedBook, AreLogging, AreReady, IsRoomFor, TellsAll};
+ghost use Rattle.dl_session.specs.private.PlayedBooks.{played_slices, played_events, played_book, played_histories, logged_at, IsNamedBook, AreLogging, AreReady, IsRoomFor, LogsAll};
 
 use crate::played::PlayedRun;
 use call_book::{NoMemory, PlayingBook};
 use calls_trace::names_of_history;
 use indexmap::IndexMap;
 use std::alloc::Global;
-use switch_text::{EventSlices, Run, Slices, Told, TraceRoom};
+use switch_text::{DomainEvents, EventSlices, Run, Slices, TraceRoom};
 
 impl PlayedRun {
     /// A book, with the CPU of the machine that is its domain's CPU 0.
@@ -31,13 +31,13 @@ impl PlayedRun {
         requires inside { base + book.book.cpus ≤ 512 }
         requires named { IsNamedBook book.book names }
         requires section { IsSection (section_of book.book) }
-        requires untold { book.told ≡ [] }
-        requires tells { TellsAll book }
+        requires unlogged { book.logged ≡ [] }
+        requires has_logged { LogsAll book }
         ensures book { played_book result ≡ book.book }
         ensures whole { HasWholeRun book
             → whole_of (played_slices result) ≡ run_view base (section_of book.book) }
-        ensures told { (whole_told_run (played_events result)).told
-            ≡ told_at book.logs base (section_of book.book) }
+        ensures logged { (whole_logged_run (played_events result)).logged
+            ≡ logged_at book.logs base (section_of book.book) }
     {
         // For the prover alone: a look at the CPUs and the state brings what every book keeps.
         let _ = book.cpus();
@@ -78,39 +78,40 @@ impl PlayedRun {
 
     /// Makes more switches, and more of what happens, until there is room for no more or nothing is
     /// left. Up to which time the run is made then, if anything is left of it.
-    fn make_told(&mut self) -> Option<u64>
-        ensures whole { whole_told_run (played_events self.new)
-            ≡ whole_told_run (played_events self.old) }
+    fn make_logged(&mut self) -> Option<u64>
+        ensures whole { whole_logged_run (played_events self.new)
+            ≡ whole_logged_run (played_events self.old) }
         ensures none { IfNone result (IsAllAtHand (played_events self.new)) }
         ensures some { IfSome result (λ _. 0
-            < length (played_events self.new).at_hand + length (played_events self.new).told) }
+            < length (played_events self.new).at_hand + length (played_events self.new).logged) }
         ensures past { IfSome result
             (λ time. All (λ s. s.time < time) (played_events self.new).at_hand) }
-        ensures told { IfSome result
-            (λ time. All (λ h. IsTrue (is_told_by time h)) (played_events self.new).told) }
+        ensures logged { IfSome result
+            (λ time. All (λ h. IsTrue (is_logged_by time h)) (played_events self.new).logged) }
         ensures later { IfSome result
             (λ time. All (λ s. time ≤ s.time) (played_events self.new).to_come) }
-        ensures untold { IfSome result
-            (λ time. All (λ h. is_told_by time h ≡ false) (played_events self.new).to_tell) }
+        ensures unlogged { IfSome result
+            (λ time. All (λ h. is_logged_by time h ≡ false) (played_events self.new).to_log) }
         ensures kept { played_book self.new ≡ played_book self.old }
     {
-        if !self.book.fill_told() {
+        if !self.book.fill_logged() {
             return None;
         }
-        // For the prover alone: a look at what is told brings that it is told by now.
-        let _ = self.book.told();
+        // For the prover alone: a look at what is logged brings that it is logged by now.
+        let _ = self.book.logged();
         let state = self.book.state();
         Some(state.now())
     }
 
-    /// Forgets the first `switches` of the switches at hand, and the first `told` of what is told.
-    fn forget_fronts(&mut self, switches: usize, told: usize)
+    /// Forgets the first `switches` of the switches at hand, and the first `logged` of what is
+    /// logged.
+    fn forget_fronts(&mut self, switches: usize, logged: usize)
         ensures rest { played_events self.new
-            ≡ without_fronts switches told (played_events self.old) }
+            ≡ without_fronts switches logged (played_events self.old) }
         ensures kept { played_book self.new ≡ played_book self.old }
     {
         self.book.forget_front(switches);
-        self.book.forget_told(told);
+        self.book.forget_logged(logged);
     }
 
     /// Forgets the first `count` of the switches at hand.
@@ -138,20 +139,20 @@ impl PlayedRun {
         }
     }
 
-    /// What is told, as it is written.
-    fn as_told(&self) -> Told<'_>
-        ensures told { IsTold result }
+    /// What is logged, as it is written.
+    fn as_logged(&self) -> DomainEvents<'_>
+        ensures logged { IsLogged result }
         ensures lines { All (λ h. IsTrue (has_line h.what)) result.happened.now }
         ensures base { result.base ≡ self.now.base }
-        ensures happened { result.happened.now ≡ self.now.book.told }
+        ensures happened { result.happened.now ≡ self.now.book.logged }
         ensures names { All
             (λ h. name_of_task result.names.now h.number ≡ name_of_task self.now.names h.number)
             result.happened.now }
     {
-        Told {
+        DomainEvents {
             base: self.base,
             names: &self.names,
-            happened: self.book.told(),
+            happened: self.book.logged(),
         }
     }
 }
@@ -190,19 +191,19 @@ impl EventSlices for PlayedRun {
     ghost kept = { played_book };
 
     fn fill(&mut self) -> Option<u64> {
-        self.make_told()
+        self.make_logged()
     }
 
-    fn forget_front(&mut self, switches: usize, told: usize) {
-        self.forget_fronts(switches, told);
+    fn forget_front(&mut self, switches: usize, logged: usize) {
+        self.forget_fronts(switches, logged);
     }
 
     fn slice(&self) -> Run<'_> {
         self.as_written()
     }
 
-    fn told(&self) -> Told<'_> {
-        self.as_told()
+    fn logged(&self) -> DomainEvents<'_> {
+        self.as_logged()
     }
 }
 
@@ -277,9 +278,9 @@ pub(crate) fn play_books(
     ensures books { map played_book runs.new.items ≡ played_books books.items }
     ensures whole { wholes (map played_slices runs.new.items)
         ≡ runs_from 0 (played_histories books.items) }
-    ensures told { AreLogging true books.items
-        → map (λ r. r.told) (told_runs (map played_events runs.new.items))
-        ≡ told_from 0 (played_histories books.items) }
+    ensures logged { AreLogging true books.items
+        → map (λ r. r.logged) (logged_runs (map played_events runs.new.items))
+        ≡ logged_from 0 (played_histories books.items) }
 {
     let mut base = 0;
     let mut names = names.into_iter();

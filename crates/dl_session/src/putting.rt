@@ -1,4 +1,4 @@
-//! The lines of the program, put behind what stands before.
+//! The lines of the program, put after what stands before.
 
 ghost use Rattle.std.specs.Prelude.{◌++◌, decimal};
 ghost use Rattle.attr_check.specs.RefusalName.{refusal_name};
@@ -26,7 +26,7 @@ pub(crate) fn put_counted(out: &mut Draft, words: &[u8], n: u64)
     out.put_decimal(n);
 }
 
-/// Words, and behind them a name on one line.
+/// Words, and after them a name on one line.
 pub(crate) fn put_named(out: &mut Draft, words: &[u8], name: &str)
     ensures { Adds out.old out.new (words.now ++ shown name.now) }
 {

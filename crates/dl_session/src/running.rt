@@ -8,13 +8,14 @@ ghost use Rattle.calls_trace.specs.Answer.{streams, NothingWritten};
 ghost use Rattle.dl_session.specs.RunAnswer as answers;
 ghost use Rattle.dl_session.specs.RunAnswer.{with_reclaim, IsScenario, IsRunAnswer, IsRunFault};
 ghost use Rattle.dl_session.specs.private.Asked.{HaveAsked, IsRunWritten, IsRunUnwritten};
-ghost use Rattle.dl_session.specs.private.Running.{IsJsonTold, IsScenarioTold};
+ghost use Rattle.dl_session.specs.private.Running.{IsJsonLogged, IsScenarioLogged};
+ghost use Rattle.limits.specs.Limits.{max_advance};
 
 use crate::asked::{Asked, ask_in};
 use crate::fault::SessionFault;
-use crate::printing::{wanted_for, write_run};
+use crate::history_text::{HistoryText, write_logged};
+use crate::printing::{Left, wanted_for, write_run};
 use crate::streaming::{Streaming, write_streamed};
-use crate::telling::{Telling, write_told};
 use deadline_promise::budgets_isolate;
 use json_order::{JsonFault, JsonKind, read_lent};
 use rtapp_scenario::{Scenario, ScenarioFault, TaskSpec, parse_lent};
@@ -26,9 +27,9 @@ use std::sync::Wait;
 use std::thread::Threads;
 use switch_text::{Counted, ReadFault};
 
-/// A fault of the JSON text; want of memory is told as such.
+/// A fault of the JSON text; want of memory is logged as such.
 fn json_fault(fault: JsonFault) -> SessionFault
-    ensures { IsJsonTold fault result }
+    ensures { IsJsonLogged fault result }
 {
     match fault.kind {
         JsonKind::Memory => SessionFault::Memory,
@@ -36,9 +37,9 @@ fn json_fault(fault: JsonFault) -> SessionFault
     }
 }
 
-/// A fault of the scenario; want of memory is told as such.
+/// A fault of the scenario; want of memory is logged as such.
 fn scenario_fault(fault: ScenarioFault) -> SessionFault
-    ensures { IsScenarioTold fault result }
+    ensures { IsScenarioLogged fault result }
 {
     match fault {
         ScenarioFault::Memory => SessionFault::Memory,
@@ -52,7 +53,7 @@ fn read_scenario<R: Read>(alloc: Global, reader: &mut Counted<R>) -> Result<Scen
     ensures ok { (w : Side) → IfOk result
         (IsScenario (streams (side R.remaining reader.old reader.new) w)) }
     ensures reads { OnOk result (HasNoFault (side R.remaining reader.old reader.new)) }
-    ensures short { IfOk result (λ s. s.duration_us ≤ 60000000) }
+    ensures short { IfOk result (λ s. s.duration_us ≤ max_advance) }
     ensures err { let r : Side = side R.remaining reader.old reader.new in
         (w : Side) (o : OptionsView) → NothingWritten (streams r w) → HasNoFault w
         → IfErr result (IsRunFault (streams r w) o) }
@@ -114,7 +115,7 @@ fn write_kept<N: Names + Send + Sync, W: Write, X: Threads + Wait + Sync>(
     writer: &mut Counted<W>,
 ) -> Result<Report, SessionFault>
     requires asked { HaveAsked N.id asked.tasks.now asked.clients.items asked.refused.items }
-    requires duration { duration ≤ 60000000 }
+    requires duration { duration ≤ max_advance }
     requires faults { faults_of writer.old < 2 ^ 63 }
     ensures ok { IfOk result (IsRunWritten N.id asked.entry.tasks.now duration print
         (side W.contents writer.old writer.new)) }
@@ -131,13 +132,25 @@ fn write_kept<N: Names + Send + Sync, W: Write, X: Threads + Wait + Sync>(
         mut report,
         states,
         logs,
-        mut heard,
-    } = end_run(rt, alloc, session, clients, duration, wanted_for(print))?;
+        streamed,
+        drawn,
+    } = end_run(
+        rt,
+        alloc,
+        session,
+        clients,
+        duration,
+        wanted_for(print, duration),
+    )?;
     report.refused = refused;
+    let left = Left {
+        states,
+        logs,
+        streamed,
+        drawn,
+    };
     let histories = &report.histories;
-    match write_run(
-        alloc, print, tasks, histories, states, logs, &mut heard, writer,
-    ) {
+    match write_run(alloc, print, duration, tasks, histories, left, writer) {
         Ok(()) => Ok(report),
         Err(fault) => Err(SessionFault::from(fault)),
     }
@@ -160,7 +173,7 @@ fn run_in<N: Names + Send + Sync, W: Write, T: Turnstile, X: Threads + Wait + Sy
     requires many { options.now.clients ≡ parts.clients }
     requires some { 0 < options.now.clients }
     requires workers { 0 < options.now.workers }
-    requires duration { duration ≤ 60000000 }
+    requires duration { duration ≤ max_advance }
     requires faults { faults_of writer.old < 2 ^ 63 }
     ensures ok { IfOk result (IsRunWritten N.id tasks.now duration options.now.print
         (side W.contents writer.old writer.new)) }
@@ -188,8 +201,8 @@ fn run_in<N: Names + Send + Sync, W: Write, T: Turnstile, X: Threads + Wait + Sy
             duration,
             writer,
         ),
-        Print::Calls => write_told(alloc, Telling::Calls, asked, duration, writer),
-        Print::Replies => write_told(alloc, Telling::Replies, asked, duration, writer),
+        Print::Calls => write_logged(alloc, HistoryText::Calls, asked, duration, writer),
+        Print::Replies => write_logged(alloc, HistoryText::Replies, asked, duration, writer),
         print => write_kept(rt, alloc, print, asked, duration, writer),
     }
 }

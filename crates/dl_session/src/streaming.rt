@@ -9,6 +9,7 @@ ghost use Rattle.calls_trace.specs.Written.{IsWritten, IsUnwritten};
 ghost use Rattle.dl_session.specs.private.Asked.{HaveAsked, IsRunWritten, IsRunUnwritten};
 ghost use Rattle.dl_session.specs.private.PlayedBooks.{played_book, played_histories, AreLogging, AreReady, IsRoomFor};
 ghost use Rattle.dl_session.specs.private.Streaming.{needs_log, streamed_print, streamed_text, runs_text, AreCountable};
+ghost use Rattle.limits.specs.Limits.{max_advance};
 
 use crate::asked::Asked;
 use crate::fault::SessionFault;
@@ -92,7 +93,7 @@ fn write_in<W: Write, X: Threads + Sync>(
 ) -> Sent
     requires workers { 0 < workers }
     requires ready { AreReady books.items }
-    requires logged { AreLogging (needs_log streaming) books.items }
+    requires logged_run { AreLogging (needs_log streaming) books.items }
     requires room { IsRoomFor books.items room }
     requires faults { faults_of writer.old < 2 ^ 63 }
     ensures books { played_books result.books.items ≡ played_books books.items }
@@ -128,7 +129,7 @@ fn write_books<W: Write, X: Threads + Sync>(
 ) -> Sent
     requires workers { 0 < workers }
     requires ready { AreReady books.items }
-    requires logged { AreLogging (needs_log streaming) books.items }
+    requires logged_run { AreLogging (needs_log streaming) books.items }
     requires faults { faults_of writer.old < 2 ^ 63 }
     ensures books { played_books result.books.items ≡ played_books books.items }
     ensures ok { OnOk result.written (IsWritten (side W.contents writer.old writer.new)
@@ -157,7 +158,7 @@ fn write_begun<N: Names, W: Write, X: Threads + Sync>(
 ) -> Result<Report, TraceFault>
     requires workers { 0 < workers }
     requires ready { AreReady begun.books.items }
-    requires logged { AreLogging (needs_log streaming) begun.books.items }
+    requires logged_run { AreLogging (needs_log streaming) begun.books.items }
     requires same { played_books begun.books.items ≡ begun.rest.books }
     requires faults { faults_of writer.old < 2 ^ 63 }
     ensures report { IfOk result (λ r. IsSessionReport N.id begun.rest.clients r) }
@@ -193,7 +194,7 @@ pub(crate) fn write_streamed<N: Names, W: Write, X: Threads + Sync>(
 ) -> Result<Report, SessionFault>
     requires workers { 0 < workers }
     requires asked { HaveAsked N.id asked.tasks.now asked.clients.items asked.refused.items }
-    requires duration { duration ≤ 60000000 }
+    requires duration { duration ≤ max_advance }
     requires faults { faults_of writer.old < 2 ^ 63 }
     ensures ok { IfOk result (IsRunWritten N.id asked.entry.tasks.now duration
         (streamed_print streaming) (side W.contents writer.old writer.new)) }

@@ -1,18 +1,18 @@
--- Who stands on a CPU belongs to it, whatever else happens to it.
+-- The task that runs on a CPU belongs to it, whatever else happens to it.
 use Rattle.std.proofs.Common.{◌≡◌, ℕ, Bool, true, false, cond, eqb, Option, Some, None, List, get_or, map, refl, sym, ap, subst, ◌∙◌}
 use Rattle.std.specs.Prelude.{position}
 use Rattle.std.specs.List.{list_any}
 use Rattle.std.proofs.lemmas.Bool.{both_ways}
 use Rattle.std.proofs.lemmas.List.Elements.{All-map}
 use Rattle.std.proofs.lemmas.List.Folds.{Any-from_list_any}
-use Rattle.edf_pick.specs.Places.{Places, is_task, stands}
+use Rattle.edf_pick.specs.Places.{Places, is_task, is_on_cpu}
 use Rattle.domain_run.specs.declared.task.Task.{Task}
 use Rattle.domain_run.specs.Parts.{with_cpu, with_last_cpu}
 use Rattle.domain_run.specs.Sound.{occupant, HasNoTaskTwice}
 use Rattle.domain_run.specs.private.Index.{IsListedAt}
 use Rattle.domain_run.specs.private.RunQueue.{AreHomed}
-use Rattle.domain_run.proofs.Placing.{homed_nowhere, homed_number, position_at, found_at, stands_at, task_there}
-use Rattle.domain_run.proofs.Tracing.{AreStanding}
+use Rattle.domain_run.proofs.Placing.{homed_nowhere, homed_number, position_at, found_at, runs_at, task_there}
+use Rattle.domain_run.proofs.Tracing.{AreRunning}
 
 -- part 4
 twice : (o : Option ℕ) (t : Task) → with_cpu o (with_cpu o t) ≡ with_cpu o t
@@ -25,19 +25,19 @@ homed_placed places tasks = All-map (λ t. with_last_cpu places t ≡ t) (with_l
     let o = position (is_task t.number) places in
     ap (λ n. with_cpu (position (is_task n) places) (with_last_cpu places t)) (homed_number o t) ∙ twice o t)
 
--- a task that stands nowhere
-pub homed_stranger : (places : Places) (used : List ℕ) (t : Task) → AreStanding used places → list_any (λ n. eqb n t.number) used ≡ false → with_last_cpu places t ≡ t
-homed_stranger places used t all fresh = homed_nowhere places t (not_there (stands t.number places) refl)
+-- a task that runs nowhere
+pub homed_stranger : (places : Places) (used : List ℕ) (t : Task) → AreRunning used places → list_any (λ n. eqb n t.number) used ≡ false → with_last_cpu places t ≡ t
+homed_stranger places used t all fresh = homed_nowhere places t (not_there (is_on_cpu t.number places) refl)
   where
-    not_there : (b : Bool) → stands t.number places ≡ b → b ≡ false
+    not_there : (b : Bool) → is_on_cpu t.number places ≡ b → b ≡ false
     not_there true e =
-        let at = stands_at t.number places (Any-from_list_any (is_task t.number) places e) in
+        let at = runs_at t.number places (Any-from_list_any (is_task t.number) places e) in
         let no : true ≡ false = sym (all at.0 t.number at.1) ∙ fresh in absurd cc
     not_there false e = refl
 
--- a listed task stands on the CPU to which it belongs, or on none
+-- a listed task runs on the CPU to which it belongs, or on none
 pub position_of : (places : Places) (t : Task) (n : ℕ) → HasNoTaskTwice places → t.number ≡ n → with_last_cpu places t ≡ t → position (is_task n) places ≡ cond (is_task n (occupant places t.cpu)) (Some t.cpu) None
-position_of places t n apart number homed = by_stand (is_task n (occupant places t.cpu)) refl
+position_of places t n apart number homed = by_on_cpu (is_task n (occupant places t.cpu)) refl
   where
     by_position : (o : Option ℕ) → position (is_task n) places ≡ o → is_task n (occupant places t.cpu) ≡ false → position (is_task n) places ≡ None
     by_position None e none = e
@@ -46,9 +46,9 @@ position_of places t n apart number homed = by_stand (is_task n (occupant places
         let same : cpu ≡ t.cpu = ap (λ (x : Task). x.cpu) there in
         absurd (both_ways (is_task n (occupant places t.cpu)) none (subst (λ (k : ℕ). is_task n (occupant places k) ≡ true) same (found_at n places cpu e)))
 
-    by_stand : (b : Bool) → is_task n (occupant places t.cpu) ≡ b → position (is_task n) places ≡ cond b (Some t.cpu) None
-    by_stand true is = position_at places t.cpu n apart (task_there n (occupant places t.cpu) is)
-    by_stand false is = by_position (position (is_task n) places) refl is
+    by_on_cpu : (b : Bool) → is_task n (occupant places t.cpu) ≡ b → position (is_task n) places ≡ cond b (Some t.cpu) None
+    by_on_cpu true is = position_at places t.cpu n apart (task_there n (occupant places t.cpu) is)
+    by_on_cpu false is = by_position (position (is_task n) places) refl is
 
 pub listed_at : (places : Places) (tasks : List Task) (n p : ℕ) (t : Task) → HasNoTaskTwice places → AreHomed places tasks → IsListedAt tasks n p → ((d : Task) → t ≡ get_or tasks p d) → position (is_task n) places ≡ cond (is_task n (occupant places t.cpu)) (Some t.cpu) None
 listed_at places tasks n p t apart homed at is =

@@ -33,20 +33,20 @@ pub use Rattle.domain_run.proofs.OrderLists.{Reordered, ends, next, swaps, chain
 pub use Rattle.domain_run.proofs.OrderLists.{same_length, same_any, same_found, before_same, apart_reordered}
 pub use Rattle.domain_run.proofs.OrderTicks.{Alike, relisted, same_sum_of, ticks_alike, alike_switches}
 pub use Rattle.domain_run.proofs.OrderGathered.{gathered, gather, gathered_both}
-pub use Rattle.domain_run.proofs.Logging.{tells_none, tells_more, tells_silent}
-pub use Rattle.domain_run.proofs.ToldRising.{IsSooner, IsSoonerUnlessCut, IsRising}
-pub use Rattle.domain_run.proofs.ToldIn.{IsToldIn, run_tells, run_rises, run_cpus}
+pub use Rattle.domain_run.proofs.Logging.{logs_none, logs_more, logs_silent}
+pub use Rattle.domain_run.proofs.LoggedRising.{IsSooner, IsSoonerUnlessCut, IsRising}
+pub use Rattle.domain_run.proofs.LoggedIn.{IsLoggedIn, run_logs, run_rises, run_cpus}
 pub use Rattle.domain_run.proofs.Coming.{ticks_then, to_come_after, to_come_later, calls_later}
-pub use Rattle.domain_run.proofs.Passing.{after_call_behind, after_calls_behind, ticks_behind, told_by_ticks_behind}
-pub use Rattle.domain_run.proofs.ToldIn.{HasKnown, has_call, has_opened}
-pub use Rattle.domain_run.proofs.ToldRising.{IsBeginning, IsEnd, beginning_is, ending_is}
-pub use Rattle.domain_run.proofs.ToldSorted.{pairs_first, pairs_rest, length-in_order}
-pub use Rattle.domain_run.proofs.ToldFew.{ticks_few, told_few, event_few, begun_switches}
+pub use Rattle.domain_run.proofs.Passing.{after_call_after, after_calls_after, ticks_after, logged_by_ticks_after}
+pub use Rattle.domain_run.proofs.LoggedIn.{HasKnown, has_call, has_opened}
+pub use Rattle.domain_run.proofs.LoggedRising.{IsBeginning, IsEnd, beginning_is, ending_is}
+pub use Rattle.domain_run.proofs.LoggedSorted.{pairs_first, pairs_rest, length-in_order}
+pub use Rattle.domain_run.proofs.LoggedFew.{ticks_few, logged_few, event_few, begun_switches}
 pub use Rattle.domain_run.proofs.Tracing.{AllPairs-append, before_time}
 pub use Rattle.domain_run.proofs.Keeping.{same_replenished, same_settled, same_unblocked, same_ran, AllPairs-map, length-filter_least}
-pub use Rattle.domain_run.proofs.Seating.{AreCandidates, placed_is}
+pub use Rattle.domain_run.proofs.OpenCharging.{AreCandidates, placed_is}
 pub use Rattle.domain_run.proofs.Repeating.{ready_later, throttled_later, contending_later, sound_paced, IsGoing, going}
-pub use Rattle.domain_run.proofs.Placing.{ready_in, stands_at, one_index}
+pub use Rattle.domain_run.proofs.Placing.{ready_in, runs_at, one_index}
 pub use Rattle.domain_run.proofs.KeptKeys.{ticked_numbered}
 pub use Rattle.domain_run.proofs.OrderTicks.{prepared_apart}
 
@@ -302,7 +302,7 @@ either_tasks false d e same = same
 pub limit_tasks : (d : Domain) (limit : ℕ) (word : Option ℕ) → (after_call d (Limit limit word)).tasks ≡ d.tasks
 limit_tasks d limit word = either_tasks (is_refusal (limit_reply d limit word)) d (with_limit limit d) refl
 
--- ---- what Busy tells, by the definitions alone
+-- ---- what Busy logs, by the definitions alone
 
 pub admit_busy : (d : Domain) (number : ℕ) (params : ParamsView) (seen : ℕ) → sum_of d.tasks ≤ cap d.cpus d.limit → admit_reply d number params ≡ Busy seen → LacksRoomFor d params.bw seen
 admit_busy d number params seen within e = busy_by (leb 256 (length d.tasks)) (list_any (λ n. eqb n number) d.used) (ltb (cap d.cpus d.limit) (sum_of d.tasks + params.bw)) refl e

@@ -113,24 +113,24 @@ waiting_timed time reference Leaving e h = absurd cc
 
 pub released_sound : (time : ℕ) (t : Task) → time ≤ 2 ^ 42 → is_waiting t.condition ≡ true → IsSound time t → IsSound time (blocked_until time t)
 released_sound time t early e h =
-    let behind = waiting_timed time t.cursor.reference t.condition e h.timed in
+    let following = waiting_timed time t.cursor.reference t.condition e h.timed in
     record { served = h.served; spent = λ x. absurd cc; lifted = λ x. absurd cc; dated = λ x. absurd cc; busy = λ x. absurd cc; timed = (omega arith, omega arith) }
 
 -- ---- each call keeps a domain
 
 -- a change of one task that keeps its number and its CPU
-pub record IsChange (f : Task → Task) : Type 0 where
+pub record IsTransition (f : Task → Task) : Type 0 where
   pub number : (t : Task) → (f t).number ≡ t.number
   pub cpu : (t : Task) → (f t).cpu ≡ t.cpu
 
-pub one_change : (number : ℕ) (f : Task → Task) → IsChange f → IsChange (of_number number f)
-one_change number f is = record {
+pub one_transition : (number : ℕ) (f : Task → Task) → IsTransition f → IsTransition (of_number number f)
+one_transition number f is = record {
   number = λ t. elim (eqb t.number number) as (λ b. (cond b (f t) t).number ≡ t.number) [ true ↦ is.number t | false ↦ refl ];
   cpu = λ t. elim (eqb t.number number) as (λ b. (cond b (f t) t).cpu ≡ t.cpu) [ true ↦ is.cpu t | false ↦ refl ];
 }
 
-changed_steady : (d : Domain) (f : Task → Task) → IsChange f → IsSteady d → sum_of (map f d.tasks) ≤ cap d.cpus d.limit → All (IsSound d.time) (map f d.tasks) → IsSteady (record d { tasks = map f d.tasks })
-changed_steady d f change is within sound =
+changed_steady : (d : Domain) (f : Task → Task) → IsTransition f → IsSteady d → sum_of (map f d.tasks) ≤ cap d.cpus d.limit → All (IsSound d.time) (map f d.tasks) → IsSteady (record d { tasks = map f d.tasks })
+changed_steady d f transition is within sound =
     let e : length (map f d.tasks) ≡ length d.tasks = simp length-map in
     record {
       early = is.early;
@@ -139,17 +139,17 @@ changed_steady d f change is within sound =
       within = within;
       listed = omega (arith, is.listed);
       sound = sound;
-      homes = All-map (λ t. t.cpu < d.cpus) f d.tasks (All-weaker (λ t. t.cpu < d.cpus) (λ t. (f t).cpu < d.cpus) (λ t h. subst (λ c. c < d.cpus) (sym (change.cpu t)) h) d.tasks is.homes);
-      numbered = AllPairs-map (λ a b. a.number ≢ b.number) f (λ a b h same. h (sym (change.number a) ∙ same ∙ change.number b)) d.tasks is.numbered;
+      homes = All-map (λ t. t.cpu < d.cpus) f d.tasks (All-weaker (λ t. t.cpu < d.cpus) (λ t. (f t).cpu < d.cpus) (λ t h. subst (λ c. c < d.cpus) (sym (transition.cpu t)) h) d.tasks is.homes);
+      numbered = AllPairs-map (λ a b. a.number ≢ b.number) f (λ a b h same. h (sym (transition.number a) ∙ same ∙ transition.number b)) d.tasks is.numbered;
       known = All-map (λ t. IsTrue (list_any (λ n. eqb n t.number) d.used)) f d.tasks
-          (All-weaker (λ t. IsTrue (list_any (λ n. eqb n t.number) d.used)) (λ t. IsTrue (list_any (λ n. eqb n (f t).number) d.used)) (λ t h. ap (λ m. list_any (λ n. eqb n m) d.used) (change.number t) ∙ h) d.tasks is.known);
+          (All-weaker (λ t. IsTrue (list_any (λ n. eqb n t.number) d.used)) (λ t. IsTrue (list_any (λ n. eqb n (f t).number) d.used)) (λ t h. ap (λ m. list_any (λ n. eqb n m) d.used) (transition.number t) ∙ h) d.tasks is.known);
       wide = is.wide;
       apart = is.apart;
     }
 
-changed_is : (d : Domain) (number : ℕ) (f : Task → Task) → IsChange f → IsDomain d → sum_of (map (of_number number f) d.tasks) ≤ cap d.cpus d.limit → All (IsSound d.time) (map (of_number number f) d.tasks) → IsDomain (with_task_changed d number f)
-changed_is d number f change is within sound = record {
-  steady = changed_steady d (of_number number f) (one_change number f change) is.steady within sound;
+changed_is : (d : Domain) (number : ℕ) (f : Task → Task) → IsTransition f → IsDomain d → sum_of (map (of_number number f) d.tasks) ≤ cap d.cpus d.limit → All (IsSound d.time) (map (of_number number f) d.tasks) → IsDomain (with_task_changed d number f)
+changed_is d number f transition is within sound = record {
+  steady = changed_steady d (of_number number f) (one_transition number f transition) is.steady within sound;
   traced = listed_traced d (with_task_changed d number f) refl refl refl refl (λ n h. h) is.traced;
 }
 
@@ -157,13 +157,13 @@ not_busy : (b : Bool) (s : ℕ) → cond b (Busy s) Changed ≡ Changed → b �
 not_busy true s e = absurd cc
 not_busy false s e = refl
 
-may_change : (d : Domain) (p : ParamsView) (o : Option Task) → regrade_reply d p None o ≡ Changed → (t : Task) × (o ≡ Some t) × (sum_of d.tasks - t.params.bw + p.bw ≤ cap d.cpus d.limit)
-may_change d p None e = absurd cc
-may_change d p (Some t) e = (t, refl, ltb-false (cap d.cpus d.limit) (sum_of d.tasks - t.params.bw + p.bw) (not_busy (ltb (cap d.cpus d.limit) (sum_of d.tasks - t.params.bw + p.bw)) (sum_of d.tasks) e))
+may_transition : (d : Domain) (p : ParamsView) (o : Option Task) → regrade_reply d p None o ≡ Changed → (t : Task) × (o ≡ Some t) × (sum_of d.tasks - t.params.bw + p.bw ≤ cap d.cpus d.limit)
+may_transition d p None e = absurd cc
+may_transition d p (Some t) e = (t, refl, ltb-false (cap d.cpus d.limit) (sum_of d.tasks - t.params.bw + p.bw) (not_busy (ltb (cap d.cpus d.limit) (sum_of d.tasks - t.params.bw + p.bw)) (sum_of d.tasks) e))
 
 pub regrade_keeps : (d : Domain) (number : ℕ) (p : ParamsView) → IsDomain d → regrade_reply d p None (task_of d number) ≡ Changed → All (IsSound d.time) (map (of_number number (with_new_params p)) d.tasks) → IsDomain (with_task_changed d number (with_new_params p))
 regrade_keeps d number p is reply sound =
-    let g = may_change d p (task_of d number) reply in
+    let g = may_transition d p (task_of d number) reply in
     let sum = sum_regraded number p d.tasks g.0 is.steady.numbered g.1 in
     changed_is d number (with_new_params p) (record { number = λ t. refl; cpu = λ t. refl }) is (omega (arith, sum, g.2)) sound
 
@@ -181,7 +181,7 @@ pub wake_keeps : (d : Domain) (number : ℕ) → IsDomain d → All (IsSound d.t
 wake_keeps d number is sound =
     changed_is d number (blocked_until d.time) (record { number = λ t. refl; cpu = λ t. refl }) is (rw (sum_kept (blocked_until d.time) (λ t. refl) number d.tasks) is.steady.within) sound
 
-pub ended_change : (time : ℕ) → IsChange (ended_at time)
+pub ended_change : (time : ℕ) → IsTransition (ended_at time)
 ended_change time = record { number = λ t. (ended_same time t).number; cpu = λ t. (ended_same time t).cpu }
 
 pub leave_keeps : (d : Domain) (number : ℕ) → IsDomain d → All (IsSound d.time) (map (of_number number (ended_at d.time)) d.tasks) → IsDomain (with_task_changed d number (ended_at d.time))

@@ -26,8 +26,8 @@ pub charged_push : (d : Domain) (i : ℕ) (budgets : List ℤ) (r : Running) (le
 charged_push d i budgets r left inside at is are k q within at-k =
     elim (cases_lt k i) [
       | inl before ↦ subst (IsCharged d 1 q) (sym (get_or-set_other budgets i k left (pos 0) (λ e. absurd (omega (arith, e, before))))) (are k q before at-k)
-      | inr behind ↦
-          let same : i ≡ k = omega (arith, within, behind) in
+      | inr following ↦
+          let same : i ≡ k = omega (arith, within, following) in
           let task : r ≡ q = same_Some r q (sym at ∙ ap (running d) same ∙ at-k) in
           let here : get_or (set budgets i left) k (pos 0) ≡ left = ap (λ (n : ℕ). get_or (set budgets i left) n (pos 0)) (sym same) ∙ get_or-set_same budgets i left (pos 0) inside in
           subst (IsCharged d 1 q) (sym here) (subst (λ (x : Running). IsCharged d 1 x left) task is)

@@ -20,17 +20,17 @@ use Rattle.domain_run.specs.Tick.{share_of, shares, candidate_of, candidates}
 use Rattle.domain_run.specs.Sound.{occupant}
 use Rattle.domain_run.specs.private.Choosing.{AreCounted, IsHome, task_homed_by}
 use Rattle.domain_run.specs.private.Index.{IsListedAt}
-use Rattle.domain_run.specs.private.Roster.{homed_here}
-use Rattle.domain_run.specs.private.RunQueue.{IsRoster, IsCounted}
-use Rattle.due_times.specs.Seats.{SeatsView, without_seat}
+use Rattle.domain_run.specs.private.TaskTable.{homed_here}
+use Rattle.domain_run.specs.private.RunQueue.{IsTaskTable, IsCounted}
+use Rattle.due_times.specs.OpenCharges.{OpenChargesView, without_charge}
 use Rattle.domain_run.specs.private.Timers.{due_of}
-use Rattle.domain_run.specs.private.Waiting.{owed, owed_all, WaitsIf, AllWait}
+use Rattle.domain_run.specs.private.Owed.{owed, owed_all, IsOpenIf, AreOpen}
 use Rattle.domain_run.proofs.AtHome.{homed_placed}
-use Rattle.domain_run.proofs.Counting.{roster_set}
+use Rattle.domain_run.proofs.Counting.{task_table_set}
 use Rattle.domain_run.proofs.Finding.{map_at}
 use Rattle.domain_run.proofs.Homing.{map_steps}
-use Rattle.domain_run.proofs.Staying.{map_itself}
-use Rattle.domain_run.proofs.Waiting.{alike_owed, numbered_unlike, read_owed, left_twice, length_left, turned_owed, turned_waits}
+use Rattle.domain_run.proofs.KeptRunning.{map_itself}
+use Rattle.domain_run.proofs.Owed.{alike_owed, numbered_unlike, read_owed, left_twice, length_left, applied_owed, applied_waits}
 
 -- ---- THE ORDER
 
@@ -75,7 +75,7 @@ candidates_homed places (t ∷ tasks) =
       | false ↦ more
     ]
 
--- the order of the tasks with the CPUs on which they stand
+-- the order of the tasks with the CPUs on which they run
 order_homed : (places : Places) (queue : List Candidate) (tasks : List Task) → queue ≡ by_deadline (candidates tasks) → map (with_home places) queue ≡ by_deadline (candidates (map (with_last_cpu places) tasks))
 order_homed places queue tasks is =
     ap (map (with_home places)) is ∙ sym (ordered_homed places (candidates tasks)) ∙ sym (ap by_deadline (candidates_homed places tasks))
@@ -88,13 +88,13 @@ dues_homed places (t ∷ tasks) =
     λ i. one i ∷ more i
 
 -- what a run queue counts once all belong to their CPUs
-pub counted_homed : (cpus : ℕ) (old new : RunQueue) (was : SeatsView) (seats : SeatsView) (before items : List Task)
+pub counted_homed : (cpus : ℕ) (old new : RunQueue) (was : OpenChargesView) (charges : OpenChargesView) (before items : List Task)
     → IsCounted cpus old (owed_all was before)
-    → length new.accounts.all ≡ length old.accounts.all → AreCounted new.accounts seats items
+    → length new.accounts.all ≡ length old.accounts.all → AreCounted new.accounts charges items
     → new.schedule.queue ≡ map (with_home new.schedule.places) old.schedule.queue → new.timers ≡ old.timers
-    → owed_all seats items ≡ map (with_last_cpu new.schedule.places) (owed_all was before)
-    → IsCounted cpus new (owed_all seats items)
-counted_homed cpus old new was seats before items is wide counts queue timers tasks =
+    → owed_all charges items ≡ map (with_last_cpu new.schedule.places) (owed_all was before)
+    → IsCounted cpus new (owed_all charges items)
+counted_homed cpus old new was charges before items is wide counts queue timers tasks =
     let places = new.schedule.places in
     record {
       wide = wide ∙ is.wide;
@@ -103,57 +103,57 @@ counted_homed cpus old new was seats before items is wide counts queue timers ta
         order = queue ∙ order_homed places old.schedule.queue (owed_all was before) is.counts.order ∙ sym (ap (λ (ts : List Task). by_deadline (candidates ts)) tasks);
         due = timers ∙ is.counts.due ∙ sym (dues_homed places (owed_all was before)) ∙ sym (ap (λ (ts : List Task). map due_of ts) tasks);
       };
-      roster = counts.roster;
+      task_table = counts.task_table;
       homed = subst (λ (ts : List Task). All (λ t. with_last_cpu places t ≡ t) ts) (sym tasks) (homed_placed places (owed_all was before));
     }
 
 -- ---- ONE TASK THAT STARTS
 
-module _ (accounts : AccountsView) (s : SeatsView) (tasks : List Task) (p : ℕ) (x : Task) (h : p < length tasks) (read : x ≡ get_or tasks p x) (counts : AreCounted accounts s tasks) where
+module _ (accounts : AccountsView) (s : OpenChargesView) (tasks : List Task) (p : ℕ) (x : Task) (h : p < length tasks) (read : x ≡ get_or tasks p x) (counts : AreCounted accounts s tasks) where
   abbrev seen : Task
-  seen = owed s.upto s.seats x
+  seen = owed s.upto s.charges x
 
   within : p < length (owed_all s tasks)
-  within = let many : length (map (owed s.upto s.seats) tasks) ≡ length tasks = simp length-map in omega (arith, h, many)
+  within = let many : length (map (owed s.upto s.charges) tasks) ≡ length tasks = simp length-map in omega (arith, h, many)
 
   read_seen : seen ≡ get_or (owed_all s tasks) p seen
-  read_seen = read_owed s.upto s.seats tasks p x h read
+  read_seen = read_owed s.upto s.charges tasks p x h read
 
-  pub start_waits : WaitsIf s.seats x
-  start_waits = subst (WaitsIf s.seats) (sym read) (counts.waits p x h)
+  pub start_waits : IsOpenIf s.charges x
+  start_waits = subst (IsOpenIf s.charges) (sym read) (counts.waits p x h)
 
-  pub start_held : Holds accounts (share_of (owed s.upto s.seats x))
+  pub start_held : Holds accounts (share_of (owed s.upto s.charges x))
   start_held = subst (λ (t : Task). Holds accounts (share_of t)) (sym read_seen) (held_at share_of accounts (owed_all s tasks) p seen within counts.sums)
 
-  module _ (cpu : ℕ) (new : AccountsView) (after : SeatsView) (y : Task) (there : cpu < length accounts.all) (is : y ≡ with_cpu (Some cpu) (owed s.upto s.seats x)) (are : after ≡ record s { seats = without_seat cpu x.number (without_seat x.cpu x.number s.seats) }) where
+  module _ (cpu : ℕ) (new : AccountsView) (after : OpenChargesView) (y : Task) (there : cpu < length accounts.all) (is : y ≡ with_cpu (Some cpu) (owed s.upto s.charges x)) (are : after ≡ record s { charges = without_charge cpu x.number (without_charge x.cpu x.number s.charges) }) where
     same : y.number ≡ x.number
-    same = ap (λ (t : Task). t.number) is ∙ (alike_owed s.upto s.seats x).number
+    same = ap (λ (t : Task). t.number) is ∙ (alike_owed s.upto s.charges x).number
 
-    left_are : after ≡ record s { seats = left_twice x y s.seats }
-    left_are = are ∙ ap (λ (c : ℕ). record s { seats = without_seat c x.number (without_seat x.cpu x.number s.seats) }) (sym (ap (λ (t : Task). t.cpu) is))
+    left_are : after ≡ record s { charges = left_twice x y s.charges }
+    left_are = are ∙ ap (λ (c : ℕ). record s { charges = without_charge c x.number (without_charge x.cpu x.number s.charges) }) (sym (ap (λ (t : Task). t.cpu) is))
 
     numbered : AllPairs (λ a b. a.number ≢ b.number) tasks
-    numbered = numbered_unlike (owed s.upto s.seats) (alike_owed s.upto s.seats) tasks counts.roster.numbered
+    numbered = numbered_unlike (owed s.upto s.charges) (alike_owed s.upto s.charges) tasks counts.task_table.numbered
 
     view_is : owed_all after (set tasks p y) ≡ set (owed_all s tasks) p y
-    view_is = ap (λ (v : SeatsView). owed_all v (set tasks p y)) left_are ∙ turned_owed s.upto s.seats tasks p x y h read numbered same
+    view_is = ap (λ (v : OpenChargesView). owed_all v (set tasks p y)) left_are ∙ applied_owed s.upto s.charges tasks p x y h read numbered same
 
-    pub started_counts : Exchanges accounts new (share_of (owed s.upto s.seats x) ∷ []) (share_of y ∷ []) → AreCounted new after (set tasks p y)
+    pub started_counts : Exchanges accounts new (share_of (owed s.upto s.charges x) ∷ []) (share_of y ∷ []) → AreCounted new after (set tasks p y)
     started_counts exchanges = record {
       sums = subst (λ (ts : List Task). AreAccounts new (shares ts)) (sym view_is)
           (turned_at share_of accounts new (owed_all s tasks) p seen y within
           (subst (λ (t : Task). t.cpu < length accounts.all) (sym is) there)
           (subst (λ (t : Task). Exchanges accounts new (share_of t ∷ []) (share_of y ∷ [])) read_seen exchanges) counts.sums);
-      roster =
-          let short : seen.params.bw ≤ 2 ^ 26 = subst (λ (t : Task). t.params.bw ≤ 2 ^ 26) (sym read_seen) (counts.roster.short p seen within) in
-          subst IsRoster (sym view_is) (roster_set (owed_all s tasks) p seen y (ap (λ (t : Task). t.number) is ∙ ap (λ (t : Task). t.number) read_seen) (subst (λ (t : Task). t.params.bw ≤ 2 ^ 26) (sym is) short) counts.roster);
-      waits = subst (λ (v : SeatsView). AllWait v.seats (set tasks p y)) (sym left_are) (turned_waits s.upto s.seats tasks p x y h read numbered same counts.waits);
+      task_table =
+          let short : seen.params.bw ≤ 2 ^ 26 = subst (λ (t : Task). t.params.bw ≤ 2 ^ 26) (sym read_seen) (counts.task_table.short p seen within) in
+          subst IsTaskTable (sym view_is) (task_table_set (owed_all s tasks) p seen y (ap (λ (t : Task). t.number) is ∙ ap (λ (t : Task). t.number) read_seen) (subst (λ (t : Task). t.params.bw ≤ 2 ^ 26) (sym is) short) counts.task_table);
+      waits = subst (λ (v : OpenChargesView). AreOpen v.charges (set tasks p y)) (sym left_are) (applied_waits s.upto s.charges tasks p x y h read numbered same counts.waits);
     }
 
     pub started_tasks : (number : ℕ) → IsListedAt (owed_all s tasks) number p → owed_all after (set tasks p y) ≡ map (homed_here (Some number) cpu) (owed_all s tasks)
     started_tasks number at =
         view_is ∙ ap (λ (t : Task). set (owed_all s tasks) p t) (is ∙ ap (with_cpu (Some cpu)) read_seen)
-        ∙ sym (map_at (with_cpu (Some cpu)) number (owed_all s tasks) p seen counts.roster.numbered at)
+        ∙ sym (map_at (with_cpu (Some cpu)) number (owed_all s tasks) p seen counts.task_table.numbered at)
 
     pub started_home : (number : ℕ) → number ≡ x.number → IsHome (Some number) cpu p (owed_all after (set tasks p y))
     started_home number number_is =
@@ -161,7 +161,7 @@ module _ (accounts : AccountsView) (s : SeatsView) (tasks : List Task) (p : ℕ)
         let many : length (owed_all after (set tasks p y)) ≡ length (owed_all s tasks) = ap (λ (ts : List Task). length ts) view_is ∙ length-set (owed_all s tasks) p y in
         record {
           within = omega (arith, many, within);
-          stands = λ d. ap (λ n. Some n) (number_is ∙ sym same ∙ sym (ap (λ (t : Task). t.number) (seen_there d)));
+          is_on_cpu = λ d. ap (λ n. Some n) (number_is ∙ sym same ∙ sym (ap (λ (t : Task). t.number) (seen_there d)));
           home = λ d. ap (λ (t : Task). t.cpu) (seen_there d) ∙ ap (λ (t : Task). t.cpu) is;
         }
 
@@ -169,17 +169,17 @@ module _ (accounts : AccountsView) (s : SeatsView) (tasks : List Task) (p : ℕ)
     started_view = view_is
 
     pub started_clock : after.upto ≡ s.upto
-    started_clock = ap (λ (v : SeatsView). v.upto) are
+    started_clock = ap (λ (v : OpenChargesView). v.upto) are
 
-    pub started_wide : length after.seats ≡ length s.seats
-    started_wide = ap (λ (v : SeatsView). length v.seats) are ∙ length_left cpu x.number (without_seat x.cpu x.number s.seats) ∙ length_left x.cpu x.number s.seats
+    pub started_wide : length after.charges ≡ length s.charges
+    started_wide = ap (λ (v : OpenChargesView). length v.charges) are ∙ length_left cpu x.number (without_charge x.cpu x.number s.charges) ∙ length_left x.cpu x.number s.charges
 
   -- where it belongs to the CPU already, nothing is to be done
   pub stays_tasks : (cpu number : ℕ) → x.cpu ≡ cpu → IsListedAt (owed_all s tasks) number p → owed_all s tasks ≡ map (homed_here (Some number) cpu) (owed_all s tasks)
   stays_tasks cpu number here at =
       let home : with_cpu (Some cpu) (get_or (owed_all s tasks) p seen) ≡ get_or (owed_all s tasks) p seen =
-      ap (with_cpu (Some cpu)) (sym read_seen) ∙ ap (λ (c : ℕ). record seen { cpu = c }) (sym here ∙ sym (alike_owed s.upto s.seats x).cpu) ∙ read_seen in
-      sym (map_at (with_cpu (Some cpu)) number (owed_all s tasks) p seen counts.roster.numbered at ∙ ap (λ (t : Task). set (owed_all s tasks) p t) home ∙ set-get_or (owed_all s tasks) p seen)
+      ap (with_cpu (Some cpu)) (sym read_seen) ∙ ap (λ (c : ℕ). record seen { cpu = c }) (sym here ∙ sym (alike_owed s.upto s.charges x).cpu) ∙ read_seen in
+      sym (map_at (with_cpu (Some cpu)) number (owed_all s tasks) p seen counts.task_table.numbered at ∙ ap (λ (t : Task). set (owed_all s tasks) p t) home ∙ set-get_or (owed_all s tasks) p seen)
 
 -- ---- ONE CPU AFTER ANOTHER
 

@@ -1,4 +1,5 @@
--- The switches that are still to be made: what is made and what is to come is the whole, and what is to come is not before the domain's time.
+-- The switches that are still to be made: what is made and what is to come is the whole, and what
+-- is to come is not before the domain's time.
 use Rattle.std.proofs.Common.{◌≡◌, ℕ, zero, suc, ◌+◌, ◌≤◌, Bool, true, false, cond, Option, List, [], ◌∷◌, ◌++◌, refl, sym, ap, ◌∙◌, append-nil, arith}
 use Rattle.std.specs.Prelude.{All}
 use Rattle.std.proofs.lemmas.List.Elements.{All-nil, All-cons, All-append, All-weaker}
@@ -13,7 +14,7 @@ use Rattle.domain_run.specs.Run.{after_calls}
 use Rattle.domain_run.specs.Switch.{Switch}
 use Rattle.domain_run.specs.Switches.{prev_state_of, switches_from}
 use Rattle.domain_run.specs.Tick.{prepared, ticked, ticks}
-use Rattle.domain_run.proofs.Passing.{ticks_behind}
+use Rattle.domain_run.proofs.Passing.{ticks_after}
 use Rattle.edf_pick.specs.Moves.{same_occupant}
 
 -- so many ticks, and then so many more
@@ -26,7 +27,7 @@ ticks_then m (suc k) d = let next : suc (m + k) ≡ m + suc k = omega arith in a
 pub to_come_after : (n : ℕ) (d : Domain) → (ticks n d).switches ≡ d.switches ++ switches_to_come n d
 to_come_after n d =
     let past : with_past d.switches (without_switches d) ≡ d = ap (λ (ss : List Switch). record d { switches = ss }) (append-nil d.switches) in
-    ap (λ (e : Domain). (ticks n e).switches) (sym past) ∙ ap (λ (e : Domain). e.switches) (ticks_behind n d.switches (without_switches d))
+    ap (λ (e : Domain). (ticks n e).switches) (sym past) ∙ ap (λ (e : Domain). e.switches) (ticks_after n d.switches (without_switches d))
 
 -- where some of the ticks are made
 pub to_come_more : (n made left : ℕ) (d e : Domain) → e ≡ ticks made d → made + left ≡ n → e.switches ++ switches_to_come left e ≡ d.switches ++ switches_to_come n d

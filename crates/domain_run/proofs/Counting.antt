@@ -21,7 +21,7 @@ use Rattle.domain_run.specs.declared.run_queue.RunQueue.{RunQueue}
 use Rattle.domain_run.specs.Conditions.{is_ready, is_contending, is_leaving}
 use Rattle.domain_run.specs.Tick.{share_of, shares, candidate_of, candidates}
 use Rattle.domain_run.specs.private.Timers.{due_of}
-use Rattle.domain_run.specs.private.RunQueue.{ready_at, ready_of, candidate_at, share_on, standing_of, QueueCounts, IsRoster, IsCounted, with_ready, without_ready, MayTurn, HasTurned, AreHomed}
+use Rattle.domain_run.specs.private.RunQueue.{ready_at, ready_of, candidate_at, share_on, status_of, QueueCounts, IsTaskTable, IsCounted, with_ready, without_ready, MayApply, IsApplied, AreHomed}
 use Rattle.edf_pick.specs.Places.{Places, placed}
 use Rattle.domain_run.specs.declared.task.Condition.{Condition}
 use Rattle.domain_run.specs.declared.task.Condition.TheVariants.{Ready, Throttled, Blocked, Waiting, Leaving}
@@ -29,7 +29,7 @@ use Rattle.domain_run.specs.Parts.{is_listed, with_last_cpu}
 use Rattle.domain_run.specs.Calls.{ended_at}
 use Rattle.domain_run.proofs.Placing.{not_true}
 use Rattle.domain_run.specs.Sound.{HasNoTaskTwice}
-use Rattle.domain_run.proofs.Seating.{IsSeating, placed_is}
+use Rattle.domain_run.proofs.OpenCharging.{IsCharging, placed_is}
 use Rattle.domain_run.proofs.Keeping.{Same, same_either, length-filter_least}
 use Rattle.domain_run.proofs.Homes.{still_homed, is_at_home, ordered_others}
 use Rattle.attr_check.specs.ParamsView.{ParamsView}
@@ -74,8 +74,8 @@ numbered_set tasks i d y same numbered j k e less within =
     let n : length (set tasks i y) ≡ length tasks = length-set tasks i y in
     λ equal. numbered j k e less (omega arith) (sym (number_at tasks i j d e y (omega arith) same) ∙ equal ∙ number_at tasks i k d e y (omega arith) same)
 
-pub roster_set : (tasks : List Task) (i : ℕ) (d y : Task) → y.number ≡ (get_or tasks i d).number → y.params.bw ≤ 2 ^ 26 → IsRoster tasks → IsRoster (set tasks i y)
-roster_set tasks i d y same short is = record {
+pub task_table_set : (tasks : List Task) (i : ℕ) (d y : Task) → y.number ≡ (get_or tasks i d).number → y.params.bw ≤ 2 ^ 26 → IsTaskTable tasks → IsTaskTable (set tasks i y)
+task_table_set tasks i d y same short is = record {
   few = omega (arith, length-set tasks i y, is.few);
   short = All-set (λ (t : Task). t.params.bw ≤ 2 ^ 26) tasks i y short is.short;
   numbered = numbered_set tasks i d y same is.numbered;
@@ -98,14 +98,14 @@ others_one (Some c) xs ys numbered = ordered_others c xs ys numbered
 homed_one : (places : Places) (t : Task) → with_last_cpu places t ≡ t → IfSome (ready_of t) (λ c. IsAtHome places c)
 homed_one places t homed = elim (is_ready t.condition) as (λ b. IfSome (candidate_at t.number t.cpu (cond b (Some (candidate_of t).deadline) None)) (λ c. IsAtHome places c)) [ true ↦ is_at_home places t homed | false ↦ tt ]
 
--- a task at a place, what is before it and behind it
+-- a task at a place, what is before it and after it
 pub record IsSplit (tasks : List Task) (t y : Task) (front back : List Task) : Type 0 where
   pub one_less : length front + length back < length tasks
   pub was : candidates tasks ≡ candidates front ++ (one (ready_of t) ++ candidates back)
   pub numbered : IsNumbered (candidates front ++ (one (ready_of t) ++ candidates back))
   pub turned : IsNumbered (candidates front ++ (one (ready_of y) ++ candidates back))
 
-split : (tasks : List Task) (i : ℕ) (d y : Task) → i < length tasks → y.number ≡ (get_or tasks i d).number → IsRoster tasks → IsSplit tasks (get_or tasks i d) y (take i tasks) (drop (i + 1) tasks)
+split : (tasks : List Task) (i : ℕ) (d y : Task) → i < length tasks → y.number ≡ (get_or tasks i d).number → IsTaskTable tasks → IsSplit tasks (get_or tasks i d) y (take i tasks) (drop (i + 1) tasks)
 split tasks i d y h same is =
     let front = take i tasks in
     let back = drop (i + 1) tasks in
@@ -119,12 +119,13 @@ split tasks i d y h same is =
 
 -- ---- ONE TASK TURNS
 
-pub total_short : (tasks : List Task) → IsRoster tasks → total_bw (shares tasks) ≤ 2 ^ 34
+pub total_short : (tasks : List Task) → IsTaskTable tasks → total_bw (shares tasks) ≤ 2 ^ 34
 total_short tasks is =
     let e : length (shares tasks) ≡ length tasks = simp length-map in
     omega (arith, sum_by-le (λ (s : Share). s.bw) (2 ^ 26) (shares tasks) (All-map (λ (s : Share). s.bw ≤ 2 ^ 26) share_of tasks is.short), is.few)
 
--- what a task may turn to: its number and its CPU stay, its bandwidth is in range, and its CPU is there
+-- what a task may turn to: its number and its CPU stay, its bandwidth is in range, and its CPU is
+-- there
 pub record IsFit (cpus : ℕ) (t y : Task) : Type 0 where
   pub number : y.number ≡ t.number
   pub short : y.params.bw ≤ 2 ^ 26
@@ -151,10 +152,10 @@ same_fit cpus t y same short home = record {
 pub ended_same : (time : ℕ) (t : Task) → Same t (ended_at time t)
 ended_same time t = same_either (is_contending t.condition) t _ _ (record { number = refl; params = refl; cpu = refl }) (record { number = refl; params = refl; cpu = refl })
 
-pub may_turn : (cpus : ℕ) (queue : RunQueue) (tasks : List Task) (i : ℕ) (d y : Task) → i < length tasks → IsFit cpus (get_or tasks i d) y → IsCounted cpus queue tasks → MayTurn i (get_or tasks i d).number (get_or tasks i d).cpu queue (standing_of (get_or tasks i d)) (standing_of y)
-may_turn cpus queue tasks i d y h fit is =
+pub may_apply : (cpus : ℕ) (queue : RunQueue) (tasks : List Task) (i : ℕ) (d y : Task) → i < length tasks → IsFit cpus (get_or tasks i d) y → IsCounted cpus queue tasks → MayApply i (get_or tasks i d).number (get_or tasks i d).cpu queue (status_of (get_or tasks i d)) (status_of y)
+may_apply cpus queue tasks i d y h fit is =
     let short = fit.short in
-    let s = split tasks i d y h fit.number is.roster in
+    let s = split tasks i d y h fit.number is.task_table in
     let front = take i tasks in
     let back = drop (i + 1) tasks in
     let order = is.counts.order ∙ ap by_deadline s.was in
@@ -164,21 +165,21 @@ may_turn cpus queue tasks i d y h fit is =
     record {
       within = omega (arith, h, timers, ap (λ (ds : List ℕ). length ds) is.counts.due);
       held = held_at share_of queue.accounts tasks i d h is.counts.sums;
-      fits = omega (arith, is.counts.sums.total, total_short tasks is.roster);
-      room = rw rest (omega (arith, length_ordered (candidates front ++ candidates back), length-append (candidates front) (candidates back), candidates_few front, candidates_few back, s.one_less, is.roster.few));
+      fits = omega (arith, is.counts.sums.total, total_short tasks is.task_table);
+      room = rw rest (omega (arith, length_ordered (candidates front ++ candidates back), length-append (candidates front) (candidates back), candidates_few front, candidates_few back, s.one_less, is.task_table.few));
       numbered = rw rest (subst (λ o. IfSome o (λ c. All (λ a. a.number ≢ c.number) (by_deadline (candidates front ++ candidates back)))) came (others_one (ready_of y) (candidates front) (candidates back) s.turned));
       homed = subst (λ o. IfSome o (λ c. IsAtHome queue.schedule.places c)) came (homed_one queue.schedule.places y (still_homed queue.schedule.places (get_or tasks i d) y fit.number fit.cpu (is.homed i d h)));
     }
 
-pub turned : (cpus : ℕ) (queue new : RunQueue) (tasks : List Task) (i : ℕ) (d y : Task) → i < length tasks → IsFit cpus (get_or tasks i d) y → HasTurned i (get_or tasks i d).number (get_or tasks i d).cpu (standing_of (get_or tasks i d)) (standing_of y) queue new → IsCounted cpus queue tasks → IsCounted cpus new (set tasks i y)
+pub turned : (cpus : ℕ) (queue new : RunQueue) (tasks : List Task) (i : ℕ) (d y : Task) → i < length tasks → IsFit cpus (get_or tasks i d) y → IsApplied i (get_or tasks i d).number (get_or tasks i d).cpu (status_of (get_or tasks i d)) (status_of y) queue new → IsCounted cpus queue tasks → IsCounted cpus new (set tasks i y)
 turned cpus queue new tasks i d y h fit has is =
     let t = get_or tasks i d in
-    let s = split tasks i d y h fit.number is.roster in
+    let s = split tasks i d y h fit.number is.task_table in
     let front = take i tasks in
     let back = drop (i + 1) tasks in
     let order = is.counts.order ∙ ap by_deadline s.was in
     let came = ready_same t y fit.number fit.cpu in
-    let sums : Exchanges queue.accounts new.accounts (share_of t ∷ []) (share_of y ∷ []) = subst (λ (n : ℕ). Exchanges queue.accounts new.accounts (share_of t ∷ []) (share_on n (standing_of y) ∷ [])) (sym fit.cpu) has.sums in
+    let sums : Exchanges queue.accounts new.accounts (share_of t ∷ []) (share_of y ∷ []) = subst (λ (n : ℕ). Exchanges queue.accounts new.accounts (share_of t ∷ []) (share_on n (status_of y) ∷ [])) (sym fit.cpu) has.sums in
     let now : candidates (set tasks i y) ≡ candidates front ++ (one (ready_of y) ++ candidates back) = ap candidates (set_at tasks i y h) ∙ candidates_at front y back in
     record {
       wide = has.sums.cpus ∙ is.wide;
@@ -196,15 +197,15 @@ turned cpus queue new tasks i d y h fit has is =
           | inr e ↦ e ∙ ap (λ (ds : List ℕ). set ds i (due_of y)) is.counts.due ∙ sym (map-set due_of tasks i y)
         ];
       };
-      roster = roster_set tasks i d y fit.number fit.short is.roster;
+      task_table = task_table_set tasks i d y fit.number fit.short is.task_table;
       homed = subst (λ (ps : Places). AreHomed ps (set tasks i y)) (sym has.places)
           (All-set (λ (u : Task). with_last_cpu queue.schedule.places u ≡ u) tasks i y (still_homed queue.schedule.places (get_or tasks i d) y fit.number fit.cpu (is.homed i d h)) is.homed);
     }
 
 -- ---- lists
 
-pub roster_push : (tasks : List Task) (t : Task) → length tasks < 256 → t.params.bw ≤ 2 ^ 26 → All (λ u. u.number ≢ t.number) tasks → IsRoster tasks → IsRoster (tasks ++ t ∷ [])
-roster_push tasks t few short absent is = record {
+pub task_table_push : (tasks : List Task) (t : Task) → length tasks < 256 → t.params.bw ≤ 2 ^ 26 → All (λ u. u.number ≢ t.number) tasks → IsTaskTable tasks → IsTaskTable (tasks ++ t ∷ [])
+task_table_push tasks t few short absent is = record {
   few = omega (arith, few, length-append tasks (t ∷ []));
   short = All-push (λ (u : Task). u.params.bw ≤ 2 ^ 26) tasks t is.short short;
   numbered = all_pairs_push (λ a b. a.number ≢ b.number) tasks t is.numbered absent;
@@ -235,10 +236,10 @@ pub counted_listed : (cpus : ℕ) (queue new : RunQueue) (tasks : List Task) →
 counted_listed cpus queue new tasks wide ready due sums is = record {
   wide = wide ∙ is.wide;
   counts = record { sums = sums; order = ap (λ (v : ScheduleView). v.queue) ready ∙ is.counts.order ∙ sym (ap by_deadline (candidates_listed tasks)); due = due };
-  roster = record {
-    few = omega (arith, length-filter_least is_listed tasks, is.roster.few);
-    short = All-filter is_listed (λ (t : Task). t.params.bw ≤ 2 ^ 26) tasks is.roster.short;
-    numbered = AllPairs-filter (λ a b. a.number ≢ b.number) is_listed tasks is.roster.numbered;
+  task_table = record {
+    few = omega (arith, length-filter_least is_listed tasks, is.task_table.few);
+    short = All-filter is_listed (λ (t : Task). t.params.bw ≤ 2 ^ 26) tasks is.task_table.short;
+    numbered = AllPairs-filter (λ a b. a.number ≢ b.number) is_listed tasks is.task_table.numbered;
   };
   homed = subst (λ (v : ScheduleView). AreHomed v.places (filter is_listed tasks)) (sym ready) (All-filter is_listed (λ (t : Task). with_last_cpu queue.schedule.places t ≡ t) tasks is.homed);
 }
@@ -247,9 +248,9 @@ counted_listed cpus queue new tasks wide ready due sums is = record {
 pub placed_counted : (n : ℕ) (ready : List Candidate) (tasks : List Task) (before : Places) → ready ≡ by_deadline (candidates tasks) → AllPairs (λ a b. a.number ≢ b.number) tasks → placed n ready before ≡ placed n (candidates tasks) before
 placed_counted n ready tasks before is numbered = ap (λ q. placed n q before) is ∙ placed_ordered n (candidates tasks) before (numbered_candidates tasks numbered)
 
-pub placed_seating : (ready : List Candidate) (tasks : List Task) (before new : Places) → ready ≡ by_deadline (candidates tasks) → AllPairs (λ a b. a.number ≢ b.number) tasks → HasNoTaskTwice before → new ≡ placed (length before) ready before → IsSeating (candidates tasks) (length before) new
-placed_seating ready tasks before new is numbered apart e =
-    subst (IsSeating (candidates tasks) (length before)) (sym (e ∙ placed_counted (length before) ready tasks before is numbered)) (placed_is (length before) (candidates tasks) before refl apart)
+pub placed_charging : (ready : List Candidate) (tasks : List Task) (before new : Places) → ready ≡ by_deadline (candidates tasks) → AllPairs (λ a b. a.number ≢ b.number) tasks → HasNoTaskTwice before → new ≡ placed (length before) ready before → IsCharging (candidates tasks) (length before) new
+placed_charging ready tasks before new is numbered apart e =
+    subst (IsCharging (candidates tasks) (length before)) (sym (e ∙ placed_counted (length before) ready tasks before is numbered)) (placed_is (length before) (candidates tasks) before refl apart)
 
 -- what the sums say of their list
 pub inactive_is : (a : AccountsView) (xs : List Share) (cpu : ℕ) → AreAccounts a xs → inactive_at cpu a ≡ uinact cpu xs

@@ -15,7 +15,7 @@ use Rattle.domain_run.specs.Tick.{shares, candidates}
 use Rattle.domain_run.specs.Parts.{with_last_cpu}
 use Rattle.domain_run.specs.Calls.{of_number, is_other, after_departure}
 use Rattle.domain_run.specs.Sound.{IsSound, IsAdmitted, IsDomain}
-use Rattle.domain_run.specs.private.Roster.{quit}
+use Rattle.domain_run.specs.private.TaskTable.{quit}
 use Rattle.domain_run.specs.private.RunQueue.{IsCounted, AreHomed, ready_of}
 use Rattle.domain_run.specs.private.Timers.{due_of}
 use Rattle.domain_run.proofs.Counting.{one, candidates_first}
@@ -44,10 +44,10 @@ pub counted_others : (cpus : ℕ) (queue new : RunQueue) (number : ℕ) (tasks :
 counted_others cpus queue new number tasks wide ready due sums idle is = record {
   wide = wide ∙ is.wide;
   counts = record { sums = sums; order = ap (λ (v : ScheduleView). v.queue) ready ∙ is.counts.order ∙ sym (ap by_deadline (candidates_others number tasks idle)); due = due };
-  roster = record {
-    few = omega (arith, length-filter_least (is_other number) tasks, is.roster.few);
-    short = All-filter (is_other number) (λ (t : Task). t.params.bw ≤ 2 ^ 26) tasks is.roster.short;
-    numbered = AllPairs-filter (λ a b. a.number ≢ b.number) (is_other number) tasks is.roster.numbered;
+  task_table = record {
+    few = omega (arith, length-filter_least (is_other number) tasks, is.task_table.few);
+    short = All-filter (is_other number) (λ (t : Task). t.params.bw ≤ 2 ^ 26) tasks is.task_table.short;
+    numbered = AllPairs-filter (λ a b. a.number ≢ b.number) (is_other number) tasks is.task_table.numbered;
   };
   homed = subst (λ (v : ScheduleView). AreHomed v.places (filter (is_other number) tasks)) (sym ready) (All-filter (is_other number) (λ (t : Task). with_last_cpu queue.schedule.places t ≡ t) tasks is.homed);
 }

@@ -104,7 +104,7 @@ step_is tasks p x y f h read is = record { is = λ d. ap (set tasks p) (is ∙ a
 pub step_none : (tasks : List Task) (p : ℕ) (f : Task → Task) → ((d : Task) → f (get_or tasks p d) ≡ get_or tasks p d) → IsTimerStep f p tasks tasks
 step_none tasks p f still = record { is = λ d. sym (ap (set tasks p) (still d) ∙ set-get_or tasks p d) }
 
--- two changes of it, one behind the other
+-- two changes of it, one after the other
 pub step_then : (f g : Task → Task) (tasks mid new : List Task) (p : ℕ) → p < length tasks → IsTimerStep f p tasks mid → IsTimerStep g p mid new → IsTimerStep (λ t. g (f t)) p tasks new
 step_then f g tasks mid new p h one two = record {
   is = λ d.

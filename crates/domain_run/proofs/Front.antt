@@ -21,7 +21,7 @@ use Rattle.domain_run.proofs.Jumping.{filter_whole}
 pub others_all : (tasks : List Task) (number : ℕ) → IsUnlisted tasks number → filter (is_other number) tasks ≡ tasks
 others_all tasks number absent = filter_whole (is_other number) tasks (λ k d within. ap not (ne_eqb (get_or tasks k d).number number (absent k d within)))
 
--- a list without one of its items is what stands before it and behind it
+-- a list without one of its items is what runs before it and after it
 pub removed_parts : {X : Type 0} (xs : List X) (i : ℕ) → remove xs i ≡ take i xs ++ drop (i + 1) xs
 removed_parts xs i =
     let next : suc i ≡ i + 1 = omega arith in

@@ -12,7 +12,7 @@ use Rattle.domain_run.specs.Shift.{given_again}
 use Rattle.domain_run.specs.Sound.{IsDomain}
 use Rattle.domain_run.specs.Switch.{Switch}
 use Rattle.domain_run.specs.Tick.{ticks}
-use Rattle.domain_run.proofs.Passing.{forgets_keeps, ticks_behind}
+use Rattle.domain_run.proofs.Passing.{forgets_keeps, ticks_after}
 use Rattle.domain_run.proofs.Repeating.{again_is}
 
 no_later : (ss : List Switch) → map (later_switch 0) ss ≡ ss
@@ -26,7 +26,7 @@ no_later (s ∷ ss) =
 bare : (k : ℕ) (d : Domain) → without_switches (ticks k d) ≡ without_switches (ticks k (without_switches d))
 bare k d =
     let past : with_past d.switches (without_switches d) ≡ d = ap (λ (ss : List Switch). record d { switches = ss }) (append-nil d.switches) in
-    ap (λ (e : Domain). without_switches e) (sym (ap (λ (e : Domain). ticks k e) past) ∙ ticks_behind k d.switches (without_switches d))
+    ap (λ (e : Domain). without_switches e) (sym (ap (λ (e : Domain). ticks k e) past) ∙ ticks_after k d.switches (without_switches d))
 
 -- with the switches that the ticks would make, it is the domain to which they lead
 with_switches : (k : ℕ) (paces : List Pace) (d : Domain) → MayGoOn k paces d → ticks k (without_switches d) ≡ given_again k paces 0 (switches_to_come k d) (without_switches d)

@@ -1,11 +1,11 @@
--- Who stands on a CPU belongs to it: the tasks, and the ready ones as the choice sees them.
+-- The task that runs on a CPU belongs to it: the tasks, and the ready ones as the choice sees them.
 use Rattle.std.proofs.Common.{◌≡◌, ◌≢◌, ℕ, suc, true, false, cond, ◌||◌, Option, Some, None, List, [], ◌∷◌, ◌++◌, get_or, map, refl, sym, ap, subst, ◌∙◌}
 use Rattle.std.specs.Prelude.{All, position, option_map}
 use Rattle.std.proofs.lemmas.List.Elements.{All-map, All-weaker, All-cons, All-head, All-tail, Contains-get_or}
 use Rattle.edf_pick.specs.declared.candidate.Candidate.{Candidate}
-use Rattle.edf_pick.specs.Changes.{stands_home}
+use Rattle.edf_pick.specs.Changes.{runs_home}
 use Rattle.edf_pick.specs.Order.{by_deadline}
-use Rattle.edf_pick.specs.Places.{Places, is_task, stands}
+use Rattle.edf_pick.specs.Places.{Places, is_task, is_on_cpu}
 use Rattle.edf_pick.specs.Schedule.{IsAtHome}
 use Rattle.edf_pick.proofs.CallerLemmas.{IsNumbered, numbered_first, numbered_rest, contains_from_ordered}
 use Rattle.domain_run.specs.declared.task.Task.{Task}
@@ -14,7 +14,7 @@ use Rattle.domain_run.specs.Sound.{occupant}
 use Rattle.domain_run.specs.Tick.{candidate_of}
 use Rattle.domain_run.specs.private.RunQueue.{AreHomed}
 use Rattle.domain_run.proofs.Placing.{found_at}
-use Rattle.domain_run.proofs.Staying.{first_at, first_is}
+use Rattle.domain_run.proofs.KeptRunning.{first_at, first_is}
 
 -- the same number and the same CPU
 at_home : (o : Option ℕ) (t u : Task) → u.cpu ≡ t.cpu → with_cpu o t ≡ t → with_cpu o u ≡ u
@@ -27,25 +27,25 @@ still_homed places t u number cpu h = at_home (position (is_task u.number) place
 pub homed_map : (places : Places) (f : Task → Task) (tasks : List Task) → ((t : Task) → (f t).number ≡ t.number) → ((t : Task) → (f t).cpu ≡ t.cpu) → AreHomed places tasks → AreHomed places (map f tasks)
 homed_map places f tasks number cpu all = All-map (λ t. with_last_cpu places t ≡ t) f tasks (All-weaker (λ t. with_last_cpu places t ≡ t) (λ t. with_last_cpu places (f t) ≡ f t) (λ t h. still_homed places t (f t) (number t) (cpu t) h) tasks all)
 
--- who has no place stands nowhere
+-- who has no place runs nowhere
 some_more : (o : Option ℕ) → option_map suc o ≡ None → o ≡ None
 some_more None e = refl
 some_more (Some k) e = absurd cc
 
-nowhere : (n : ℕ) (places : Places) → first_at (is_task n) places ≡ None → stands n places ≡ false
+nowhere : (n : ℕ) (places : Places) → first_at (is_task n) places ≡ None → is_on_cpu n places ≡ false
 nowhere n [] e = refl
 nowhere n (o ∷ places) e =
-    elim (is_task n o) as (λ b. cond b (Some 0) (option_map suc (first_at (is_task n) places)) ≡ None → (b || stands n places) ≡ false) [
+    elim (is_task n o) as (λ b. cond b (Some 0) (option_map suc (first_at (is_task n) places)) ≡ None → (b || is_on_cpu n places) ≡ false) [
       | true ↦ λ h. absurd cc
       | false ↦ λ h. nowhere n places (some_more (first_at (is_task n) places) h)
     ] e
 
--- a task that belongs to the CPU on which it stands is at home as the choice sees it
+-- a task that belongs to the CPU on which it runs is at home as the choice sees it
 pub is_at_home : (places : Places) (t : Task) → with_last_cpu places t ≡ t → IsAtHome places (candidate_of t)
-is_at_home places t homed stand = by_position (position (is_task t.number) places) refl
+is_at_home places t homed on_one = by_position (position (is_task t.number) places) refl
   where
-    by_position : (o : Option ℕ) → position (is_task t.number) places ≡ o → stands_home places (candidate_of t) ≡ true
-    by_position None e = let no : true ≡ false = sym stand ∙ nowhere t.number places (sym (first_is (is_task t.number) places) ∙ e) in absurd cc
+    by_position : (o : Option ℕ) → position (is_task t.number) places ≡ o → runs_home places (candidate_of t) ≡ true
+    by_position None e = let no : true ≡ false = sym on_one ∙ nowhere t.number places (sym (first_is (is_task t.number) places) ∙ e) in absurd cc
     by_position (Some cpu) e =
         let same : cpu ≡ t.cpu = ap (λ (x : Task). x.cpu) (sym (ap (λ o. with_cpu o t) e) ∙ homed) in
         subst (λ (k : ℕ). is_task t.number (occupant places k) ≡ true) same (found_at t.number places cpu e)

@@ -1,4 +1,4 @@
--- The numbers of those who stand, and the CPUs to which they belong, one CPU after another.
+-- The numbers of those who run, and the CPUs to which they belong, one CPU after another.
 use Rattle.std.proofs.Common.{◌≡◌, ◌≢◌, ℕ, zero, suc, ◌+◌, ◌<◌, Bool, true, false, cond, eqb, Option, Some, None, List, [], ◌∷◌, ◌++◌, length, take, get_or, map, refl, sym, ap, subst, ◌∙◌, arith, inl, inr, eq-eqb}
 use Rattle.std.specs.Prelude.{ℤ, pos, All, AllPairs, position, slice_index_or, option_map, IfSome, replicate}
 use Rattle.std.proofs.lemmas.Bool.{cases_eq, ne_eqb, lt-ltb}
@@ -14,10 +14,10 @@ use Rattle.domain_run.specs.Jump.{running_numbers}
 use Rattle.domain_run.specs.Sound.{occupant, HasNoTaskTwice}
 use Rattle.domain_run.specs.private.Paying.{ran_until, index_of, paid_at, paid, MayPay, MayPayIf}
 use Rattle.domain_run.proofs.Placing.{homed_number}
-use Rattle.domain_run.proofs.Staying.{first_at, first_is}
-use Rattle.domain_run.proofs.Runners.{standing_occupies}
+use Rattle.domain_run.proofs.KeptRunning.{first_at, first_is}
+use Rattle.domain_run.proofs.Runners.{running_occupies}
 
--- ---- the first that passes, and one more behind
+-- ---- the first that passes, and one more after
 
 first_push_no : {X : Type 0} (p : X → Bool) (xs : List X) (y : X) → p y ≡ false → first_at p (xs ++ y ∷ []) ≡ first_at p xs
 first_push_no p [] y fails = ap (λ b. cond b (Some 0) None) fails
@@ -56,40 +56,40 @@ map_same f g tasks same = λ i. map (λ t. same t i) tasks
 pub homed_keeps : (places : Places) (t : Task) → (with_last_cpu places t).number ≡ t.number
 homed_keeps places t = homed_number (position (is_task t.number) places) t
 
--- ---- WHO STANDS
+-- ---- The task that runs
 
 abbrev pub AreDistinct : List ℕ → Type 0
 AreDistinct numbers = AllPairs (λ m n. m ≢ n) numbers
 
-pub standing_distinct : (places : Places) → HasNoTaskTwice places → AreDistinct (running_numbers places)
-standing_distinct [] apart = λ i j d less within. absurd (omega (arith, within))
-standing_distinct (None ∷ places) apart = standing_distinct places (record { once = λ i j n a b. let same : suc i ≡ suc j = apart.once (suc i) (suc j) n a b in omega (arith, same) })
-standing_distinct (Some n ∷ places) apart =
+pub running_distinct : (places : Places) → HasNoTaskTwice places → AreDistinct (running_numbers places)
+running_distinct [] apart = λ i j d less within. absurd (omega (arith, within))
+running_distinct (None ∷ places) apart = running_distinct places (record { once = λ i j n a b. let same : suc i ≡ suc j = apart.once (suc i) (suc j) n a b in omega (arith, same) })
+running_distinct (Some n ∷ places) apart =
     let rest : HasNoTaskTwice places = record { once = λ i j m a b. let same : suc i ≡ suc j = apart.once (suc i) (suc j) m a b in omega (arith, same) } in
     let first : All (λ m. n ≢ m) (running_numbers places) = λ k d h same.
-    let at = standing_occupies places k (get_or (running_numbers places) k d) (slice_get-get_or (running_numbers places) k d h) in
+    let at = running_occupies places k (get_or (running_numbers places) k d) (slice_get-get_or (running_numbers places) k d h) in
     let two : zero ≡ suc at.0 = apart.once zero (suc at.0) n refl (at.1 ∙ ap (λ m. Some m) (sym same)) in
     absurd (omega (arith, two)) in
-    AllPairs-cons (λ m k. m ≢ k) n (running_numbers places) first (standing_distinct places rest)
+    AllPairs-cons (λ m k. m ≢ k) n (running_numbers places) first (running_distinct places rest)
 
 -- what is listed of them, one CPU more
-pub standing_push : (places : Places) (o : Option ℕ) → running_numbers (places ++ o ∷ []) ≡ running_numbers places ++ running_numbers (o ∷ [])
-standing_push [] o = refl
-standing_push (None ∷ places) o = standing_push places o
-standing_push (Some n ∷ places) o = ap (λ ns. n ∷ ns) (standing_push places o)
+pub running_push : (places : Places) (o : Option ℕ) → running_numbers (places ++ o ∷ []) ≡ running_numbers places ++ running_numbers (o ∷ [])
+running_push [] o = refl
+running_push (None ∷ places) o = running_push places o
+running_push (Some n ∷ places) o = ap (λ ns. n ∷ ns) (running_push places o)
 
 -- nobody
-pub standing_opened : (cpus : ℕ) → running_numbers (replicate cpus None) ≡ []
-standing_opened zero = refl
-standing_opened (suc cpus) = standing_opened cpus
+pub running_opened : (cpus : ℕ) → running_numbers (replicate cpus None) ≡ []
+running_opened zero = refl
+running_opened (suc cpus) = running_opened cpus
 
-pub standing_one : (places : Places) (i n : ℕ) → i < length places → occupant places i ≡ Some n → running_numbers (take i places) ++ n ∷ [] ≡ running_numbers (take (i + 1) places)
-standing_one places i n h is =
-    sym (standing_push (take i places) (Some n)) ∙ ap (λ o. running_numbers (take i places ++ o ∷ [])) (sym is) ∙ ap running_numbers (sym (take_more places i None h))
+pub running_one : (places : Places) (i n : ℕ) → i < length places → occupant places i ≡ Some n → running_numbers (take i places) ++ n ∷ [] ≡ running_numbers (take (i + 1) places)
+running_one places i n h is =
+    sym (running_push (take i places) (Some n)) ∙ ap (λ o. running_numbers (take i places ++ o ∷ [])) (sym is) ∙ ap running_numbers (sym (take_more places i None h))
 
-pub standing_idle : (places : Places) (i : ℕ) → i < length places → occupant places i ≡ None → running_numbers (take i places) ≡ running_numbers (take (i + 1) places)
-standing_idle places i h is =
-    sym (append-nil (running_numbers (take i places))) ∙ sym (standing_push (take i places) None) ∙ ap (λ o. running_numbers (take i places ++ o ∷ [])) (sym is) ∙ ap running_numbers (sym (take_more places i None h))
+pub running_idle : (places : Places) (i : ℕ) → i < length places → occupant places i ≡ None → running_numbers (take i places) ≡ running_numbers (take (i + 1) places)
+running_idle places i h is =
+    sym (append-nil (running_numbers (take i places))) ∙ sym (running_push (take i places) None) ∙ ap (λ o. running_numbers (take i places ++ o ∷ [])) (sym is) ∙ ap running_numbers (sym (take_more places i None h))
 
 -- ---- WHO IS PAID, one running task after another
 

@@ -11,7 +11,7 @@ use Rattle.grub_rules.specs.declared.share.Share.{Share}
 use Rattle.grub_rules.specs.Sums.{total_bw, uinact}
 use Rattle.grub_rules.specs.Rate as reclaiming
 use Rattle.edf_pick.specs.declared.candidate.Candidate.{Candidate}
-use Rattle.edf_pick.specs.Places.{Places, is_task, stands, placed}
+use Rattle.edf_pick.specs.Places.{Places, is_task, is_on_cpu, placed}
 use Rattle.domain_run.specs.declared.task.Task.{Task}
 use Rattle.domain_run.specs.declared.task.Condition.{Condition}
 use Rattle.domain_run.specs.declared.task.Condition.TheVariants.{Ready, Throttled, Blocked, Waiting, Leaving}
@@ -27,7 +27,7 @@ use Rattle.domain_run.specs.Jump.{replenished_at, asks_at, gone_at, ticks_to, ti
 use Rattle.domain_run.specs.private.RunQueue.{candidate_at, ready_of}
 use Rattle.domain_run.specs.private.Paying.{ran_until}
 use Rattle.domain_run.proofs.Counting.{one, candidates_first}
-use Rattle.domain_run.proofs.Staying.{map_itself, rehomed, stays}
+use Rattle.domain_run.proofs.KeptRunning.{map_itself, rehomed, stays}
 
 -- ---- a change that the choice and the sums do not see
 
@@ -141,14 +141,14 @@ rest_each time j (t ∷ tasks) h = All-cons (λ u. j ≤ ticks_to_due_of time u)
 -- ---- A NUMBER OF TICKS OF RUNNING, none of which is the last of anything
 
 abbrev pub slid : Domain → ℕ → Task → Task
-slid b j t = cond (stands t.number b.curr) (record t { server = charged (rate_of b t) j t.server; work = t.work - j }) t
+slid b j t = cond (is_on_cpu t.number b.curr) (record t { server = charged (rate_of b t) j t.server; work = t.work - j }) t
 
 abbrev pub slid_all : Domain → ℕ → Domain
 slid_all b j = record b { time = b.time + j; tasks = map (slid b j) b.tasks }
 
 pub alike_slid : (b : Domain) (j : ℕ) (t : Task) → Alike t (slid b j t)
 alike_slid b j t =
-    elim (stands t.number b.curr) as (λ x. Alike t (cond x (record t { server = charged (rate_of b t) j t.server; work = t.work - j }) t)) [
+    elim (is_on_cpu t.number b.curr) as (λ x. Alike t (cond x (record t { server = charged (rate_of b t) j t.server; work = t.work - j }) t)) [
       | true ↦ record { number = refl; params = refl; cpu = refl; condition = refl; zero_lag = refl; deadline = refl }
       | false ↦ record { number = refl; params = refl; cpu = refl; condition = refl; zero_lag = refl; deadline = refl }
     ]
@@ -222,23 +222,24 @@ begun_still d j some h =
     All-map (IsStill c.time) f b.tasks
     (All-weaker (λ t. j ≤ ticks_to_due_of (d.time + 1) t) (λ t. IsStill c.time (f t)) (λ t k. still_before d.time j (f t) some (rw (rest_alike (d.time + 1) t (f t) (same t)) k)) b.tasks (rest_each (d.time + 1) j b.tasks h)) in
     let ready : candidates c.tasks ≡ map (rehomed b.curr) (candidates w) = candidates_alike f same b.tasks ∙ candidates_homed b.curr w in
-    let seats : placed c.cpus (candidates c.tasks) c.curr ≡ c.curr = ap (λ cs. placed c.cpus cs c.curr) ready ∙ stays d.cpus (candidates w) d.curr b.curr in
+    let charges : placed c.cpus (candidates c.tasks) c.curr ≡ c.curr = ap (λ cs. placed c.cpus cs c.curr) ready ∙ stays d.cpus (candidates w) d.curr b.curr in
     let home : map (with_last_cpu c.curr) c.tasks ≡ c.tasks = homed_slid b.curr f same w in
     let none : c.switches ++ switches_from c.time c.tasks 0 c.curr c.curr ≡ c.switches = ap (λ (ss : List Switch). c.switches ++ ss) (no_switches c.time c.tasks 0 c.curr) ∙ append-nil c.switches in
     ap (with_prepared c) (prepared_still c.time c.tasks still)
-    ∙ ap (with_places c c.tasks) seats
+    ∙ ap (with_places c c.tasks) charges
     ∙ (λ i. record c { tasks = home i; switches = none i })
 
 -- ---- a tick of running more
 
--- where it stands: it is ready, and neither its work nor its budget ends before the last of so many ticks
+-- where it runs: it is ready, and neither its work nor its budget ends before the last of so many
+-- ticks
 pub record Runs (b : Domain) (ticks : ℕ) (t : Task) : Type 0 where
   pub ready : t.condition ≡ Ready
   pub worked : ticks ≤ t.work
   pub lasted : pos (rate_of b t * (ticks - 1)) <ℤ t.server.left
 
 abbrev pub RunsIf : Domain → ℕ → Task → Type 0
-RunsIf b ticks t = stands t.number b.curr ≡ true → Runs b ticks t
+RunsIf b ticks t = is_on_cpu t.number b.curr ≡ true → Runs b ticks t
 
 pub rate_slid : (b : Domain) (j : ℕ) (t u : Task) → u.params ≡ t.params → u.cpu ≡ t.cpu → rate_of (slid_all b j) u ≡ rate_of b t
 rate_slid b j t u params cpu =
@@ -258,14 +259,14 @@ less_twice left rate j =
 abbrev pub run_by : ℕ → ℤ → ℕ → Task → Task
 run_by time left work t = after_charge time (record t { server = record t.server { left = left }; work = work })
 
-pub ran_slid : (b : Domain) (j : ℕ) (t : Task) → ran_if (slid_all b j) (slid b j t) ≡ cond (stands t.number b.curr) (run_by (b.time + suc j) (t.server.left -ℤ pos (rate_of b t * suc j)) (t.work - suc j) t) t
-ran_slid b j t = by_stands (stands t.number b.curr) refl
+pub ran_slid : (b : Domain) (j : ℕ) (t : Task) → ran_if (slid_all b j) (slid b j t) ≡ cond (is_on_cpu t.number b.curr) (run_by (b.time + suc j) (t.server.left -ℤ pos (rate_of b t * suc j)) (t.work - suc j) t) t
+ran_slid b j t = by_runs (is_on_cpu t.number b.curr) refl
   where
     x : Task
     x = record t { server = charged (rate_of b t) j t.server; work = t.work - j }
 
-    by_stands : (s : Bool) → stands t.number b.curr ≡ s → ran_if (slid_all b j) (cond s x t) ≡ cond s (run_by (b.time + suc j) (t.server.left -ℤ pos (rate_of b t * suc j)) (t.work - suc j) t) t
-    by_stands true e =
+    by_runs : (s : Bool) → is_on_cpu t.number b.curr ≡ s → ran_if (slid_all b j) (cond s x t) ≡ cond s (run_by (b.time + suc j) (t.server.left -ℤ pos (rate_of b t * suc j)) (t.work - suc j) t) t
+    by_runs true e =
         let rate = rate_slid b j t x refl refl in
         let time : b.time + j + 1 ≡ b.time + suc j = omega arith in
         let left = less_twice t.server.left (rate_of b t) j in
@@ -273,7 +274,7 @@ ran_slid b j t = by_stands (stands t.number b.curr) refl
         ap (λ s. cond s (ran (b.time + j) (rate_of (slid_all b j) x) x) x) e
         ∙ ap (λ r. ran (b.time + j) r x) rate
         ∙ (λ i. run_by (time i) (left i) (work i) t)
-    by_stands false e = ap (λ s. cond s (ran (b.time + j) (rate_of (slid_all b j) t) t) t) e
+    by_runs false e = ap (λ s. cond s (ran (b.time + j) (rate_of (slid_all b j) t) t) t) e
 
 -- where nothing ends in it, it only slides on
 pub run_on : (b : Domain) (j k : ℕ) (t : Task) → suc j < k → Runs b k t → run_by (b.time + suc j) (t.server.left -ℤ pos (rate_of b t * suc j)) (t.work - suc j) t ≡ record t { server = charged (rate_of b t) (suc j) t.server; work = t.work - suc j }
@@ -293,7 +294,7 @@ run_on b j k t less runs =
 pub slid_more : (b : Domain) (j k : ℕ) (t : Task) → suc j < k → RunsIf b k t → ran_if (slid_all b j) (slid b j t) ≡ slid b (suc j) t
 slid_more b j k t less runs =
     ran_slid b j t
-    ∙ elim (stands t.number b.curr) as (λ s. (s ≡ true → Runs b k t) → cond s (run_by (b.time + suc j) (t.server.left -ℤ pos (rate_of b t * suc j)) (t.work - suc j) t) t ≡ cond s (record t { server = charged (rate_of b t) (suc j) t.server; work = t.work - suc j }) t) [
+    ∙ elim (is_on_cpu t.number b.curr) as (λ s. (s ≡ true → Runs b k t) → cond s (run_by (b.time + suc j) (t.server.left -ℤ pos (rate_of b t * suc j)) (t.work - suc j) t) t ≡ cond s (record t { server = charged (rate_of b t) (suc j) t.server; work = t.work - suc j }) t) [
       | true ↦ λ r. run_on b j k t less (r refl)
       | false ↦ λ r. refl
     ] runs
@@ -318,7 +319,7 @@ slid_none b =
         let nought : rate * 0 ≡ 0 = omega arith in
         let left : t.server.left -ℤ pos (rate * 0) ≡ t.server.left = omega (arith, ints, nought) in
         let work : t.work - 0 ≡ t.work = omega arith in
-        elim (stands t.number b.curr) as (λ s. cond s (record t { server = charged rate 0 t.server; work = t.work - 0 }) t ≡ t) [
+        elim (is_on_cpu t.number b.curr) as (λ s. cond s (record t { server = charged rate 0 t.server; work = t.work - 0 }) t ≡ t) [
           | true ↦ λ i. record t { server = record t.server { left = left i }; work = work i }
           | false ↦ refl
         ]
@@ -332,9 +333,9 @@ ticks_slid d k (suc j) h quiet runs =
     ap ticked (ticks_slid d k j (omega (arith, h)) quiet runs ∙ finished_slid (with_tick_begun d) j k h runs)
     ∙ ap finished (begun_still d (suc j) (omega arith) (omega (arith, quiet, h)))
 
--- a task that stands has run in all of them
+-- a task that runs has run in all of them
 abbrev pub jumped : Domain → ℕ → Task → Task
-jumped b k t = cond (stands t.number b.curr) (ran_until (b.time + k) k (t.server.left -ℤ pos (rate_of b t * k)) t) t
+jumped b k t = cond (is_on_cpu t.number b.curr) (ran_until (b.time + k) k (t.server.left -ℤ pos (rate_of b t * k)) t) t
 
 pub jump_is : (d : Domain) (k : ℕ) → 0 < k → k - 1 ≤ ticks_to_due (d.time + 1) (with_tick_begun d).tasks → All (RunsIf (with_tick_begun d) k) (with_tick_begun d).tasks → ticks k d ≡ record (with_tick_begun d) { time = d.time + k; tasks = map (jumped (with_tick_begun d) k) (with_tick_begun d).tasks }
 jump_is d zero some quiet runs = absurd (omega (arith, some))

@@ -1,4 +1,4 @@
--- A log that is told one thing after another.
+-- A log that is logged one thing after another.
 use Rattle.std.proofs.Common.{◌≡◌, ℕ, ◌+◌, ◌-◌, ◌<◌, ◌≤◌, Bool, true, false, cond, List, [], ◌++◌, length, map, take, drop, set, get_or, refl, sym, subst, ap, ◌∙◌, arith}
 use borrow.Rule.Slice.PartMut.{mid_of, put_mid, post_of}
 use Rattle.std.specs.Prelude.{AllPairs}
@@ -10,21 +10,21 @@ use Rattle.std.proofs.lemmas.Slice.{take-put_mid}
 use Rattle.edf_pick.specs.Places.{Places}
 use Rattle.domain_run.specs.declared.happened.Happened.{Happened}
 use Rattle.domain_run.specs.Happened.{in_order, with_its_cpu}
-use Rattle.domain_run.specs.Log.{LogView, if_wanted, Tells}
-use Rattle.domain_run.specs.private.Expiring.{TellsPart}
-use Rattle.domain_run.specs.private.Telling.{IsApart, InOrderFrom, GoHome}
-use Rattle.domain_run.proofs.ToldSorted.{pairs_none, pairs_mixed, order_alike, length-in_order}
+use Rattle.domain_run.specs.Log.{LogView, if_wanted, HasLogged}
+use Rattle.domain_run.specs.private.Expiring.{LogsPart}
+use Rattle.domain_run.specs.private.TransitionLog.{IsApart, InOrderFrom, GoHome}
+use Rattle.domain_run.proofs.LoggedSorted.{pairs_none, pairs_mixed, order_alike, length-in_order}
 
--- ---- TOLD, one list behind another
+-- ---- Logged, one list after another
 
 kept_alike : (a b : LogView) (hs : List Happened) → b.wanted ≡ a.wanted → if_wanted b hs ≡ if_wanted a hs
 kept_alike a b hs same = ap (λ w. cond w hs []) same
 
 -- one that keeps nothing is as it was
-pub tells_silent : (told : List Happened) (log : LogView) → log.wanted ≡ false → Tells log told log
-tells_silent told log silent = record {
+pub logs_silent : (logged : List Happened) (log : LogView) → log.wanted ≡ false → HasLogged log logged log
+logs_silent logged log silent = record {
   wanted = refl;
-  happened = sym (append-nil log.happened) ∙ ap (λ w. log.happened ++ cond w told []) (sym silent);
+  happened = sym (append-nil log.happened) ∙ ap (λ w. log.happened ++ cond w logged []) (sym silent);
   room = omega arith;
 }
 
@@ -32,28 +32,28 @@ kept_none : (w : Bool) (xs : List Happened) → xs ≡ xs ++ cond w [] []
 kept_none true xs = sym (append-nil xs)
 kept_none false xs = sym (append-nil xs)
 
-pub tells_none : (log : LogView) → Tells log [] log
-tells_none log = record { wanted = refl; happened = kept_none log.wanted log.happened; room = omega arith }
+pub logs_none : (log : LogView) → HasLogged log [] log
+logs_none log = record { wanted = refl; happened = kept_none log.wanted log.happened; room = omega arith }
 
 kept_append : (w : Bool) (hs gs : List Happened) → cond w hs [] ++ cond w gs [] ≡ cond w (hs ++ gs) []
 kept_append true hs gs = refl
 kept_append false hs gs = refl
 
-pub tells_more : (hs gs : List Happened) (a b c : LogView) → Tells a hs b → Tells b gs c → Tells a (hs ++ gs) c
-tells_more hs gs a b c one two = record {
+pub logs_more : (hs gs : List Happened) (a b c : LogView) → HasLogged a hs b → HasLogged b gs c → HasLogged a (hs ++ gs) c
+logs_more hs gs a b c one two = record {
   wanted = two.wanted ∙ one.wanted;
   happened = two.happened ∙ (λ i. one.happened i ++ kept_alike a b gs one.wanted i) ∙ append_assoc a.happened (if_wanted a hs) (if_wanted a gs) ∙ ap (λ ks. a.happened ++ ks) (kept_append a.wanted hs gs);
   room = omega (arith, one.room, two.room);
 }
 
--- ---- IN ORDER, what it was told last
+-- ---- IN ORDER, what it has logged last
 
--- where as much stands in another order there is as much room
+-- where as much runs in another order there is as much room
 room_kept : (a b c : LogView) (hs gs : List Happened) → a.room + length a.happened ≤ b.room + length b.happened → b.happened ≡ a.happened ++ hs → c.room ≡ b.room → c.happened ≡ a.happened ++ gs → length gs ≡ length hs
     → a.room + length a.happened ≤ c.room + length c.happened
-room_kept a b c hs gs le told room put same =
+room_kept a b c hs gs le logged room put same =
     let len : List Happened → ℕ = λ xs. length xs in
-    omega (arith, le, ap len told, ap len put, length-append a.happened hs, length-append a.happened gs, same, room)
+    omega (arith, le, ap len logged, ap len put, length-append a.happened hs, length-append a.happened gs, same, room)
 
 apart_kept : (w : Bool) (hs : List Happened) → AllPairs IsApart hs → AllPairs IsApart (cond w hs [])
 apart_kept true hs apart = apart
@@ -63,51 +63,51 @@ order_kept : (w : Bool) (hs gs : List Happened) → in_order hs ≡ gs → in_or
 order_kept true hs gs same = same
 order_kept false hs gs same = refl
 
--- told in whatever order, it is told in its own
-pub tells_order : (hs gs : List Happened) (a b c : LogView) → IsPermutation hs gs → AllPairs IsApart hs → Tells a gs b → c.wanted ≡ b.wanted → c.room ≡ b.room → InOrderFrom (length a.happened) b.happened c.happened → Tells a (in_order hs) c
-tells_order hs gs a b c mixed apart told wanted room order =
-    let put = order a.happened (if_wanted a gs) refl told.happened (apart_kept a.wanted gs (pairs_mixed hs gs mixed apart)) in
+-- logged in whatever order, it is logged in its own
+pub logs_order : (hs gs : List Happened) (a b c : LogView) → IsPermutation hs gs → AllPairs IsApart hs → HasLogged a gs b → c.wanted ≡ b.wanted → c.room ≡ b.room → InOrderFrom (length a.happened) b.happened c.happened → HasLogged a (in_order hs) c
+logs_order hs gs a b c mixed apart logged wanted room order =
+    let put = order a.happened (if_wanted a gs) refl logged.happened (apart_kept a.wanted gs (pairs_mixed hs gs mixed apart)) in
     record {
-      wanted = wanted ∙ told.wanted;
+      wanted = wanted ∙ logged.wanted;
       happened = put ∙ ap (λ ks. a.happened ++ ks) (order_kept a.wanted gs (in_order hs) (order_alike hs gs mixed apart));
-      room = room_kept a b c (if_wanted a gs) (in_order (if_wanted a gs)) told.room told.happened room put (length-in_order (if_wanted a gs));
+      room = room_kept a b c (if_wanted a gs) (in_order (if_wanted a gs)) logged.room logged.happened room put (length-in_order (if_wanted a gs));
     }
 
 home_kept : (places : Places) (w : Bool) (hs : List Happened) → in_order (map (with_its_cpu places) (cond w hs [])) ≡ cond w (in_order (map (with_its_cpu places) hs)) []
 home_kept places true hs = refl
 home_kept places false hs = refl
 
-pub tells_home : (places : Places) (hs : List Happened) (a b c : LogView) → AllPairs IsApart hs → Tells a hs b → c.wanted ≡ b.wanted → c.room ≡ b.room → GoHome places (length a.happened) b.happened c.happened → Tells a (in_order (map (with_its_cpu places) hs)) c
-tells_home places hs a b c apart told wanted room homes =
+pub logs_home : (places : Places) (hs : List Happened) (a b c : LogView) → AllPairs IsApart hs → HasLogged a hs b → c.wanted ≡ b.wanted → c.room ≡ b.room → GoHome places (length a.happened) b.happened c.happened → HasLogged a (in_order (map (with_its_cpu places) hs)) c
+logs_home places hs a b c apart logged wanted room homes =
     let kept = if_wanted a hs in
-    let put = homes a.happened kept refl told.happened (apart_kept a.wanted hs apart) in
+    let put = homes a.happened kept refl logged.happened (apart_kept a.wanted hs apart) in
     let same : length (in_order (map (with_its_cpu places) kept)) ≡ length kept = length-in_order (map (with_its_cpu places) kept) ∙ length-map kept (with_its_cpu places) in
     record {
-      wanted = wanted ∙ told.wanted;
+      wanted = wanted ∙ logged.wanted;
       happened = put ∙ ap (λ ks. a.happened ++ ks) (home_kept places a.wanted hs);
-      room = room_kept a b c kept (in_order (map (with_its_cpu places) kept)) told.room told.happened room put same;
+      room = room_kept a b c kept (in_order (map (with_its_cpu places) kept)) logged.room logged.happened room put same;
     }
 
--- a log that was told this, in whatever order
-pub record TellsMixed (told : List Happened) (before after : LogView) : Type 0 where
+-- a log that has logged this, in whatever order
+pub record LogsMixed (logged : List Happened) (before after : LogView) : Type 0 where
   pub tail : List Happened
-  pub is : Tells before tail after
-  pub mixed : IsPermutation told tail
+  pub is : HasLogged before tail after
+  pub mixed : IsPermutation logged tail
 
--- it has no more than it was told
+-- it has no more than it was logged
 kept_few : (w : Bool) (hs : List Happened) → length (cond w hs []) ≤ length hs
 kept_few true hs = omega arith
 kept_few false hs = omega arith
 
-pub tells_few : (n : ℕ) (hs : List Happened) (a b : LogView) → length hs ≤ n → Tells a hs b → length b.happened ≤ length a.happened + n
-tells_few n hs a b few tells =
-    omega (arith, ap (λ (xs : List Happened). length xs) tells.happened, length-append a.happened (cond a.wanted hs []), kept_few a.wanted hs, few)
+pub logs_few : (n : ℕ) (hs : List Happened) (a b : LogView) → length hs ≤ n → HasLogged a hs b → length b.happened ≤ length a.happened + n
+logs_few n hs a b few has_logged =
+    omega (arith, ap (λ (xs : List Happened). length xs) has_logged.happened, length-append a.happened (cond a.wanted hs []), kept_few a.wanted hs, few)
 
--- of what was left to tell it was told a part
-pub tells_parts : (all rest last : List Happened) (a b c : LogView) → TellsPart all rest a b → TellsPart rest last b c → TellsPart all last a c
-tells_parts all rest last a b c one two = record {
+-- of what was left to log it was logged a part
+pub logs_parts : (all rest last : List Happened) (a b c : LogView) → LogsPart all rest a b → LogsPart rest last b c → LogsPart all last a c
+logs_parts all rest last a b c one two = record {
   tail = one.tail ++ two.tail;
-  is = tells_more one.tail two.tail a b c one.is two.is;
+  is = logs_more one.tail two.tail a b c one.is two.is;
   mixed = IsPermutation-trans all (one.tail ++ rest) ((one.tail ++ two.tail) ++ last) one.mixed
       (subst (IsPermutation (one.tail ++ rest)) (sym (append_assoc one.tail two.tail last)) (IsPermutation-append_right one.tail rest (two.tail ++ last) two.mixed));
 }

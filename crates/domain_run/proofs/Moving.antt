@@ -18,7 +18,7 @@ use Rattle.domain_run.specs.Sound.{occupant}
 use Rattle.domain_run.specs.Switches.{left_by, prev_state_of, switches_from}
 use Rattle.domain_run.specs.Tick.{candidate_of}
 use Rattle.domain_run.specs.private.Choosing.{AreWithin, task_homed_by, switch_made}
-use Rattle.domain_run.specs.private.Roster.{homed_here}
+use Rattle.domain_run.specs.private.TaskTable.{homed_here}
 use Rattle.domain_run.specs.private.RunQueue.{AreHomed}
 use Rattle.domain_run.proofs.Homes.{is_at_home}
 use Rattle.domain_run.proofs.Homing.{homed_keeps}

@@ -6,7 +6,7 @@ use Rattle.std.proofs.lemmas.List.Elements.{All-nil}
 use Rattle.domain_run.specs.Domain.{empty_domain}
 use Rattle.domain_run.specs.Sound.{IsSteady, IsDomain, HasNoTaskTwice}
 
--- nobody stands anywhere
+-- no task runs anywhere
 nobody_at : (n i : ℕ) → get_or (replicate n (let none : Option ℕ = None in none)) i None ≡ None
 nobody_at n i =
     let nothing : Option ℕ = None in
@@ -39,6 +39,6 @@ opened_is cpus limit some few low high = record {
   traced = record {
     switches = All-nil _;
     rising = λ i j d a b. absurd (omega arith);
-    standing = λ cpu n e. let no : None ≡ Some n = sym (nobody_at cpus cpu) ∙ e in absurd cc;
+    on_cpu = λ cpu n e. let no : None ≡ Some n = sym (nobody_at cpus cpu) ∙ e in absurd cc;
   };
 }

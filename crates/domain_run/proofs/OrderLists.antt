@@ -128,11 +128,11 @@ same_found number n xs ys (swaps x y us) apart =
     (λ t. ne_eqb (number x) n (λ e. other (e ∙ sym (eqb-true (number y) n t))))
 same_found number n xs ys (chain us vs ws r s) apart = same_found number n us vs r apart ∙ same_found number n vs ws s (apart_reordered number us vs r apart)
 
--- ---- lists behind lists
+-- ---- lists after lists
 
-pub behind_same : {X : Type 0} (zs xs ys : List X) → Reordered xs ys → Reordered (zs ++ xs) (zs ++ ys)
-behind_same [] xs ys r = r
-behind_same (z ∷ zs) xs ys r = next z (zs ++ xs) (zs ++ ys) (behind_same zs xs ys r)
+pub after_same : {X : Type 0} (zs xs ys : List X) → Reordered xs ys → Reordered (zs ++ xs) (zs ++ ys)
+after_same [] xs ys r = r
+after_same (z ∷ zs) xs ys r = next z (zs ++ xs) (zs ++ ys) (after_same zs xs ys r)
 
 pub before_same : {X : Type 0} (xs ys zs : List X) → Reordered xs ys → Reordered (xs ++ zs) (ys ++ zs)
 before_same xs ys zs ends = same_order zs

@@ -7,7 +7,7 @@ use Rattle.grub_rules.specs.declared.share.Share.{Share}
 use Rattle.grub_rules.specs.Sums.{this_bw, running_bw, uinact}
 use Rattle.grub_rules.specs.Rate as reclaiming
 use Rattle.edf_pick.specs.declared.candidate.Candidate.{Candidate}
-use Rattle.edf_pick.specs.Places.{Places, placed, stands}
+use Rattle.edf_pick.specs.Places.{Places, placed, is_on_cpu}
 use Rattle.edf_pick.specs.Order.{with_candidate, by_deadline}
 use Rattle.edf_pick.proofs.CallerLemmas.{IsNumbered, numbered_map, ordered_insert, placed_ordered}
 use Rattle.domain_run.specs.declared.task.Task.{Task}
@@ -112,7 +112,7 @@ same_rate d ts us r t =
     ∙ ap (λ (n : ℕ). reclaiming.rate t.params (uinact t.cpu (shares ts)) n d.cpus d.limit) (same_sum_of d.tasks ts r)
 
 same_ran : (d : Domain) (ts : List Task) (us : List ℕ) → Reordered d.tasks ts → (t : Task) → ran_if d t ≡ ran_if (relisted d ts us) t
-same_ran d ts us r t = ap (λ (rate : ℕ). cond (stands t.number d.curr) (ran d.time rate t) t) (same_rate d ts us r t)
+same_ran d ts us r t = ap (λ (rate : ℕ). cond (is_on_cpu t.number d.curr) (ran d.time rate t) t) (same_rate d ts us r t)
 
 finished_relisted : (d : Domain) (ts : List Task) (us : List ℕ) → Reordered d.tasks ts → Reordered d.used us → Alike (finished d) (finished (relisted d ts us))
 finished_relisted d ts us r s = record {

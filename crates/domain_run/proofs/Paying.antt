@@ -9,11 +9,11 @@ use Rattle.std.proofs.lemmas.List.Elements.{All-map, All-weaker}
 use Rattle.std.proofs.lemmas.Option.{slice_get_within}
 use Rattle.std.proofs.Math.Nat.{div-le_of_le-mul}
 use Rattle.attr_check.specs.ParamsView.{ParamsView}
-use Rattle.attr_check.specs.Ratio.{unit, cap}
+use Rattle.attr_check.specs.Ratio.{cap}
 use Rattle.grub_rules.specs.Rate.{div_up, charged_bw}
 use Rattle.grub_rules.specs.Rate as reclaiming
 use Rattle.grub_rules.proofs.CallerLemmas.{taken_is, used_most}
-use Rattle.edf_pick.specs.Places.{Places, stands}
+use Rattle.edf_pick.specs.Places.{Places, is_on_cpu}
 use Rattle.domain_run.specs.declared.task.Task.{Task}
 use Rattle.domain_run.specs.declared.task.Condition.{Condition}
 use Rattle.domain_run.specs.declared.task.Condition.TheVariants.{Ready, Throttled, Blocked, Waiting, Leaving}
@@ -29,23 +29,24 @@ use Rattle.domain_run.specs.Jump.{under_way, running_numbers, running_of, runnin
 use Rattle.domain_run.specs.private.Paying.{ran_until, index_of, paid_at, paid, MayPay, MayPayIf}
 use Rattle.domain_run.proofs.Keeping.{Same, same_itself, same_either, AllPairs-map, sum-map}
 use Rattle.domain_run.proofs.Placing.{running_ready}
-use Rattle.domain_run.proofs.Staying.{first_is, first_passes, first_none}
+use Rattle.domain_run.proofs.KeptRunning.{first_is, first_passes, first_none}
 use Rattle.domain_run.proofs.Jumping.{map_alike, RunsIf, jumped, jump_is}
 use Rattle.domain_run.proofs.Ticking.{begun_is}
-use Rattle.domain_run.proofs.Tracing.{AreStanding, tick_traced}
+use Rattle.domain_run.proofs.Tracing.{AreRunning, tick_traced}
+use Rattle.limits.specs.Limits.{unit}
 
 -- ---- who runs
 
--- a task stands on a CPU where it is among those that stand
-stands_among : (number : ℕ) (places : Places) → stands number places ≡ list_any (λ n. eqb n number) (running_numbers places)
-stands_among number [] = refl
-stands_among number (None ∷ places) = stands_among number places
-stands_among number (Some n ∷ places) = ap (λ b. eqb n number || b) (stands_among number places)
+-- a task runs on a CPU where it is among those that run
+runs_among : (number : ℕ) (places : Places) → is_on_cpu number places ≡ list_any (λ n. eqb n number) (running_numbers places)
+runs_among number [] = refl
+runs_among number (None ∷ places) = runs_among number places
+runs_among number (Some n ∷ places) = ap (λ b. eqb n number || b) (runs_among number places)
 
--- the i-th of those that stand
+-- the i-th of those that run
 pub record IsThere (places : Places) (number i : ℕ) : Type 0 where
   pub at : slice_get (running_numbers places) i ≡ Some number
-  pub stands_there : stands number places ≡ true
+  pub runs_there : is_on_cpu number places ≡ true
 
 pub there : (places : Places) (number i : ℕ) → position (λ n. eqb n number) (running_numbers places) ≡ Some i → IsThere places number i
 there places number i e =
@@ -53,7 +54,7 @@ there places number i e =
     let at = first_passes p (running_numbers places) i (sym (first_is p (running_numbers places)) ∙ e) in
     record {
       at = at.1 ∙ ap (λ n. Some n) (eqb-true at.0 number at.2);
-      stands_there = stands_among number places ∙ found p (running_numbers places) i at.0 at.1 at.2;
+      runs_there = runs_among number places ∙ found p (running_numbers places) i at.0 at.1 at.2;
     }
   where
     found : (p : ℕ → Bool) (xs : List ℕ) (i x : ℕ) → slice_get xs i ≡ Some x → p x ≡ true → list_any p xs ≡ true
@@ -61,10 +62,10 @@ there places number i e =
     found p (y ∷ xs) zero x e is = let same : y ≡ x = cc in rw (ap p same ∙ is) refl
     found p (y ∷ xs) (suc i) x e is = elim (p y) as (λ b. (b || list_any p xs) ≡ true) [ true ↦ refl | false ↦ found p xs i x e is ]
 
-pub nowhere : (places : Places) (number : ℕ) → position (λ n. eqb n number) (running_numbers places) ≡ None → stands number places ≡ false
+pub nowhere : (places : Places) (number : ℕ) → position (λ n. eqb n number) (running_numbers places) ≡ None → is_on_cpu number places ≡ false
 nowhere places number e =
     let p : ℕ → Bool = λ n. eqb n number in
-    stands_among number places ∙ first_none p (running_numbers places) (sym (first_is p (running_numbers places)) ∙ e)
+    runs_among number places ∙ first_none p (running_numbers places) (sym (first_is p (running_numbers places)) ∙ e)
 
 -- a number finds its task
 pub find_here : (tasks : List Task) (k : ℕ) (d : Task) → AllPairs (λ a b. a.number ≢ b.number) tasks → k < length tasks → find (λ t. eqb t.number (get_or tasks k d).number) tasks ≡ Some (get_or tasks k d)
@@ -89,29 +90,29 @@ is_Ready (Blocked u) h = absurd cc
 is_Ready Waiting h = absurd cc
 is_Ready Leaving h = absurd cc
 
--- ---- what is told of the budgets, task by task
+-- ---- what is logged of the budgets, task by task
 
 pub charged_there : (e : Domain) (ticks : ℕ) (budgets : List ℤ) (k i : ℕ) (d : Task) → AllPairs (λ a b. a.number ≢ b.number) e.tasks → AreCharged e ticks budgets → k < length e.tasks → index_of (running_numbers e.curr) (get_or e.tasks k d) ≡ Some i → IsCharged e ticks (running_of e (get_or e.tasks k d)) (slice_index_or budgets i (pos 0))
 charged_there e ticks budgets k i d numbered are h at = are.each i (running_of e (get_or e.tasks k d)) (running_there e k i d numbered h at)
 
--- a task that stands runs on until the last tick
+-- a task that runs runs on until the last tick
 pub runs_each : (e : Domain) (ticks : ℕ) (budgets : List ℤ) → AllPairs (λ a b. a.number ≢ b.number) e.tasks → IsPlacement e → AreCharged e ticks budgets → All (RunsIf e ticks) e.tasks
 runs_each e ticks budgets numbered placed are k d h = by_index (index_of (running_numbers e.curr) (get_or e.tasks k d)) refl
   where
     by_index : (o : Option ℕ) → index_of (running_numbers e.curr) (get_or e.tasks k d) ≡ o → RunsIf e ticks (get_or e.tasks k d)
-    by_index None at stand = let no : true ≡ false = sym stand ∙ nowhere e.curr (get_or e.tasks k d).number at in absurd cc
-    by_index (Some i) at stand =
+    by_index None at on_one = let no : true ≡ false = sym on_one ∙ nowhere e.curr (get_or e.tasks k d).number at in absurd cc
+    by_index (Some i) at on_one =
         let t = get_or e.tasks k d in
         let is = charged_there e ticks budgets k i d numbered are h at in
-        record { ready = is_Ready t.condition (running_ready e numbered placed k d h stand); worked = is.worked; lasted = is.lasted }
+        record { ready = is_Ready t.condition (running_ready e numbered placed k d h on_one); worked = is.worked; lasted = is.lasted }
 
--- and has the budget that is told
+-- and has the budget that is logged
 paid_each : (e : Domain) (time ticks : ℕ) (budgets : List ℤ) → AllPairs (λ a b. a.number ≢ b.number) e.tasks → AreCharged e ticks budgets
-    → All (λ t. paid time (running_numbers e.curr) ticks budgets t ≡ cond (stands t.number e.curr) (ran_until time ticks (t.server.left -ℤ pos (rate_of e t * ticks)) t) t) e.tasks
+    → All (λ t. paid time (running_numbers e.curr) ticks budgets t ≡ cond (is_on_cpu t.number e.curr) (ran_until time ticks (t.server.left -ℤ pos (rate_of e t * ticks)) t) t) e.tasks
 paid_each e time ticks budgets numbered are k d h = by_index (index_of (running_numbers e.curr) (get_or e.tasks k d)) refl
   where
     by_index : (o : Option ℕ) → index_of (running_numbers e.curr) (get_or e.tasks k d) ≡ o
-        → paid_at time ticks budgets o (get_or e.tasks k d) ≡ cond (stands (get_or e.tasks k d).number e.curr) (ran_until time ticks ((get_or e.tasks k d).server.left -ℤ pos (rate_of e (get_or e.tasks k d) * ticks)) (get_or e.tasks k d)) (get_or e.tasks k d)
+        → paid_at time ticks budgets o (get_or e.tasks k d) ≡ cond (is_on_cpu (get_or e.tasks k d).number e.curr) (ran_until time ticks ((get_or e.tasks k d).server.left -ℤ pos (rate_of e (get_or e.tasks k d) * ticks)) (get_or e.tasks k d)) (get_or e.tasks k d)
     by_index None at =
         let t = get_or e.tasks k d in
         sym (ap (λ b. cond b (ran_until time ticks (t.server.left -ℤ pos (rate_of e t * ticks)) t) t) (nowhere e.curr t.number at))
@@ -119,7 +120,7 @@ paid_each e time ticks budgets numbered are k d h = by_index (index_of (running_
         let t = get_or e.tasks k d in
         let is = charged_there e ticks budgets k i d numbered are h at in
         ap (λ left. ran_until time ticks left t) is.charged
-        ∙ sym (ap (λ b. cond b (ran_until time ticks (t.server.left -ℤ pos (rate_of e t * ticks)) t) t) (there e.curr t.number i at).stands_there)
+        ∙ sym (ap (λ b. cond b (ran_until time ticks (t.server.left -ℤ pos (rate_of e t * ticks)) t) t) (there e.curr t.number i at).runs_there)
 
 -- ---- ranges
 
@@ -150,7 +151,7 @@ may_pay e ticks budgets steady placed some are k d h = by_index (index_of (runni
         let here = there e.curr t.number i at in
         let sound : IsSound e.time t = steady.sound k d h in
         record {
-          ready = running_ready e steady.numbered placed k d h here.stands_there;
+          ready = running_ready e steady.numbered placed k d h here.runs_there;
           within = omega (arith, slice_get_within (running_numbers e.curr) i t.number here.at, are.many);
           worked = is.worked;
           low = λ small. low_of t.server.left (slice_index_or budgets i (pos 0)) (rate_of e t) ticks some (rate_slow t.params _ (sum_of e.tasks) e.cpus e.limit small steady.limit steady.within) is.lasted is.charged;
@@ -166,9 +167,9 @@ paid_is d k budgets time tasks steady placed some quiet-is are time-is tasks-are
     let e = under_way d in
     let b = with_tick_begun d in
     let at : time ≡ d.time + k = omega (arith, time-is, some) in
-    let runs : All (RunsIf b k) b.tasks = λ i x h stand. let r = runs_each e k budgets steady.numbered placed are i x h stand in record { ready = r.ready; worked = r.worked; lasted = r.lasted } in
+    let runs : All (RunsIf b k) b.tasks = λ i x h on_one. let r = runs_each e k budgets steady.numbered placed are i x h on_one in record { ready = r.ready; worked = r.worked; lasted = r.lasted } in
     let alike : map (paid time (running_numbers e.curr) k budgets) e.tasks ≡ map (jumped b k) b.tasks =
-    map_alike (paid time (running_numbers e.curr) k budgets) (jumped b k) b.tasks (λ i x h. paid_each e time k budgets steady.numbered are i x h ∙ ap (λ n. let t = get_or b.tasks i x in cond (stands t.number b.curr) (ran_until n k (t.server.left -ℤ pos (rate_of b t * k)) t) t) at) in
+    map_alike (paid time (running_numbers e.curr) k budgets) (jumped b k) b.tasks (λ i x h. paid_each e time k budgets steady.numbered are i x h ∙ ap (λ n. let t = get_or b.tasks i x in cond (is_on_cpu t.number b.curr) (ran_until n k (t.server.left -ℤ pos (rate_of b t * k)) t) t) at) in
     let all = tasks-are ∙ alike in
     (λ i. record e { time = at i; tasks = all i }) ∙ sym (jump_is d k some (omega (arith, quiet-is)) runs)
 
@@ -237,17 +238,17 @@ later_is e f time tasks is same later early e-tasks sound =
       traced = record {
         switches = All-weaker (IsSwitch e.cpus e.time e.used) (IsSwitch e.cpus time e.used) (λ s h. record { past = omega (arith, h.past, later); inside = h.inside; prev = h.prev; next = h.next }) e.switches is.traced.switches;
         rising = is.traced.rising;
-        standing = is.traced.standing;
+        on_cpu = is.traced.on_cpu;
       };
     }
 
 -- ---- a tick that has begun
 
-standing_from : (e : Domain) → IsSteady e → IsPlacement e → AreStanding e.used e.curr
-standing_from e is at cpu n h = stand_by (at.running cpu n h)
+running_from : (e : Domain) → IsSteady e → IsPlacement e → AreRunning e.used e.curr
+running_from e is at cpu n h = on_cpu_by (at.running cpu n h)
   where
-    stand_by : Any (λ t. (t.number ≡ n) × (t.cpu ≡ cpu) × IsTrue (is_ready t.condition) × (pos 0 <ℤ t.server.left)) e.tasks → IsAdmitted e.used n
-    stand_by (k, t, within, same, facts) = subst (IsAdmitted e.used) (ap (λ x. x.number) same ∙ facts.0) (is.known k t within)
+    on_cpu_by : Any (λ t. (t.number ≡ n) × (t.cpu ≡ cpu) × IsTrue (is_ready t.condition) × (pos 0 <ℤ t.server.left)) e.tasks → IsAdmitted e.used n
+    on_cpu_by (k, t, within, same, facts) = subst (IsAdmitted e.used) (ap (λ x. x.number) same ∙ facts.0) (is.known k t within)
 
 pub under_way_is : (d : Domain) → IsDomain d → d.time < 2 ^ 42 → All (IsSound d.time) (prepared d.time d.tasks) → IsDomain (under_way d) × IsPlacement (under_way d)
 under_way_is d is early sound =
@@ -267,7 +268,7 @@ under_way_is d is early sound =
           wide = s.wide;
           apart = s.apart;
         };
-        traced = tick_traced d (prepared d.time d.tasks) (with_tick_begun d).tasks (with_tick_begun d).curr is.steady.wide is.traced (standing_from (with_tick_begun d) s keeps.1);
+        traced = tick_traced d (prepared d.time d.tasks) (with_tick_begun d).tasks (with_tick_begun d).curr is.steady.wide is.traced (running_from (with_tick_begun d) s keeps.1);
       },
       record { running = keeps.1.running; apart = keeps.1.apart },
     )

@@ -7,13 +7,13 @@ use Rattle.std.proofs.lemmas.List.{get_or-map, get_or_past, get_or_default, leng
 use Rattle.std.proofs.lemmas.List.Folds.{Any-from_list_any}
 use Rattle.std.proofs.lemmas.List.Sums.{position_or_len_is, passes_at_first}
 use Rattle.domain_run.specs.declared.task.Task.{Task}
-use Rattle.edf_pick.specs.Places.{Places, is_task, stands}
+use Rattle.edf_pick.specs.Places.{Places, is_task, is_on_cpu}
 use Rattle.domain_run.specs.Conditions.{is_ready}
 use Rattle.domain_run.specs.Parts.{with_last_cpu, with_cpu}
 use Rattle.domain_run.specs.Domain.{Domain}
 use Rattle.domain_run.specs.Tick.{candidate_of, candidates, with_places}
 use Rattle.domain_run.specs.Sound.{occupant, HasNoTaskTwice, IsSound, IsPlacement}
-use Rattle.domain_run.proofs.Seating.{is_candidate, IsSeating}
+use Rattle.domain_run.proofs.OpenCharging.{is_candidate, IsCharging}
 
 -- a listed task that is ready, of this number
 abbrev is_ready_number : ℕ → Task → Bool
@@ -101,14 +101,14 @@ pub not_true : (a b : Bool) → (a ≡ true → b ≡ true) → b ≡ false → 
 not_true true b h e = let no : true ≡ false = sym (h refl) ∙ e in absurd cc
 not_true false b h e = refl
 
--- a task that stands nowhere has no place
-past_all : (n : ℕ) (places : Places) → stands n places ≡ false → position_or_len (is_task n) places ≡ length places
+-- a task that runs nowhere has no place
+past_all : (n : ℕ) (places : Places) → is_on_cpu n places ≡ false → position_or_len (is_task n) places ≡ length places
 past_all n [] e = refl
 past_all n (o ∷ places) e =
-    let none = or_parts (is_task n o) (stands n places) e in
+    let none = or_parts (is_task n o) (is_on_cpu n places) e in
     rw none.0 (omega (arith, past_all n places none.1))
 
-pub homed_nowhere : (places : Places) (t : Task) → stands t.number places ≡ false → with_last_cpu places t ≡ t
+pub homed_nowhere : (places : Places) (t : Task) → is_on_cpu t.number places ≡ false → with_last_cpu places t ≡ t
 homed_nowhere places t e =
     let at = position (is_task t.number) places in
     elim at as (λ o. at ≡ o → with_cpu o t ≡ t) [
@@ -141,14 +141,14 @@ placed_one time tasks places cpu n sound at_cpu (k, t, within, same, test) =
     )
 
 -- the placement of a list of sound tasks
-pub placed_tasks : (time cpus : ℕ) (d : Domain) (tasks : List Task) (places : Places) → All (IsSound time) tasks → IsSeating (candidates tasks) cpus places → IsPlacement (with_places d tasks places)
+pub placed_tasks : (time cpus : ℕ) (d : Domain) (tasks : List Task) (places : Places) → All (IsSound time) tasks → IsCharging (candidates tasks) cpus places → IsPlacement (with_places d tasks places)
 placed_tasks time cpus d tasks places sound is = record {
   running = λ cpu n e. placed_one time tasks places cpu n sound (position_at places cpu n is.apart e) (Any-from_list_any (is_ready_number n) tasks (ready_in n tasks (is.candidates.each cpu n e)));
   apart = is.apart;
 }
 
-pub stands_at : (n : ℕ) (places : Places) → Any (λ o. is_task n o ≡ true) places → (cpu : ℕ) × (occupant places cpu ≡ Some n)
-stands_at n places (k, o, within, same, test) = (k, get_or_default places k None o within ∙ same ∙ task_there n o test)
+pub runs_at : (n : ℕ) (places : Places) → Any (λ o. is_task n o ≡ true) places → (cpu : ℕ) × (occupant places cpu ≡ Some n)
+runs_at n places (k, o, within, same, test) = (k, get_or_default places k None o within ∙ same ∙ task_there n o test)
 
 pub one_index : (tasks : List Task) (i j : ℕ) (t u : Task) → AllPairs (λ a b. a.number ≢ b.number) tasks → i < length tasks → j < length tasks → (get_or tasks i t).number ≡ (get_or tasks j t).number → i ≡ j
 one_index tasks i j t u numbered h k e =
@@ -167,11 +167,11 @@ ready_one tasks i n t numbered h e (j, u, within, same, facts) =
     let i_is : i ≡ j = one_index tasks i j t u numbered h within (e ∙ sym (ap (λ x. x.number) there_is ∙ facts.0)) in
     ap (λ (x : Task). is_ready x.condition) (ap (λ k. get_or tasks k t) i_is ∙ there_is) ∙ facts.1
 
--- who stands on a CPU is ready
-pub running_ready : (d : Domain) → AllPairs (λ a b. a.number ≢ b.number) d.tasks → IsPlacement d → All (λ t. IsTrue (stands t.number d.curr) → IsTrue (is_ready t.condition)) d.tasks
+-- the task that runs on a CPU is ready
+pub running_ready : (d : Domain) → AllPairs (λ a b. a.number ≢ b.number) d.tasks → IsPlacement d → All (λ t. IsTrue (is_on_cpu t.number d.curr) → IsTrue (is_ready t.condition)) d.tasks
 running_ready d numbered is i x within h =
     let n = (get_or d.tasks i x).number in
-    let at = stands_at n d.curr (Any-from_list_any (is_task n) d.curr h) in
+    let at = runs_at n d.curr (Any-from_list_any (is_task n) d.curr h) in
     ready_one d.tasks i n x numbered within refl (ready_there (is.running at.0 n at.1))
   where
     ready_there : {n cpu : ℕ} → Any (λ t. (t.number ≡ n) × (t.cpu ≡ cpu) × IsTrue (is_ready t.condition) × (pos 0 <ℤ t.server.left)) d.tasks → Any (λ t. (t.number ≡ n) × IsTrue (is_ready t.condition)) d.tasks

@@ -23,9 +23,9 @@ use Rattle.domain_run.specs.Switch.{Switch}
 use Rattle.domain_run.specs.Tick.{candidates, prepared, ran_if, with_tick_begun, ticked, ticks}
 use Rattle.domain_run.specs.LowTimes.{IsLowTime, HasTime}
 use Rattle.domain_run.proofs.Placing.{ready_in}
-use Rattle.domain_run.proofs.Seating.{IsSeating, placed_is}
+use Rattle.domain_run.proofs.OpenCharging.{IsCharging, placed_is}
 use Rattle.domain_run.proofs.Ticking.{AreListed, listed_of, listed_map, listed_homed, list_prepared, same_ran_if}
-use Rattle.domain_run.proofs.Tracing.{AreStanding, tick_traced}
+use Rattle.domain_run.proofs.Tracing.{AreRunning, tick_traced}
 
 -- ---- a task that goes on is sound
 
@@ -136,8 +136,8 @@ and_first : (a b : Bool) → (a && b) ≡ true → a ≡ true
 and_first true b e = refl
 and_first false b e = e
 
-standing_listed : (d : Domain) (tasks : List Task) (places : Places) → AreListed d tasks → IsSeating (candidates tasks) d.cpus places → AreStanding d.used places
-standing_listed d tasks places l is cpu n h = known (Any-from_list_any (is_ready_number n) tasks (ready_in n tasks (is.candidates.each cpu n h)))
+running_listed : (d : Domain) (tasks : List Task) (places : Places) → AreListed d tasks → IsCharging (candidates tasks) d.cpus places → AreRunning d.used places
+running_listed d tasks places l is cpu n h = known (Any-from_list_any (is_ready_number n) tasks (ready_in n tasks (is.candidates.each cpu n h)))
   where
     known : Any (λ t. is_ready_number n t ≡ true) tasks → IsAdmitted d.used n
     known (k, t, within, same, test) = subst (IsAdmitted d.used) (eqb-true t.number n (and_first (eqb t.number n) (is_ready t.condition) test)) (subst (λ (u : Task). IsAdmitted d.used u.number) same (l.known k t within))
@@ -146,15 +146,15 @@ tick_going : (d : Domain) → IsGoing d → IsGoing (ticked d)
 tick_going d is =
     let list = prepared d.time d.tasks in
     let places = placed d.cpus (candidates list) d.curr in
-    let seating = placed_is d.cpus (candidates list) d.curr is.wide is.apart in
+    let open_charging = placed_is d.cpus (candidates list) d.curr is.wide is.apart in
     let ready = list_prepared d is.listed in
     let e = with_tick_begun d in
-    let l = listed_map d (ran_if e) e.tasks (same_ran_if e) (listed_homed d places list seating.wide ready) in
+    let l = listed_map d (ran_if e) e.tasks (same_ran_if e) (listed_homed d places list open_charging.wide ready) in
     record {
       listed = record { within = l.within; listed = l.listed; homes = l.homes; numbered = l.numbered; known = l.known };
-      wide = seating.wide;
-      apart = seating.apart;
-      traced = tick_traced d list (ticked d).tasks places is.wide is.traced (standing_listed d list places ready seating);
+      wide = open_charging.wide;
+      apart = open_charging.apart;
+      traced = tick_traced d list (ticked d).tasks places is.wide is.traced (running_listed d list places ready open_charging);
     }
 
 ticks_going : (k : ℕ) (d : Domain) → IsGoing d → IsGoing (ticks k d)
@@ -192,11 +192,11 @@ pub early_again : (k later_by : ℕ) (paces : List Pace) (period : List Switch) 
 early_again k later_by paces period d is early again i s within =
     let g : IsGoing (given_again k paces later_by period d) = subst IsGoing again (going k d is) in
     let n = length d.switches in
-    let told = map (later_switch later_by) period in
-    let many : length (d.switches ++ told) ≡ n + length told = length-append d.switches told in
-    let each : length told ≡ length period = simp length-map in
+    let logged = map (later_switch later_by) period in
+    let many : length (d.switches ++ logged) ≡ n + length logged = length-append d.switches logged in
+    let each : length logged ≡ length period = simp length-map in
     let past = (g.traced.switches (n + i) s (omega (arith, many, each, within))).past in
     let back : n + i - n ≡ i = omega arith in
-    let there = get_or-append_right d.switches told n (n + i) s refl (omega arith) ∙ ap (λ j. get_or told j s) back ∙ get_or-map (later_switch later_by) period i s s within in
+    let there = get_or-append_right d.switches logged n (n + i) s refl (omega arith) ∙ ap (λ j. get_or logged j s) back ∙ get_or-map (later_switch later_by) period i s s within in
     let at = ap (λ (x : Switch). x.time) there in
     omega (arith, past, at, early)

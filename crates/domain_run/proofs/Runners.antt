@@ -18,16 +18,16 @@ use Rattle.std.proofs.lemmas.Option.{slice_get_within}
 use Rattle.domain_run.specs.Jump.{running_numbers, running_of, running_if, running}
 use Rattle.domain_run.proofs.Paying.{find_here}
 
-pub standing_few : (places : Places) → length (running_numbers places) ≤ length places
-standing_few [] = omega arith
-standing_few (None ∷ places) = omega (arith, standing_few places)
-standing_few (Some n ∷ places) = omega (arith, standing_few places)
+pub running_few : (places : Places) → length (running_numbers places) ≤ length places
+running_few [] = omega arith
+running_few (None ∷ places) = omega (arith, running_few places)
+running_few (Some n ∷ places) = omega (arith, running_few places)
 
-pub standing_occupies : (places : Places) (i n : ℕ) → slice_get (running_numbers places) i ≡ Some n → (cpu : ℕ) × (occupant places cpu ≡ Some n)
-standing_occupies [] i n e = absurd cc
-standing_occupies (None ∷ places) i n e = let there = standing_occupies places i n e in (suc there.0, there.1)
-standing_occupies (Some m ∷ places) zero n e = (0, e)
-standing_occupies (Some m ∷ places) (suc i) n e = let there = standing_occupies places i n e in (suc there.0, there.1)
+pub running_occupies : (places : Places) (i n : ℕ) → slice_get (running_numbers places) i ≡ Some n → (cpu : ℕ) × (occupant places cpu ≡ Some n)
+running_occupies [] i n e = absurd cc
+running_occupies (None ∷ places) i n e = let there = running_occupies places i n e in (suc there.0, there.1)
+running_occupies (Some m ∷ places) zero n e = (0, e)
+running_occupies (Some m ∷ places) (suc i) n e = let there = running_occupies places i n e in (suc there.0, there.1)
 
 -- the listed task of a number, which may run
 pub record IsRunner (e : Domain) (n : ℕ) : Type 0 where
@@ -45,10 +45,10 @@ contends (Blocked u) h = absurd cc
 contends Waiting h = absurd cc
 contends Leaving h = absurd cc
 
--- who stands on a CPU may run
+-- the task that runs on a CPU may run
 pub runner : (e : Domain) (i n : ℕ) → IsSteady e → IsPlacement e → slice_get (running_numbers e.curr) i ≡ Some n → IsRunner e n
 runner e i n steady placed at =
-    let there = standing_occupies e.curr i n at in
+    let there = running_occupies e.curr i n at in
     by_task (placed.running there.0 n there.1)
   where
     by_task : {cpu : ℕ} → Any (λ t. (t.number ≡ n) × (t.cpu ≡ cpu) × IsTrue (is_ready t.condition) × (pos 0 <ℤ t.server.left)) e.tasks → IsRunner e n
@@ -98,8 +98,8 @@ runner_now {e} {d} {held} {i} {n} {o} same steady placed kept at found =
       high = r.high;
     }
 
-pub standing_short : (e : Domain) → IsSteady e → length (running_numbers e.curr) ≤ 64
-standing_short e steady = omega (arith, standing_few e.curr, steady.wide, steady.cpus.1)
+pub running_short : (e : Domain) → IsSteady e → length (running_numbers e.curr) ≤ 64
+running_short e steady = omega (arith, running_few e.curr, steady.wide, steady.cpus.1)
 
 pub few_now : {e d : Domain} → e ≡ d → IsSteady e → length (running_numbers d.curr) ≤ 64
-few_now {e} {d} same steady = subst (λ (x : Domain). length (running_numbers x.curr) ≤ 64) same (standing_short e steady)
+few_now {e} {d} same steady = subst (λ (x : Domain). length (running_numbers x.curr) ≤ 64) same (running_short e steady)

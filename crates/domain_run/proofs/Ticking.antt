@@ -7,7 +7,7 @@ use Rattle.std.proofs.lemmas.List.Elements.{All-map, All-weaker, All-filter}
 use Rattle.std.proofs.lemmas.List.Kept.{AllPairs-filter}
 use Rattle.attr_check.specs.Ratio.{cap}
 use Rattle.domain_run.specs.declared.task.Task.{Task}
-use Rattle.edf_pick.specs.Places.{Places, is_task, stands, placed}
+use Rattle.edf_pick.specs.Places.{Places, is_task, is_on_cpu, placed}
 use Rattle.domain_run.specs.Parts.{replenish_due, settled, is_listed, unblocked, with_last_cpu, with_cpu}
 use Rattle.domain_run.specs.Switch.{Switch}
 use Rattle.domain_run.specs.Switches.{switches_from}
@@ -15,9 +15,9 @@ use Rattle.domain_run.specs.Domain.{Domain}
 use Rattle.domain_run.specs.Tick.{sum_of, candidates, prepared, with_places, with_tick_begun, ran_if, finished, ticked}
 use Rattle.domain_run.specs.Sound.{IsSound, IsPlacement, IsSteady, IsDomain, IsAdmitted}
 use Rattle.domain_run.specs.Conditions.{is_ready}
-use Rattle.domain_run.proofs.Tracing.{AreStanding, tick_traced}
+use Rattle.domain_run.proofs.Tracing.{AreRunning, tick_traced}
 use Rattle.domain_run.proofs.Keeping.{Same, same_itself, same_either, same_replenished, same_settled, same_unblocked, same_ran, AllPairs-map, length-filter_least, sum-map, sum-filter}
-use Rattle.domain_run.proofs.Seating.{placed_is}
+use Rattle.domain_run.proofs.OpenCharging.{placed_is}
 use Rattle.domain_run.proofs.Placing.{homed_number, homed_params, homed_cpu, position_within, placed_tasks}
 
 -- what a domain keeps of its tasks, apart from each task's own soundness
@@ -81,9 +81,9 @@ homed_sound time (Some cpu) t h = record { served = h.served; spent = h.spent; l
 pub begun_is : (d : Domain) → IsSteady d → All (IsSound d.time) (prepared d.time d.tasks) → IsSteady (with_tick_begun d) × IsPlacement (with_tick_begun d)
 begun_is d is sound =
     let tasks = prepared d.time d.tasks in
-    let seating = placed_is d.cpus (candidates tasks) d.curr is.wide is.apart in
+    let open_charging = placed_is d.cpus (candidates tasks) d.curr is.wide is.apart in
     let places = placed d.cpus (candidates tasks) d.curr in
-    let l = listed_homed d places tasks seating.wide (listed_prepared d is) in (
+    let l = listed_homed d places tasks open_charging.wide (listed_prepared d is) in (
       record {
         early = is.early;
         cpus = is.cpus;
@@ -94,14 +94,14 @@ begun_is d is sound =
         homes = l.homes;
         numbered = l.numbered;
         known = l.known;
-        wide = seating.wide;
-        apart = seating.apart;
+        wide = open_charging.wide;
+        apart = open_charging.apart;
       },
-      placed_tasks d.time d.cpus d tasks places sound seating,
+      placed_tasks d.time d.cpus d tasks places sound open_charging,
     )
 
 pub same_ran_if : (d : Domain) (t : Task) → Same t (ran_if d t)
-same_ran_if d t = same_either (stands t.number d.curr) t _ t (same_ran d.time _ t) (same_itself t)
+same_ran_if d t = same_either (is_on_cpu t.number d.curr) t _ t (same_ran d.time _ t) (same_itself t)
 
 pub finished_is : (d : Domain) → IsSteady d → d.time < 2 ^ 42 → All (IsSound (d.time + 1)) (map (ran_if d) d.tasks) → IsSteady (finished d)
 finished_is d is early sound =
@@ -133,24 +133,24 @@ pub middle : (d : Domain) (tasks : List Task) (places : Places) (switches : List
 middle d tasks places switches is sound tasks-are places-are switches-are =
     let made : List Task → List Switch → Domain = λ ts ss. record d { tasks = ts; curr = places; switches = ss } in
     let list = prepared d.time d.tasks in
-    let seated : places ≡ placed d.cpus (candidates list) d.curr = places-are ∙ ap (λ n. placed n (candidates list) d.curr) is.steady.wide in
+    let assigned : places ≡ placed d.cpus (candidates list) d.curr = places-are ∙ ap (λ n. placed n (candidates list) d.curr) is.steady.wide in
     let same : record d { tasks = tasks; curr = places; switches = switches } ≡ with_tick_begun d =
-    ap (λ ts. made ts switches) tasks-are ∙ ap (made (map (with_last_cpu places) list)) switches-are ∙ ap (with_places d list) seated in
+    ap (λ ts. made ts switches) tasks-are ∙ ap (made (map (with_last_cpu places) list)) switches-are ∙ ap (with_places d list) assigned in
     let keeps = begun_is d is.steady sound in
     record { begun_is = same; steady = subst IsSteady (sym same) keeps.0; placed = subst IsPlacement (sym same) keeps.1 }
 
-standing_from : (e : Domain) → IsSteady e → IsPlacement e → AreStanding e.used e.curr
-standing_from e is at cpu n h = stand_by (at.running cpu n h)
+running_from : (e : Domain) → IsSteady e → IsPlacement e → AreRunning e.used e.curr
+running_from e is at cpu n h = on_cpu_by (at.running cpu n h)
   where
-    stand_by : Any (λ t. (t.number ≡ n) × (t.cpu ≡ cpu) × IsTrue (is_ready t.condition) × (pos 0 <ℤ t.server.left)) e.tasks → IsAdmitted e.used n
-    stand_by (k, t, within, same, facts) = subst (IsAdmitted e.used) (ap (λ x. x.number) same ∙ facts.0) (is.known k t within)
+    on_cpu_by : Any (λ t. (t.number ≡ n) × (t.cpu ≡ cpu) × IsTrue (is_ready t.condition) × (pos 0 <ℤ t.server.left)) e.tasks → IsAdmitted e.used n
+    on_cpu_by (k, t, within, same, facts) = subst (IsAdmitted e.used) (ap (λ x. x.number) same ∙ facts.0) (is.known k t within)
 
 pub ticked_is : (d : Domain) → IsDomain d → d.time < 2 ^ 42 → All (IsSound d.time) (prepared d.time d.tasks) → All (IsSound (d.time + 1)) (ticked d).tasks → IsDomain (ticked d)
 ticked_is d is early ready sound =
     let keeps = begun_is d is.steady ready in
     record {
       steady = finished_is (with_tick_begun d) keeps.0 early sound;
-      traced = tick_traced d (prepared d.time d.tasks) (ticked d).tasks (with_tick_begun d).curr is.steady.wide is.traced (standing_from (with_tick_begun d) keeps.0 keeps.1);
+      traced = tick_traced d (prepared d.time d.tasks) (ticked d).tasks (with_tick_begun d).curr is.steady.wide is.traced (running_from (with_tick_begun d) keeps.0 keeps.1);
     }
 
 -- what the code leaves is the tick

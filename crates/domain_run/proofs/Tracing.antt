@@ -22,20 +22,20 @@ pub record IsHere (time low high : ℕ) (used : List ℕ) (s : Switch) : Type 0 
   pub prev : IfSome s.prev (IsAdmitted used)
   pub next : IfSome s.next (IsAdmitted used)
 
-abbrev pub AreStanding : List ℕ → Places → Type 0
-AreStanding used places = (cpu n : ℕ) → occupant places cpu ≡ Some n → IsAdmitted used n
+abbrev pub AreRunning : List ℕ → Places → Type 0
+AreRunning used places = (cpu n : ℕ) → occupant places cpu ≡ Some n → IsAdmitted used n
 
-standing_first : (used : List ℕ) (o : Option ℕ) (places : Places) → AreStanding used (o ∷ places) → IfSome o (IsAdmitted used)
-standing_first used None places all = tt
-standing_first used (Some n) places all = all 0 n refl
+running_first : (used : List ℕ) (o : Option ℕ) (places : Places) → AreRunning used (o ∷ places) → IfSome o (IsAdmitted used)
+running_first used None places all = tt
+running_first used (Some n) places all = all 0 n refl
 
-standing_rest : (used : List ℕ) (o : Option ℕ) (places : Places) → AreStanding used (o ∷ places) → AreStanding used places
-standing_rest used o places all cpu n e = all (suc cpu) n e
+running_rest : (used : List ℕ) (o : Option ℕ) (places : Places) → AreRunning used (o ∷ places) → AreRunning used places
+running_rest used o places all cpu n e = all (suc cpu) n e
 
 here_later : (time low high : ℕ) (used : List ℕ) (s : Switch) → IsHere time (low + 1) high used s → IsHere time low high used s
 here_later time low high used s h = record { at = h.at; not_below = omega (arith, h.not_below); below = h.below; prev = h.prev; next = h.next }
 
-here_all : (time : ℕ) (tasks : List Task) (used : List ℕ) (cpu : ℕ) (before after : Places) → AreStanding used before → AreStanding used after
+here_all : (time : ℕ) (tasks : List Task) (used : List ℕ) (cpu : ℕ) (before after : Places) → AreRunning used before → AreRunning used after
     → All (IsHere time cpu (cpu + length before) used) (switches_from time tasks cpu before after)
 here_all time tasks used cpu [] after a b = All-nil _
 here_all time tasks used cpu (p ∷ before) [] a b = All-nil _
@@ -44,9 +44,9 @@ here_all time tasks used cpu (p ∷ before) (n ∷ after) a b =
     let e : cpu + length (p ∷ before) ≡ cpu + 1 + length before = omega arith in
     let rest : All P (switches_from time tasks (cpu + 1) before after) =
     All-weaker (IsHere time (cpu + 1) (cpu + 1 + length before) used) P (λ s h. rw e (here_later time cpu (cpu + 1 + length before) used s h)) (switches_from time tasks (cpu + 1) before after)
-    (here_all time tasks used (cpu + 1) before after (standing_rest used p before a) (standing_rest used n after b)) in
+    (here_all time tasks used (cpu + 1) before after (running_rest used p before a) (running_rest used n after b)) in
     let one : P (record { time = time; prev = p; next = n; cpu = cpu; state = prev_state_of tasks p }) =
-    record { at = refl; not_below = omega arith; below = omega arith; prev = standing_first used p before a; next = standing_first used n after b } in
+    record { at = refl; not_below = omega arith; below = omega arith; prev = running_first used p before a; next = running_first used n after b } in
     elim (same_occupant p n) as (λ b. All P (cond b (switches_from time tasks (cpu + 1) before after) (record { time = time; prev = p; next = n; cpu = cpu; state = prev_state_of tasks p } ∷ switches_from time tasks (cpu + 1) before after))) [
       | true ↦ rest
       | false ↦ All-cons P _ _ one rest
@@ -65,17 +65,17 @@ before_time a b h = rw (lt-ltb a.time b.time h) refl
 abbrev Rises : Switch → Switch → Type 0
 Rises a b = IsTrue (is_switch_before a b)
 
-rising_here : (time : ℕ) (tasks : List Task) (used : List ℕ) (cpu : ℕ) (before after : Places) → AreStanding used before → AreStanding used after
+rising_here : (time : ℕ) (tasks : List Task) (used : List ℕ) (cpu : ℕ) (before after : Places) → AreRunning used before → AreRunning used after
     → AllPairs Rises (switches_from time tasks cpu before after)
 rising_here time tasks used cpu [] after a b = λ i j d less within. absurd (omega arith)
 rising_here time tasks used cpu (p ∷ before) [] a b = λ i j d less within. absurd (omega arith)
 rising_here time tasks used cpu (p ∷ before) (n ∷ after) a b =
     let more = switches_from time tasks (cpu + 1) before after in
-    let rest : AllPairs Rises more = rising_here time tasks used (cpu + 1) before after (standing_rest used p before a) (standing_rest used n after b) in
+    let rest : AllPairs Rises more = rising_here time tasks used (cpu + 1) before after (running_rest used p before a) (running_rest used n after b) in
     let s : Switch = record { time = time; prev = p; next = n; cpu = cpu; state = prev_state_of tasks p } in
     let first : All (Rises s) more =
     All-weaker (IsHere time (cpu + 1) (cpu + 1 + length before) used) (Rises s) (λ x h. before_same s x (sym h.at) (omega (arith, h.not_below))) more
-    (here_all time tasks used (cpu + 1) before after (standing_rest used p before a) (standing_rest used n after b)) in
+    (here_all time tasks used (cpu + 1) before after (running_rest used p before a) (running_rest used n after b)) in
     elim (same_occupant p n) as (λ b. AllPairs Rises (cond b more (s ∷ more))) [
       | true ↦ rest
       | false ↦ AllPairs-cons Rises s more first rest
@@ -93,20 +93,20 @@ AllPairs-append R xs ys first second across i j d less within =
       ]
     ]
 
-pub tick_traced : (d : Domain) (tasks ran : List Task) (places : Places) → length d.curr ≡ d.cpus → IsTraced d → AreStanding d.used places
+pub tick_traced : (d : Domain) (tasks ran : List Task) (places : Places) → length d.curr ≡ d.cpus → IsTraced d → AreRunning d.used places
     → IsTraced (record d { time = d.time + 1; tasks = ran; curr = places; switches = d.switches ++ switches_from d.time tasks 0 d.curr places })
-tick_traced d tasks ran places wide is standing =
+tick_traced d tasks ran places wide is on_cpu =
     let more = switches_from d.time tasks 0 d.curr places in
-    let here = here_all d.time tasks d.used 0 d.curr places is.standing standing in
+    let here = here_all d.time tasks d.used 0 d.curr places is.on_cpu on_cpu in
     let P = IsSwitch d.cpus (d.time + 1) d.used in
     let Here = IsHere d.time 0 (0 + length d.curr) d.used in
     record {
       switches = All-append P d.switches more
           (All-weaker (IsSwitch d.cpus d.time d.used) P (λ s h. record { past = omega (arith, h.past); inside = h.inside; prev = h.prev; next = h.next }) d.switches is.switches)
           (All-weaker Here P (λ s h. record { past = omega (arith, h.at); inside = omega (arith, h.below, wide); prev = h.prev; next = h.next }) more here);
-      rising = AllPairs-append Rises d.switches more is.rising (rising_here d.time tasks d.used 0 d.curr places is.standing standing)
+      rising = AllPairs-append Rises d.switches more is.rising (rising_here d.time tasks d.used 0 d.curr places is.on_cpu on_cpu)
           (λ i j x h k. before_time (get_or d.switches i x) (get_or more j x) (omega (arith, (is.switches i x h).past, (here j x k).at)));
-      standing = standing;
+      on_cpu = on_cpu;
     }
 
 -- a new number changes nothing of the switches
@@ -116,5 +116,5 @@ listed_traced d e cpus time switches places grows is =
     record {
       switches = rw (switches, cpus, time) (All-weaker (IsSwitch d.cpus d.time d.used) (IsSwitch d.cpus d.time e.used) (λ s h. record { past = h.past; inside = h.inside; prev = some s.prev h.prev; next = some s.next h.next }) d.switches is.switches);
       rising = rw switches is.rising;
-      standing = rw places (λ cpu n h. grows n (is.standing cpu n h));
+      on_cpu = rw places (λ cpu n h. grows n (is.on_cpu cpu n h));
     }

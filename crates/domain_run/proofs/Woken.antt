@@ -10,7 +10,7 @@ use Rattle.domain_run.specs.declared.task.Task.{Task}
 use Rattle.domain_run.specs.Calls.{is_other}
 use Rattle.domain_run.specs.Parts.{replenish_due, settled, is_listed, unblocked}
 use Rattle.domain_run.specs.Tick.{prepared}
-use Rattle.domain_run.specs.private.Roster.{timers_served, IsWoken}
+use Rattle.domain_run.specs.private.TaskTable.{timers_served, IsWoken}
 use Rattle.domain_run.specs.private.Timers.{due_of, IsTimerStep, AreNotDue}
 use Rattle.domain_run.proofs.Due.{some_task, still_at}
 use Rattle.domain_run.proofs.Jumping.{IsStill, filter_whole, prepared_still}
@@ -21,9 +21,9 @@ pub prepared_append : (time : ℕ) (xs ys : List Task) → prepared time (xs ++ 
 prepared_append time [] ys = refl
 prepared_append time (x ∷ xs) ys =
     let more = prepared_append time xs ys in
-    let behind : List Task → List Task = λ ts. filter is_listed (map (settled time) (map (replenish_due time) ts)) in
-    elim (is_listed (timers_served time x)) as (λ b. map (unblocked time) (cond b (timers_served time x ∷ behind (xs ++ ys)) (behind (xs ++ ys)))
-    ≡ map (unblocked time) (cond b (timers_served time x ∷ behind xs) (behind xs)) ++ prepared time ys) [
+    let following : List Task → List Task = λ ts. filter is_listed (map (settled time) (map (replenish_due time) ts)) in
+    elim (is_listed (timers_served time x)) as (λ b. map (unblocked time) (cond b (timers_served time x ∷ following (xs ++ ys)) (following (xs ++ ys)))
+    ≡ map (unblocked time) (cond b (timers_served time x ∷ following xs) (following xs)) ++ prepared time ys) [
       | true ↦ ap (λ ts. unblocked time (timers_served time x) ∷ ts) more
       | false ↦ more
     ]
@@ -74,7 +74,7 @@ woken_stays time old new p h step listed = record {
   next = λ d. sym (ap (λ (ts : List Task). p + length ts) (kept time (get_or old p d) (listed d)));
 }
 
--- as it is behind parts 1 and 2
+-- as it is after parts 1 and 2
 pub served_at : (time : ℕ) (old mid : List Task) (p : ℕ) (d : Task) → p < length old → IsTimerStep (timers_served time) p old mid → get_or mid p d ≡ timers_served time (get_or old p d)
 served_at time old mid p d h step = ap (λ (ts : List Task). get_or ts p d) (step.is d) ∙ get_or-set_same old p (timers_served time (get_or old p d)) d h
 
@@ -94,15 +94,15 @@ woken_goes time old mid new p n h within step numbered is left filtered = record
     none : (d : Task) → prepared time (get_or old p d ∷ []) ≡ []
     none d = gone time (get_or old p d) (ap is_listed (sym (served_at time old mid p d h step)) ∙ left d)
 
--- as many are behind it as before
+-- as many are after it as before
 pub woken_rest : (time : ℕ) (old new : List Task) (p next : ℕ) → p < length old → IsWoken time p old new next → length new ≡ next + (length old - (p + 1))
 woken_rest time old new p next h one =
     let d = some_task old p h in
     let X = prepared time (get_or old p d ∷ []) in
     let front : length (take p old) ≡ p = length-take-le p old (omega (arith, h)) in
-    let behind : length (drop (p + 1) old) ≡ length old - (p + 1) = length-drop (p + 1) old in
+    let following : length (drop (p + 1) old) ≡ length old - (p + 1) = length-drop (p + 1) old in
     let whole : length new ≡ length (take p old) + (length X + length (drop (p + 1) old)) = ap (λ (ts : List Task). length ts) (one.tasks d) ∙ length-append (take p old) (X ++ drop (p + 1) old) ∙ ap (λ n. length (take p old) + n) (length-append X (drop (p + 1) old)) in
-    omega (arith, whole, front, behind, one.next d)
+    omega (arith, whole, front, following, one.next d)
 
 -- ---- ALL OF THEM
 
@@ -141,7 +141,7 @@ walk_more time first now new p next w h one = by_rest w.rest refl
         let front : take p now ≡ P = ap (take p) is ∙ take_at P (t ∷ more) p (sym at) in
         let here : get_or now p t ≡ t = (λ i. get_or (is i) (at i) t) ∙ get_or-append_seam P t more t in
         let long : length (P ++ (t ∷ [])) ≡ p + 1 = omega (arith, length-append P (t ∷ []), at) in
-        let behind : drop (p + 1) now ≡ more = ap (drop (p + 1)) (is ∙ sym (append_assoc P (t ∷ []) more)) ∙ drop_at (P ++ (t ∷ [])) more (p + 1) long in
+        let following : drop (p + 1) now ≡ more = ap (drop (p + 1)) (is ∙ sym (append_assoc P (t ∷ []) more)) ∙ drop_at (P ++ (t ∷ [])) more (p + 1) long in
         let X = prepared time (t ∷ []) in
         let both : P ++ X ≡ prepared time (w.done ++ (t ∷ [])) = sym (prepared_append time w.done (t ∷ [])) in
         record {
@@ -151,7 +151,7 @@ walk_more time first now new p next w h one = by_rest w.rest refl
             done = w.done ++ (t ∷ []);
             rest = more;
             first_is = w.first_is ∙ ap (λ ts. w.done ++ ts) e ∙ sym (append_assoc w.done (t ∷ []) more);
-            now_is = one.tasks t ∙ (λ i. front i ++ (prepared time (here i ∷ []) ++ behind i)) ∙ sym (append_assoc P X more) ∙ ap (λ ts. ts ++ more) both;
+            now_is = one.tasks t ∙ (λ i. front i ++ (prepared time (here i ∷ []) ++ following i)) ∙ sym (append_assoc P X more) ∙ ap (λ ts. ts ++ more) both;
             place_is = one.next t ∙ (λ i. at i + length (prepared time (here i ∷ []))) ∙ sym (length-append P X) ∙ ap (λ (ts : List Task). length ts) both;
           };
           done_is = refl;

@@ -2,10 +2,11 @@
 -- that is formed. No rule of a domain speaks of them; a domain keeps them by itself.
 use Rattle.std.specs.Prelude.{ℕ, ◌≤◌, ◌<◌, ◌^◌, ◌+◌, ◌≤ℤ◌, pos, neg_ℤ, IfSome}
 use Rattle.cbs_rules.specs.declared.server.Server.{Server}
+use Rattle.limits.specs.Limits.{clock_end}
 
 -- a domain's time: 50 days, which is more than 65536 calls of 60000000 ticks
 abbrev pub IsEarly : ℕ → Type 0
-IsEarly time = time ≤ 2 ^ 42
+IsEarly time = time ≤ clock_end
 
 -- a deadline: a budget of at least -2^32 is above 0 after 2^12 + 1 postponements of at least 2^20,
 -- each of at most 2^32 us

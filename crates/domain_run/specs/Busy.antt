@@ -1,4 +1,4 @@
--- What a refusal for want of bandwidth tells (EBUSY of sched_setattr(2)): why the bandwidth did not
+-- What a refusal for want of bandwidth logs (EBUSY of sched_setattr(2)): why the bandwidth did not
 -- fit.
 use Rattle.std.specs.Prelude.{ℕ, ◌+◌, ◌-◌, ◌≤◌, ◌<◌, IsSomeAnd}
 use Rattle.attr_check.specs.Ratio.{cap}
@@ -7,7 +7,7 @@ use Rattle.domain_run.specs.declared.call.Reply.TheVariants.{Admitted, Changed, 
 use Rattle.domain_run.specs.Domain.{Domain}
 use Rattle.domain_run.specs.Calls.{task_of}
 
--- where a reply is Busy, this holds of the number that it tells
+-- where a reply is Busy, this holds of the number that it gives
 abbrev pub IfBusy : Reply → (ℕ → Type 0) → Type 0
 IfBusy (Busy seen) P = P seen
 IfBusy Admitted P = Unit {0}

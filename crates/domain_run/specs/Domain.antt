@@ -3,6 +3,7 @@ use Rattle.std.specs.Prelude.{ℕ, ◌<◌, ◌≤◌, List, [], replicate, None
 use Rattle.edf_pick.specs.Places.{Places}
 use Rattle.domain_run.specs.declared.task.Task.{Task}
 use Rattle.domain_run.specs.Switch.{Switch}
+use Rattle.limits.specs.Limits.{unit, least_limit}
 
 -- 1 to 64 (own)
 abbrev pub IsCpus : ℕ → Type 0
@@ -10,7 +11,7 @@ IsCpus cpus = (0 < cpus) × (cpus ≤ 64)
 
 -- what may be given away of one CPU, in 1/2^20: a hundredth, rounded down, to the whole (own)
 abbrev pub IsLimit : ℕ → Type 0
-IsLimit limit = (10485 ≤ limit) × (limit ≤ 1048576)
+IsLimit limit = (least_limit ≤ limit) × (limit ≤ unit)
 
 pub record Domain : Type 0 where
   -- how many CPUs it has, and the bandwidth that it may give away for each, in 1/2^20
@@ -22,7 +23,7 @@ pub record Domain : Type 0 where
   pub tasks : List Task
   -- the numbers ever admitted, in rising order
   pub used : List ℕ
-  -- who stood on each CPU in the last tick
+  -- the task that ran on each CPU in the last tick
   pub curr : Places
   -- the switches so far
   pub switches : List Switch

@@ -4,7 +4,7 @@
 use Rattle.std.specs.Prelude.{ℕ, zero, suc, ◌+◌, ◌-◌, ◌==◌, Bool, ◌&&◌, ◌||◌, nat_lt, if◌then◌else◌, List, [], ◌∷◌, ◌++◌, map, filter, position, unwrap_or}
 use Rattle.std.specs.List.{flat_map}
 use Rattle.cbs_rules.specs.Serving.{charged}
-use Rattle.edf_pick.specs.Places.{Places, is_task, stands}
+use Rattle.edf_pick.specs.Places.{Places, is_task, is_on_cpu}
 use Rattle.domain_run.specs.declared.task.Task.{Task}
 use Rattle.task_script.specs.declared.script.Segment.{Segment}
 use Rattle.task_script.specs.declared.script.Segment.TheVariants.{Run as RunFor, Until, Wait as WaitFor, End}
@@ -33,56 +33,56 @@ abbrev pub job_due : ℕ → Task → ℕ
 job_due time t = time + t.params.deadline
 
 -- WHERE A TICK ENDS. A job ends where its script, asked at the end of its work, has anything but
--- more work, or has that behind a late timer: so much work is the next job's
-abbrev pub told_by_segment : ℕ → Task → Bool → Segment → List Happened
-told_by_segment time t late (RunFor n) =
+-- more work, or has that after a late timer: so much work is the next job's
+abbrev pub logged_by_segment : ℕ → Task → Bool → Segment → List Happened
+logged_by_segment time t late (RunFor n) =
     if late then
     happened_to time t JobEnds ∷ happened_to time t (NextReleased (job_due time t)) ∷ []
     else []
-told_by_segment time t late (Until u) = happened_to time t JobEnds ∷ []
-told_by_segment time t late WaitFor = happened_to time t JobEnds ∷ []
-told_by_segment time t late End = happened_to time t JobEnds ∷ []
+logged_by_segment time t late (Until u) = happened_to time t JobEnds ∷ []
+logged_by_segment time t late WaitFor = happened_to time t JobEnds ∷ []
+logged_by_segment time t late End = happened_to time t JobEnds ∷ []
 
-abbrev pub told_by_work : ℕ → Task → List Happened
-told_by_work time t =
+abbrev pub logged_by_work : ℕ → Task → List Happened
+logged_by_work time t =
     if t.work == 0
-    then told_by_segment time t (passes_late_timer t.cursor time)
+    then logged_by_segment time t (passes_late_timer t.cursor time)
     (next_segment t.cursor time).segment
     else []
 
 -- a running task that is throttled now has spent its budget
-abbrev pub told_by_budget : ℕ → Task → List Happened
-told_by_budget time t =
+abbrev pub logged_by_budget : ℕ → Task → List Happened
+logged_by_budget time t =
     if is_throttled t.condition then happened_to time t (Spent (due t)) ∷ [] else []
 
 -- of a task that ran a tick up to a time, at a rate
-abbrev pub told_by_run : ℕ → ℕ → Task → List Happened
-told_by_run time rate t =
-    told_by_work (time + 1) (record t { server = charged rate 1 t.server; work = t.work - 1 })
-    ++ told_by_budget (time + 1) (ran time rate t)
+abbrev pub logged_by_run : ℕ → ℕ → Task → List Happened
+logged_by_run time rate t =
+    logged_by_work (time + 1) (record t { server = charged rate 1 t.server; work = t.work - 1 })
+    ++ logged_by_budget (time + 1) (ran time rate t)
 
-abbrev pub told_if_ran : Domain → Task → List Happened
-told_if_ran d t = if stands t.number d.curr then told_by_run d.time (rate_of d t) t else []
+abbrev pub logged_if_ran : Domain → Task → List Happened
+logged_if_ran d t = if is_on_cpu t.number d.curr then logged_by_run d.time (rate_of d t) t else []
 
 -- WHERE A TICK BEGINS. A throttled task whose deadline has come has a new one
-abbrev pub told_by_replenishment : ℕ → Task → List Happened
-told_by_replenishment time t =
+abbrev pub logged_by_replenishment : ℕ → Task → List Happened
+logged_by_replenishment time t =
     if is_throttled t.condition && has_come time t.server.deadline
     then happened_to time t (Replenished (due (replenish_due time t))) ∷ [] else []
 
 -- a job is released where a script that was asked has work; a server without budget is throttled
 -- then
-abbrev pub told_by_wake : ℕ → Task → Task → Segment → List Happened
-told_by_wake time t woken (RunFor n) =
+abbrev pub logged_by_wake : ℕ → Task → Task → Segment → List Happened
+logged_by_wake time t woken (RunFor n) =
     happened_to time t (Released (job_due time t))
     ∷ (if is_throttled woken.condition then happened_to time t (WokenSpent (due woken)) ∷ []
     else [])
-told_by_wake time t woken _ = []
+logged_by_wake time t woken _ = []
 
-abbrev pub told_by_unblocking : ℕ → Task → List Happened
-told_by_unblocking time t =
+abbrev pub logged_by_unblocking : ℕ → Task → List Happened
+logged_by_unblocking time t =
     if is_over time t.condition
-    then told_by_wake time t (unblocked time t) (next_segment t.cursor time).segment else []
+    then logged_by_wake time t (unblocked time t) (next_segment t.cursor time).segment else []
 
 -- THE ORDER: by what happens, then by CPU, then by number
 abbrev pub kind_rank : What → ℕ
@@ -109,51 +109,51 @@ abbrev pub in_order : List Happened → List Happened
 in_order [] = []
 in_order (h ∷ others) = with_happened h (in_order others)
 
--- where its task stands on a CPU, on that one: the task belongs to it from then on
+-- where its task runs on a CPU, on that one: the task belongs to it from then on
 abbrev pub with_its_cpu : Places → Happened → Happened
 with_its_cpu places h =
     record h { cpu = unwrap_or (position (is_task h.number) places) h.cpu }
 
--- A TICK: what its beginning tells, each on the CPU of its task behind the placement, and what its
+-- A TICK: what its beginning logs, each on the CPU of its task after the placement, and what its
 -- end
-abbrev pub told_to_begin : Domain → List Happened
-told_to_begin d = flat_map (told_by_replenishment d.time) d.tasks
-    ++ flat_map (told_by_unblocking d.time)
+abbrev pub logged_to_begin : Domain → List Happened
+logged_to_begin d = flat_map (logged_by_replenishment d.time) d.tasks
+    ++ flat_map (logged_by_unblocking d.time)
     (filter is_listed (map (settled d.time) (map (replenish_due d.time) d.tasks)))
 
-abbrev pub told_by_beginning : Domain → List Happened
-told_by_beginning d = in_order (map (with_its_cpu (with_tick_begun d).curr) (told_to_begin d))
+abbrev pub logged_by_beginning : Domain → List Happened
+logged_by_beginning d = in_order (map (with_its_cpu (with_tick_begun d).curr) (logged_to_begin d))
 
-abbrev pub told_by_end : Domain → List Happened
-told_by_end d = in_order (flat_map (told_if_ran d) d.tasks)
+abbrev pub logged_by_end : Domain → List Happened
+logged_by_end d = in_order (flat_map (logged_if_ran d) d.tasks)
 
-abbrev pub told_by_tick : Domain → List Happened
-told_by_tick d = told_by_beginning d ++ told_by_end (with_tick_begun d)
+abbrev pub logged_by_tick : Domain → List Happened
+logged_by_tick d = logged_by_beginning d ++ logged_by_end (with_tick_begun d)
 
 -- of so many ticks
-abbrev pub told_by_ticks : ℕ → Domain → List Happened
-told_by_ticks zero d = []
-told_by_ticks (suc n) d = told_by_ticks n d ++ told_by_tick (ticks n d)
+abbrev pub logged_by_ticks : ℕ → Domain → List Happened
+logged_by_ticks zero d = []
+logged_by_ticks (suc n) d = logged_by_ticks n d ++ logged_by_tick (ticks n d)
 
 -- of so many ticks at once, the end of the last
-abbrev pub told_by_last_end : ℕ → Domain → List Happened
-told_by_last_end n d = told_by_end (with_tick_begun (ticks (n - 1) d))
+abbrev pub logged_by_last_end : ℕ → Domain → List Happened
+logged_by_last_end n d = logged_by_end (with_tick_begun (ticks (n - 1) d))
 
 -- A CALL. Where a task ends by a call, or goes to another domain, its job is cut
-abbrev pub told_by_cut : Domain → ℕ → List Happened
-told_by_cut d number =
+abbrev pub logged_by_cut : Domain → ℕ → List Happened
+logged_by_cut d number =
     map (λ t. happened_to d.time t Cut) (filter (λ t. t.number == number) d.tasks)
 
-abbrev pub told_by_granted : Domain → Call → List Happened
-told_by_granted d (Advance n) = told_by_ticks n d
-told_by_granted d (Leave number) = told_by_cut d number
-told_by_granted d (Depart number) = told_by_cut d number
-told_by_granted d _ = []
+abbrev pub logged_by_granted : Domain → Call → List Happened
+logged_by_granted d (Advance n) = logged_by_ticks n d
+logged_by_granted d (Leave number) = logged_by_cut d number
+logged_by_granted d (Depart number) = logged_by_cut d number
+logged_by_granted d _ = []
 
-abbrev pub told_by_call : Domain → Call → List Happened
-told_by_call d c = if is_refusal (reply_to d c) then [] else told_by_granted d c
+abbrev pub logged_by_call : Domain → Call → List Happened
+logged_by_call d c = if is_refusal (reply_to d c) then [] else logged_by_granted d c
 
 -- A RUN
-abbrev pub told_by_calls : Domain → List Call → List Happened
-told_by_calls d [] = []
-told_by_calls d (c ∷ cs) = told_by_call d c ++ told_by_calls (after_call d c) cs
+abbrev pub logged_by_calls : Domain → List Call → List Happened
+logged_by_calls d [] = []
+logged_by_calls d (c ∷ cs) = logged_by_call d c ++ logged_by_calls (after_call d c) cs

@@ -13,12 +13,13 @@ use Rattle.domain_run.specs.Parts.{is_listed}
 use Rattle.domain_run.specs.Domain.{Domain}
 use Rattle.domain_run.specs.Tick.{shares, sum_of, with_tick_begun}
 use Rattle.domain_run.specs.Sound.{IsPlacement}
+use Rattle.limits.specs.Limits.{clock_end}
 
--- A TICK UNDER WAY: its parts 1 to 5 are done, and the clock stands at its end
+-- A TICK UNDER WAY: its parts 1 to 5 are done, and the clock is at its end
 abbrev pub under_way : Domain → Domain
 under_way d = record (with_tick_begun d) { time = d.time + 1 }
 
--- such a domain, where each task that stands on a CPU may
+-- such a domain, where each task that runs on a CPU may
 pub record IsUnderWay (d : Domain) : Type 0 where
   pub before : Domain
   pub begun : d ≡ under_way before
@@ -64,7 +65,7 @@ gone_at t = if is_listed t then None else Some 0
 
 -- the ticks from a time to another that may come
 abbrev pub ticks_to : ℕ → Option ℕ → ℕ
-ticks_to time None = 2 ^ 42 - 1
+ticks_to time None = clock_end - 1
 ticks_to time (Some u) = u - time
 
 -- the ticks from a time to the first of these
@@ -75,7 +76,7 @@ ticks_to_due_of time t =
 
 -- to the first of all tasks
 abbrev pub ticks_to_due : ℕ → List Task → ℕ
-ticks_to_due time [] = 2 ^ 42 - 1
+ticks_to_due time [] = clock_end - 1
 ticks_to_due time (t ∷ tasks) = min (ticks_to_due_of time t) (ticks_to_due time tasks)
 
 -- from the beginning of the tick under way to the next tick in which parts 1 to 3 have something to

@@ -10,7 +10,7 @@ pub mod Calls
 pub mod Busy
 pub mod Happened
 pub mod Log
-pub mod Logged
+pub mod LoggedRun
 pub mod Keys
 pub mod Run
 pub mod Views

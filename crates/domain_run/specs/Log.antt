@@ -1,24 +1,24 @@
--- A log of what happens to the tasks of a domain (own). One that wants it has it behind what it was
--- told before; a silent one keeps nothing.
+-- A log of what happens to the tasks of a domain (own). One that wants it appends it to what it
+-- has; a silent one keeps nothing.
 use Rattle.std.specs.Prelude.{ℕ, ◌≡◌, ◌+◌, ◌≤◌, Bool, IsTrue, if◌then◌else◌, List, [], ◌++◌, length}
 use Rattle.domain_run.specs.declared.happened.Happened.{Happened}
 
 pub record LogView : Type 0 where
-  -- whether it keeps what it is told
+  -- whether it keeps what it logs
   pub wanted : Bool
-  -- what it was told, in this order
+  -- what it has logged, in this order
   pub happened : List Happened
   -- how much more it takes without memory
   pub room : ℕ
 
--- what it keeps of what it is told
+-- what it keeps of what it logs
 abbrev pub if_wanted : LogView → List Happened → List Happened
-if_wanted log told = if log.wanted then told else []
+if_wanted log logged = if log.wanted then logged else []
 
--- a log that was told this, and nothing else; it gives no room back
-pub record Tells (before : LogView) (told : List Happened) (after : LogView) : Type 0 where
+-- a log that has logged this, and nothing else; it gives no room back
+pub record HasLogged (before : LogView) (logged : List Happened) (after : LogView) : Type 0 where
   pub wanted : after.wanted ≡ before.wanted
-  pub happened : after.happened ≡ before.happened ++ if_wanted before told
+  pub happened : after.happened ≡ before.happened ++ if_wanted before logged
   pub room : before.room + length before.happened ≤ after.room + length after.happened
 
 -- room for so much, where it keeps it

@@ -13,7 +13,7 @@ use Rattle.domain_run.specs.Domain.{Domain, IsCpus, IsLimit}
 use Rattle.domain_run.specs.Bounds.{IsEarly, IsSoon, IsServed}
 use Rattle.domain_run.specs.Tick.{sum_of}
 
--- the timer's reference is not behind the next time at which the script may be asked; a task that
+-- the timer's reference is not after the next time at which the script may be asked; a task that
 -- has ended asks no more
 abbrev pub IsTimed : ℕ → Condition → ℕ → Type 0
 IsTimed time Ready reference = reference ≤ time
@@ -31,23 +31,22 @@ pub record IsSound (time : ℕ) (t : Task) : Type 0 where
   pub busy : IsTrue (is_contending t.condition) → 0 < t.work
   pub timed : IsTimed time t.condition t.cursor.reference
 
--- who stands on a CPU
+-- the task that runs on a CPU
 abbrev pub occupant : Places → ℕ → Option ℕ
 occupant places cpu = slice_index_or places cpu None
 
--- no task stands on two CPUs
+-- no task runs on two CPUs
 pub record HasNoTaskTwice (places : Places) : Type 0 where
   pub once : (i j n : ℕ) → occupant places i ≡ Some n → occupant places j ≡ Some n → i ≡ j
 
--- a task of this number that may stand on a CPU: it is ready, has budget left and belongs to that
--- CPU
-abbrev pub MayStand : ℕ → ℕ → Task → Type 0
-MayStand cpu n t =
+-- a task of this number that may run on a CPU: it is ready, has budget left and belongs to that CPU
+abbrev pub MayRunThere : ℕ → ℕ → Task → Type 0
+MayRunThere cpu n t =
     (t.number ≡ n) × (t.cpu ≡ cpu) × IsTrue (is_ready t.condition) × (pos 0 <ℤ t.server.left)
 
--- what is placed: on each CPU stands nobody, or a listed task that may; and no task stands on two
+-- what is placed: on each CPU runs no task, or a listed task that may; and no task runs on two
 pub record IsPlacement (d : Domain) : Type 0 where
-  pub running : (cpu n : ℕ) → occupant d.curr cpu ≡ Some n → Any (MayStand cpu n) d.tasks
+  pub running : (cpu n : ℕ) → occupant d.curr cpu ≡ Some n → Any (MayRunThere cpu n) d.tasks
   pub apart : HasNoTaskTwice d.curr
 
 -- the number was admitted
@@ -77,11 +76,11 @@ pub record IsSwitch (cpus time : ℕ) (used : List ℕ) (s : Switch) : Type 0 wh
   pub prev : IfSome s.prev (IsAdmitted used)
   pub next : IfSome s.next (IsAdmitted used)
 
--- the switches rise strictly by time and CPU, and who stands on a CPU was admitted
+-- the switches rise strictly by time and CPU, and the task that runs on a CPU was admitted
 pub record IsTraced (d : Domain) : Type 0 where
   pub switches : All (IsSwitch d.cpus d.time d.used) d.switches
   pub rising : AllPairs (λ a b. IsTrue (is_switch_before a b)) d.switches
-  pub standing : (cpu n : ℕ) → occupant d.curr cpu ≡ Some n → IsAdmitted d.used n
+  pub on_cpu : (cpu n : ℕ) → occupant d.curr cpu ≡ Some n → IsAdmitted d.used n
 
 -- what every domain keeps between two ticks
 pub record IsDomain (d : Domain) : Type 0 where

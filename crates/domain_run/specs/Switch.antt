@@ -16,7 +16,7 @@ pub record Switch : Type 0 where
   pub state : PrevState
 
 -- idle leaves in the state Running (the event's prev_state R), and no task does: one that still
--- wants the CPU is told as preempted (R+)
+-- wants the CPU is logged as preempted (R+)
 abbrev pub IsLeftIn : PrevState → Option ℕ → Type 0
 IsLeftIn state None = state ≡ Running
 IsLeftIn state (Some n) = state ≢ Running

@@ -3,7 +3,7 @@ use Rattle.std.specs.Prelude.{ℕ, zero, suc, ◌+◌, ◌||◌, if◌then◌els
 use Rattle.grub_rules.specs.declared.share.Share.{Share}
 use Rattle.grub_rules.specs.Sums.{total_bw, uinact}
 use Rattle.grub_rules.specs.Rate as reclaiming
-use Rattle.edf_pick.specs.Places.{Places, placed, stands}
+use Rattle.edf_pick.specs.Places.{Places, placed, is_on_cpu}
 use Rattle.edf_pick.specs.declared.candidate.Candidate.{Candidate}
 use Rattle.domain_run.specs.declared.task.Task.{Task}
 use Rattle.domain_run.specs.Conditions.{is_ready, is_contending}
@@ -62,7 +62,7 @@ rate_of d t =
     reclaiming.rate t.params (uinact t.cpu (shares d.tasks)) (sum_of d.tasks) d.cpus d.limit
 
 abbrev pub ran_if : Domain → Task → Task
-ran_if d t = if stands t.number d.curr then ran d.time (rate_of d t) t else t
+ran_if d t = if is_on_cpu t.number d.curr then ran d.time (rate_of d t) t else t
 
 -- what ends with a tick, part 6: every running task is charged
 abbrev pub finished : Domain → Domain

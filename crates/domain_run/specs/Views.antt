@@ -25,7 +25,7 @@ view_in d number = option_map view_of (find (λ t. t.number == number) d.tasks)
 abbrev pub name_in : Domain → ℕ → Option (List ℕ)
 name_in d number = option_map (λ t. t.name) (find (λ t. t.number == number) d.tasks)
 
--- its script, whole, wherever its cursor stands
+-- its script, whole, wherever its cursor is
 abbrev pub script_in : Domain → ℕ → Option ScriptView
 script_in d number = option_map (λ t. t.cursor.script) (find (λ t. t.number == number) d.tasks)
 

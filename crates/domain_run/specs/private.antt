@@ -4,12 +4,12 @@ pub mod RunQueue
 pub mod Paying
 pub mod Index
 pub mod Timers
-pub mod Roster
-pub mod Doubts
+pub mod TaskTable
+pub mod StaleCharges
 pub mod Gathering
-pub mod Telling
-pub mod Waiting
-pub mod Dozing
+pub mod TransitionLog
+pub mod Owed
+pub mod DeferringTimers
 pub mod Choosing
 pub mod Extending
 pub mod Expiring

@@ -1,6 +1,6 @@
 //! A domain that goes on without memory: its switches wait in a buffer until they are taken.
 
-ghost use Rattle.std.specs.Prelude.{◌≡◌, [], ◌<◌, ◌≤◌, ◌^◌, ◌+◌, ◌-◌, ◌++◌, All, length, false, IfOk, IfErr, IfNone, OnOk, IsTrue};
+ghost use Rattle.std.specs.Prelude.{◌≡◌, [], ◌<◌, ◌≤◌, ◌+◌, ◌-◌, ◌++◌, All, length, false, IfOk, IfErr, IfNone, OnOk, IsTrue};
 ghost use Rattle.domain_run.specs.declared.call.Call.TheVariants as Call;
 ghost use Rattle.domain_run.specs.declared.call.Reply.TheVariants as Reply;
 ghost use Rattle.domain_run.specs.Calls as calls;
@@ -12,6 +12,7 @@ ghost use Rattle.domain_run.specs.Passing.{without_front, without_switches};
 ghost use Rattle.domain_run.specs.Shift.{given_again, AllMayGo};
 ghost use Rattle.domain_run.specs.Sound.{IsDomain};
 ghost use Rattle.domain_run.specs.Tick as tick;
+ghost use Rattle.limits.specs.Limits.{clock_end, max_script_number, task_number_end};
 
 use crate::call::{Refused, Reply};
 use crate::pace::Pace;
@@ -119,7 +120,7 @@ impl Buffered {
     /// stays within 2^42 us. Tasks that have left may go off the list; nobody comes, and the others
     /// keep number, bandwidth and order.
     pub fn fill(&mut self, n: u64) -> u64
-        requires { self.old.time + n ≤ 2 ^ 42 }
+        requires { self.old.time + n ≤ clock_end }
         ensures made { self.new ≡ tick.ticks (n - result) self.old }
         ensures most { result ≤ n }
         ensures full { 0 < result → 0 < length self.new.switches }
@@ -146,7 +147,7 @@ impl Buffered {
     /// is 2^48 us or more. Time stays within 2^42 us.
     pub fn repeat(&mut self, micros: u64, paces: &[Pace], later_by: u64, period: &[Switch]) -> bool
         requires many { length paces.now ≡ length self.old.tasks }
-        requires early { self.old.time + micros ≤ 2 ^ 42 }
+        requires early { self.old.time + micros ≤ clock_end }
         requires may { AllMayGo paces.now self.old.tasks }
         requires again { tick.ticks micros self.old
             ≡ given_again micros paces.now later_by period.now self.old }
@@ -162,7 +163,7 @@ impl Buffered {
     /// tick is made. Time stays within 2^42 us. Tasks that have left may go off the list; nobody
     /// comes, and the others keep number, bandwidth and order.
     pub fn advance(&mut self, n: u64) -> u64
-        requires { self.old.time + n ≤ 2 ^ 42 }
+        requires { self.old.time + n ≤ clock_end }
         ensures ticks { self.new ≡ tick.ticks result self.old }
         ensures most { result ≤ n }
         ensures some { self.old.switches ≡ [] → 0 < n → 0 < result }
@@ -183,8 +184,8 @@ impl Buffered {
         delay: u64,
         script: Script,
     ) -> Result<(), Refused>
-        requires number { (0 < number) × (number < 65536) }
-        requires delay { delay ≤ 1000000000 }
+        requires number { (0 < number) × (number < task_number_end) }
+        requires delay { delay ≤ max_script_number }
         ensures domain { self.new
             ≡ calls.after_call self.old (Call.Admit number name params delay script) }
         ensures admitted { OnOk result

@@ -4,7 +4,7 @@ ghost use Rattle.std.specs.Prelude.{◌≡◌, ◌<◌, ◌+◌, ℕ};
 ghost use Rattle.domain_run.specs.Calls as calls;
 ghost use Rattle.domain_run.specs.Domain.{Domain};
 ghost use Rattle.domain_run.specs.Sound.{IsSound};
-ghost use Rattle.domain_run.specs.private.Roster.{quit};
+ghost use Rattle.domain_run.specs.private.TaskTable.{quit};
 
 use crate::parts::stop;
 use crate::task::{Condition, Task};
@@ -55,7 +55,7 @@ pub(crate) fn release(task: &mut Task, time: u64)
     task.condition = Condition::Blocked(time);
 }
 
-/// The end of a task: where it contends, its zero-lag time is told from now.
+/// The end of a task: where it contends, its zero-lag time counts from now.
 pub(crate) fn end(task: &mut Task, time: u64)
     requires { IsSound time task.old }
     ensures task { task.new ≡ calls.ended_at time task.old }
@@ -68,8 +68,7 @@ pub(crate) fn end(task: &mut Task, time: u64)
     }
 }
 
-/// A task that goes to another domain: it stands as one that has left and is due to go off the
-/// list.
+/// A task that goes to another domain: it is as one that has left and is due to go off the list.
 pub(crate) fn depart(task: &mut Task)
     ensures { task.new ≡ quit task.old }
 {

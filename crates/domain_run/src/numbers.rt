@@ -3,6 +3,7 @@
 ghost use Rattle.std.specs.Prelude.{◌≡◌, ◌≢◌, ℕ, ◌<◌, ◌==◌, false, List, [], All, AllPairs, IfOk, replicate, vec_len, vec_capacity};
 ghost use Rattle.std.specs.List.{list_any};
 ghost use Rattle.domain_run.specs.Calls.{with_number};
+ghost use Rattle.limits.specs.Limits.{task_number_end};
 
 use no_memory::NoMemory;
 use std::alloc::{AllocError, Global};
@@ -54,7 +55,7 @@ impl Numbers {
 
     /// Whether the number is one of them.
     pub(crate) fn contains(&self, number: u32) -> bool
-        requires { number < 65536 }
+        requires { number < task_number_end }
         ensures { result ≡ list_any (λ n. n == number) self.now }
     {
         self.marks[number as usize]
@@ -62,7 +63,7 @@ impl Numbers {
 
     /// Takes a number in that is not there.
     pub(crate) fn insert(&mut self, number: u32)
-        requires small { number < 65536 }
+        requires small { number < task_number_end }
         requires absent { list_any (λ n. n == number) self.old ≡ false }
         ensures { self.new ≡ with_number number self.old }
     {
@@ -72,7 +73,7 @@ impl Numbers {
     /// All of them, in rising order.
     pub(crate) fn list(&self, alloc: Global) -> Result<Vec<u32>, NoMemory>
         ensures all { IfOk result (λ v. v.items ≡ self.now) }
-        ensures small { IfOk result (λ v. All (λ n. n < 65536) v.items) }
+        ensures small { IfOk result (λ v. All (λ n. n < task_number_end) v.items) }
         ensures apart { IfOk result (λ v. AllPairs (λ a b. a ≢ b) v.items) }
     {
         let mut numbers = Vec::new(alloc);

@@ -9,6 +9,7 @@ ghost use Rattle.domain_run.specs.private.Paying.{ran_until};
 ghost use Rattle.task_script.specs.script.Segments.{IsSegment, next_ask};
 ghost use Rattle.domain_run.specs.Bounds.{IsServed};
 ghost use Rattle.domain_run.specs.Sound.{IsTimed, IsSound};
+ghost use Rattle.limits.specs.Limits.{clock_end};
 
 use crate::switch::PrevState;
 use crate::task::{Condition, Task};
@@ -25,7 +26,7 @@ pub(crate) fn has_come(time: u64, moment: Option<u64>) -> bool
 }
 
 fn replenish_now(server: Server, task: &Task, time: u64) -> Server
-    requires early { time < 2 ^ 42 }
+    requires early { time < clock_end }
     requires served { IsServed time server }
     requires spent { server.left ≤ℤ pos 0 }
     requires come { IsTrue (conditions.has_come time server.deadline) }
@@ -39,7 +40,7 @@ fn replenish_now(server: Server, task: &Task, time: u64) -> Server
 
 /// Part 1: a throttled task whose deadline has come is replenished.
 pub(crate) fn replenish_due(task: &mut Task, time: u64)
-    requires early { time < 2 ^ 42 }
+    requires early { time < clock_end }
     requires sound { IsSound time task.old }
     ensures task { task.new ≡ parts.replenish_due time task.old }
     ensures sound { IsSound time task.new }
@@ -69,7 +70,7 @@ pub(crate) fn is_listed(task: &Task) -> bool
 }
 
 fn enqueue(task: &mut Task, server: Server, time: u64)
-    requires early { time < 2 ^ 42 }
+    requires early { time < clock_end }
     requires served { IsServed time server }
     requires dated { IsSome server.deadline }
     requires busy { 0 < task.old.work }
@@ -90,7 +91,7 @@ fn enqueue(task: &mut Task, server: Server, time: u64)
 }
 
 fn wake_server(task: &Task, time: u64) -> Server
-    requires early { time < 2 ^ 42 }
+    requires early { time < clock_end }
     requires served { IsServed time task.now.server }
     ensures value { result ≡ serving.woken task.now.params time task.now.server }
     ensures served { IsServed time result }
@@ -101,7 +102,7 @@ fn wake_server(task: &Task, time: u64) -> Server
 
 #[inline(always)]
 fn wake(task: &mut Task, work: u64, time: u64)
-    requires early { time < 2 ^ 42 }
+    requires early { time < clock_end }
     requires served { IsServed time task.old.server }
     requires busy { 0 < work }
     requires timed { task.old.cursor.reference ≤ time }
@@ -116,7 +117,7 @@ fn wake(task: &mut Task, work: u64, time: u64)
 
 #[inline(always)]
 fn start(task: &mut Task, segment: Segment, time: u64)
-    requires early { time < 2 ^ 42 }
+    requires early { time < clock_end }
     requires served { IsServed time task.old.server }
     requires within { IsSegment segment }
     requires timed { task.old.cursor.reference ≤ next_ask time segment }
@@ -134,7 +135,7 @@ fn start(task: &mut Task, segment: Segment, time: u64)
 /// Part 3: a task whose time of blocking is over asks its script.
 #[inline(always)]
 pub(crate) fn unblock(task: &mut Task, time: u64)
-    requires early { time < 2 ^ 42 }
+    requires early { time < clock_end }
     requires sound { IsSound time task.old }
     ensures task { task.new ≡ parts.unblocked time task.old }
     ensures sound { IsSound time task.new }

@@ -1,13 +1,13 @@
 //! What a domain keeps of its tasks beside their list: the running sums of their bandwidth, the
-//! ready ones in the order of the choice with who stands on each CPU, and when each is due. So a
-//! tick neither sums nor sorts, and looks at those alone that are due or have changed.
+//! ready ones in the order of the choice with the task that runs on each CPU, and when each is due.
+//! So a tick neither sums nor sorts, and looks at those alone that are due or have changed.
 
 ghost use Rattle.std.specs.Prelude.{◌≡◌, ◌≢◌, ◌<◌, ◌≤◌, ◌+◌, ◌-◌, ◌^◌, ◌∷◌, [], None, length, not, replicate, All, IfOk, IfSome};
 ghost use Rattle.edf_pick.specs.Schedule.{IsAtHome};
 ghost use Rattle.grub_rules.specs.Accounts.{Holds, Exchanges};
 ghost use Rattle.domain_run.specs.private.RunQueue as spec;
 
-use crate::standing::Standing;
+use crate::status::TaskStatus;
 use due_times::Timers;
 use edf_pick::{Candidate, Schedule};
 use grub_rules::{Accounts, Share};
@@ -22,19 +22,19 @@ pub(crate) struct RunQueue {
     pub(crate) timers: Timers,
 }
 
-fn share_on(cpu: usize, standing: &Standing) -> Share
-    ensures { result ≡ spec.share_on cpu standing.now }
+fn share_on(cpu: usize, status: &TaskStatus) -> Share
+    ensures { result ≡ spec.share_on cpu status.now }
 {
     Share {
         cpu,
-        bw: standing.bw,
-        active: standing.active,
+        bw: status.bw,
+        active: status.active,
     }
 }
 
 // Bandwidth of a CPU becomes active, or inactive.
 #[inline(always)]
-fn turn_active(accounts: &mut Accounts, cpu: usize, bw: u64, active: bool)
+fn apply_active(accounts: &mut Accounts, cpu: usize, bw: u64, active: bool)
     requires { Holds accounts.old (record { cpu = cpu; bw = bw; active = not active }) }
     ensures { Exchanges accounts.old accounts.new
         (record { cpu = cpu; bw = bw; active = not active } ∷ [])
@@ -47,9 +47,9 @@ fn turn_active(accounts: &mut Accounts, cpu: usize, bw: u64, active: bool)
     }
 }
 
-// The sums are told of a share that has changed. Mostly it has not, which a look tells.
+// The sums learn of a share that has changed. Mostly it has not, which a look shows.
 #[inline(always)]
-fn track(accounts: &mut Accounts, cpu: usize, before: &Standing, after: &Standing)
+fn track(accounts: &mut Accounts, cpu: usize, before: &TaskStatus, after: &TaskStatus)
     requires held { Holds accounts.old (spec.share_on cpu before.now) }
     requires fits { accounts.old.total - before.now.bw + after.now.bw < 2 ^ 64 }
     ensures { Exchanges accounts.old accounts.new
@@ -58,7 +58,7 @@ fn track(accounts: &mut Accounts, cpu: usize, before: &Standing, after: &Standin
     if before.bw != after.bw {
         accounts.track(&share_on(cpu, before), &share_on(cpu, after));
     } else if before.active != after.active {
-        turn_active(accounts, cpu, after.bw, after.active);
+        apply_active(accounts, cpu, after.bw, after.active);
     }
 }
 
@@ -130,20 +130,20 @@ impl RunQueue {
         })
     }
 
-    /// The task at a place of the list, of a number, which belongs to a CPU, stood as `before`, and
-    /// stands as `after` now.
+    /// The task at a place of the list, of a number, which belongs to a CPU, had the status
+    /// `before`, and has `after` now.
     #[inline(always)]
-    pub(crate) fn turn(
+    pub(crate) fn apply(
         &mut self,
         place: usize,
         number: u32,
         cpu: usize,
-        before: &Standing,
-        after: &Standing,
+        before: &TaskStatus,
+        after: &TaskStatus,
     )
         requires narrow { length self.old.accounts.all ≤ 64 }
-        requires turns { spec.MayTurn place number cpu self.old before.now after.now }
-        ensures { spec.HasTurned place number cpu before.now after.now self.old self.new }
+        requires turns { spec.MayApply place number cpu self.old before.now after.now }
+        ensures { spec.IsApplied place number cpu before.now after.now self.old self.new }
     {
         track(&mut self.accounts, cpu, before, after);
         if before.ready != after.ready {

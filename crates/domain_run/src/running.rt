@@ -28,7 +28,7 @@ fn listed_at(running: &[u32], i: usize) -> Option<u32>
     }
 }
 
-/// The i-th of those who stand on the CPUs, found by a walk.
+/// The i-th of the tasks that run on the CPUs, found by a walk.
 fn found_at(places: &[Option<u32>], i: usize) -> Option<u32>
     ensures { result ≡ slice_get (running_numbers places.now) i }
 {
@@ -44,8 +44,8 @@ fn found_at(places: &[Option<u32>], i: usize) -> Option<u32>
     None
 }
 
-/// The i-th of those who stand on the CPUs, where they are listed or are not.
-pub(crate) fn standing_at(
+/// The i-th of the tasks that run on the CPUs, where they are listed or are not.
+pub(crate) fn running_at(
     running: &[u32],
     is_listed: bool,
     places: &[Option<u32>],
@@ -60,7 +60,7 @@ pub(crate) fn standing_at(
     listed_at(running, i)
 }
 
-/// Who stands on the CPUs, one after another.
+/// The tasks that run on the CPUs, one after another.
 fn list_running(running: &mut Vec<u32>, places: &[Option<u32>])
     requires room { length places.now ≤ vec_capacity running.old }
     ensures running { running.new.items ≡ running_numbers places.now }
@@ -74,7 +74,7 @@ fn list_running(running: &mut Vec<u32>, places: &[Option<u32>])
     }
 }
 
-/// Who stands on the CPUs is listed, where they are not.
+/// The tasks that run on the CPUs are listed, if they are not.
 pub(crate) fn relist(running: &mut Vec<u32>, is_listed: bool, places: &[Option<u32>])
     requires room { length places.now ≤ vec_capacity running.old }
     requires listed { is_listed ≡ true → running.old.items ≡ running_numbers places.now }

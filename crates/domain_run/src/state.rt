@@ -9,10 +9,11 @@ ghost use Rattle.domain_run.specs.Calls as calls;
 ghost use Rattle.domain_run.specs.Busy.{IfBusy, LacksRoomFor};
 ghost use Rattle.domain_run.specs.Sound.{IsDomain};
 ghost use Rattle.attr_check.specs.Ratio.{cap};
+ghost use Rattle.limits.specs.Limits.{max_script_number, task_number_end};
 
 mod calls;
 mod cutting;
-mod dozing;
+mod deferring_timers;
 mod going;
 mod growing;
 mod in_room;
@@ -28,30 +29,32 @@ mod ticking;
 use crate::call::{Refused, Reply};
 use crate::calls::new_task;
 use crate::numbers::Numbers;
-use crate::roster::Roster;
 use crate::switch::Switch;
 use crate::task::TaskView;
+use crate::task_table::TaskTable;
 use attr_check::Params;
 use growing::Room;
 use std::marker::Model;
 use task_script::{Name, Script};
 
-/// A root domain of 1 to 64 CPUs: its tasks, who stands on each CPU, and the switches so far.
+/// A root domain of 1 to 64 CPUs: its tasks, the task that runs on each CPU, and the switches so
+/// far.
 #[derive(Drop)]
 pub struct State {
     cpus: usize,
     limit: u64,
     time: u64,
-    roster: Roster,
+    task_table: TaskTable,
     used: Numbers,
     switches: Vec<Switch>,
     // For how many switches there is room: what `growing` made, and nobody else.
     room: Room,
-    // Who stands on the CPUs, one after another, where that is listed: a leap needs no list.
+    // The tasks that run on the CPUs, one after another, where that is listed: a leap needs no
+    // list.
     running: Vec<u32>,
     is_listed: bool,
-    // So many leaps more go to each zero-lag time, since a look has told that they must. It is only
-    // a hint.
+    // So many leaps more go to each zero-lag time, since a look has shown that they must. It is
+    // only a hint.
     wakeful: u32,
 }
 
@@ -66,9 +69,9 @@ impl Model for State {
       cpus = s.cpus;
       limit = s.limit;
       time = s.time;
-      tasks = s.roster.tasks;
+      tasks = s.task_table.tasks;
       used = s.used;
-      curr = s.roster.places;
+      curr = s.task_table.places;
       switches = s.switches.items;
     } };
 
@@ -77,14 +80,14 @@ impl Model for State {
           cpus = s.cpus;
           limit = s.limit;
           time = s.time;
-          tasks = s.roster.tasks;
+          tasks = s.task_table.tasks;
           used =
               s.used;
           curr =
-              s.roster.places;
+              s.task_table.places;
           switches =
               s.switches.items;
-        }) s.roster.cpus s.is_listed s.running.items (vec_capacity s.running)
+        }) s.task_table.cpus s.is_listed s.running.items (vec_capacity s.running)
         (vec_capacity s.switches) s.room.count };
 }
 
@@ -121,14 +124,14 @@ impl State {
         ensures sum { result ≡ tick.sum_of self.now.tasks }
         ensures within { result ≤ cap self.now.cpus self.now.limit }
     {
-        self.roster.sum()
+        self.task_table.sum()
     }
 
     /// The task of a number, where it is listed.
     pub fn view(&self, number: u32) -> Option<TaskView>
         ensures { result ≡ view_in self.now number }
     {
-        self.roster.view(number)
+        self.task_table.view(number)
     }
 }
 
@@ -136,12 +139,12 @@ impl State {
     /// The reply that an admission would get, by the tests in their order. Nothing changes. Takes
     /// no memory.
     pub fn admit_reply(&self, number: u32, params: &Params) -> Reply
-        requires { number < 65536 }
+        requires { number < task_number_end }
         ensures reply { result ≡ calls.admit_reply self.now number params.now }
         ensures busy { IfBusy result (LacksRoomFor self.now params.now.bw) }
     {
         let sum = self.sum();
-        if self.roster.len() >= 256 {
+        if self.task_table.len() >= 256 {
             Reply::Full
         } else if self.used.contains(number) {
             Reply::Twice
@@ -154,14 +157,14 @@ impl State {
 
     fn list(&mut self, number: u32, name: Name, params: Params, delay: u64, script: Script)
         requires granted { calls.admit_reply self.old number params ≡ Reply.Admitted }
-        requires small { number < 65536 }
-        requires delay { delay ≤ 1000000000 }
+        requires small { number < task_number_end }
+        requires delay { delay ≤ max_script_number }
         ensures { self.new ≡ calls.with_task_listed self.old
             (calls.new_task self.old number name params delay script) }
     {
         let task = new_task(number, name, params, self.time + delay, script, self.cpus);
         self.used.insert(number);
-        self.roster.push(task);
+        self.task_table.push(task);
     }
 
     /// Admits a task at the time now: tested in this order, `Full` where 256 tasks are listed,
@@ -177,8 +180,8 @@ impl State {
         delay: u64,
         script: Script,
     ) -> Result<(), Refused>
-        requires number { (0 < number) × (number < 65536) }
-        requires delay { delay ≤ 1000000000 }
+        requires number { (0 < number) × (number < task_number_end) }
+        requires delay { delay ≤ max_script_number }
         ensures domain { self.new
             ≡ calls.after_call self.old (Call.Admit number name params delay script) }
         ensures admitted { OnOk result

@@ -6,7 +6,7 @@ ghost use Rattle.attr_check.specs.Ratio.{cap};
 ghost use Rattle.domain_run.specs.declared.task.Task.{Task};
 ghost use Rattle.domain_run.specs.Calls.{of_number};
 ghost use Rattle.domain_run.specs.Domain.{IsLimit};
-ghost use Rattle.domain_run.specs.Log.{LogHasRoom, Tells};
+ghost use Rattle.domain_run.specs.Log.{LogHasRoom, HasLogged};
 ghost use Rattle.domain_run.specs.Parts as parts_spec;
 ghost use Rattle.edf_pick.specs.Places as places_spec;
 ghost use Rattle.domain_run.specs.Sound.{IsSound, HasNoTaskTwice};
@@ -14,409 +14,459 @@ ghost use Rattle.domain_run.specs.Switches as switches_spec;
 ghost use Rattle.domain_run.specs.Tick as tick_spec;
 ghost use Rattle.domain_run.specs.private.Paying.{MayPayIf, paid};
 ghost use Rattle.domain_run.specs.private.Choosing as choosing_spec;
-ghost use Rattle.domain_run.specs.private.Roster.{task_after, IsWoken, Fits, MayMake};
+ghost use Rattle.domain_run.specs.private.TaskTable.{task_after, IsWoken, Fits, MayMake};
 ghost use Rattle.domain_run.specs.private.Timers.{IsTimerStep};
-ghost use Rattle.domain_run.specs.private.Waiting.{seat_of_task};
-ghost use Rattle.domain_run.specs.private.Telling as telling_spec;
+ghost use Rattle.domain_run.specs.private.Owed.{charge_of_task};
+ghost use Rattle.domain_run.specs.private.TransitionLog as transition_log_spec;
+ghost use Rattle.limits.specs.Limits.{clock_end, deadline_end};
 
-use crate::change::Change;
 use crate::log::Log;
-use crate::roster::{Moment, Roster};
 use crate::switch::{Switch, switch_of};
-use crate::telling::{self, Before};
+use crate::task_table::{Moment, TaskTable};
+use crate::transition::Transition;
+use crate::transition_log::{self, Before};
 use edf_pick::Moved;
 
-/// Changes the task at a place, which sits nowhere, and tells the log what that tells.
+/// Changes the task at a place, which has no open charge, and logs what happens by it.
 #[inline(never)]
-fn tell_turn(roster: &mut Roster, place: usize, time: u64, change: &Change, log: &mut Log)
-    requires there { place < length roster.old.tasks }
+fn log_applied(
+    task_table: &mut TaskTable,
+    place: usize,
+    time: u64,
+    transition: &Transition,
+    log: &mut Log,
+)
+    requires there { place < length task_table.old.tasks }
     requires free { (d : Task)
-        → seat_of_task roster.old.seats (slice_index_or roster.old.tasks place d) ≡ None }
+        → charge_of_task task_table.old.charges (slice_index_or task_table.old.tasks place d)
+        ≡ None }
     requires early { time < 2 ^ 43 }
-    requires narrow { roster.old.cpus ≤ 64 }
-    requires fits { Fits roster.old.cpus change.now }
-    requires sound { All (IsSound time) roster.old.tasks }
-    requires may { (d : Task) → MayMake time change.now (slice_index_or roster.old.tasks place d) }
+    requires narrow { task_table.old.cpus ≤ 64 }
+    requires fits { Fits task_table.old.cpus transition.now }
+    requires sound { All (IsSound time) task_table.old.tasks }
+    requires may { (d : Task) → MayMake time transition.now
+        (slice_index_or task_table.old.tasks place d) }
     requires room { LogHasRoom 3 log.old }
-    ensures cpus { roster.new.cpus ≡ roster.old.cpus }
-    ensures places { roster.new.places ≡ roster.old.places }
-    ensures step { IsTimerStep (task_after time change.now) place roster.old.tasks
-        roster.new.tasks }
-    ensures sound { All (IsSound time) roster.new.tasks }
-    ensures told { (d : Task) → Tells log.old
-        (telling_spec.told_by_change time change.now (slice_index_or roster.old.tasks place d))
+    ensures cpus { task_table.new.cpus ≡ task_table.old.cpus }
+    ensures places { task_table.new.places ≡ task_table.old.places }
+    ensures step { IsTimerStep (task_after time transition.now) place task_table.old.tasks
+        task_table.new.tasks }
+    ensures sound { All (IsSound time) task_table.new.tasks }
+    ensures logged { (d : Task) → HasLogged log.old
+        (transition_log_spec.logged_by_transition time transition.now
+        (slice_index_or task_table.old.tasks place d))
         log.new }
     ensures room { log.old.room ≤ log.new.room + 3 }
 {
-    let before = telling::look(roster.at(place), time, change);
-    roster.turn(place, time, change);
-    let told = telling::seen_behind(time, change, before, roster.at(place));
-    log.push_all(told);
+    let before = transition_log::look(task_table.at(place), time, transition);
+    task_table.apply(place, time, transition);
+    let logged = transition_log::seen_later(time, transition, before, task_table.at(place));
+    log.push_all(logged);
 }
 
-/// Changes the task at a place, and tells the log what that tells.
+/// Changes the task at a place, and logs what happens by it.
 #[inline(always)]
-fn turn(roster: &mut Roster, place: usize, time: u64, change: &Change, log: &mut Log)
-    requires there { place < length roster.old.tasks }
+fn apply(
+    task_table: &mut TaskTable,
+    place: usize,
+    time: u64,
+    transition: &Transition,
+    log: &mut Log,
+)
+    requires there { place < length task_table.old.tasks }
     requires early { time < 2 ^ 43 }
-    requires narrow { roster.old.cpus ≤ 64 }
-    requires fits { Fits roster.old.cpus change.now }
-    requires sound { All (IsSound time) roster.old.tasks }
-    requires may { (d : Task) → MayMake time change.now (slice_index_or roster.old.tasks place d) }
+    requires narrow { task_table.old.cpus ≤ 64 }
+    requires fits { Fits task_table.old.cpus transition.now }
+    requires sound { All (IsSound time) task_table.old.tasks }
+    requires may { (d : Task) → MayMake time transition.now
+        (slice_index_or task_table.old.tasks place d) }
     requires room { LogHasRoom 3 log.old }
-    ensures cpus { roster.new.cpus ≡ roster.old.cpus }
-    ensures places { roster.new.places ≡ roster.old.places }
-    ensures step { IsTimerStep (task_after time change.now) place roster.old.tasks
-        roster.new.tasks }
-    ensures sound { All (IsSound time) roster.new.tasks }
-    ensures told { (d : Task) → Tells log.old
-        (telling_spec.told_by_change time change.now (slice_index_or roster.old.tasks place d))
+    ensures cpus { task_table.new.cpus ≡ task_table.old.cpus }
+    ensures places { task_table.new.places ≡ task_table.old.places }
+    ensures step { IsTimerStep (task_after time transition.now) place task_table.old.tasks
+        task_table.new.tasks }
+    ensures sound { All (IsSound time) task_table.new.tasks }
+    ensures logged { (d : Task) → HasLogged log.old
+        (transition_log_spec.logged_by_transition time transition.now
+        (slice_index_or task_table.old.tasks place d))
         log.new }
     ensures room { log.old.room ≤ log.new.room + 3 }
 {
     if !log.is_wanted() {
-        roster.turn(place, time, change);
+        task_table.apply(place, time, transition);
         return;
     }
     // It is charged what it owes before it is looked at.
-    let cpu = roster.cpu_at(place);
-    roster.leave_free(cpu);
-    let task = roster.at(place);
-    if telling::tells_nothing(task, change) {
-        roster.turn_charged(place, time, change);
+    let cpu = task_table.cpu_at(place);
+    task_table.leave_free(cpu);
+    let task = task_table.at(place);
+    if transition_log::logs_nothing(task, transition) {
+        task_table.apply_charged(place, time, transition);
         return;
     }
-    tell_turn(roster, place, time, change, log);
+    log_applied(task_table, place, time, transition, log);
 }
 
-/// Changes the task of a number, where it is listed, and tells the log.
+/// Changes the task of a number, where it is listed, and logs it.
 #[inline(always)]
-fn turn_number(roster: &mut Roster, number: u32, time: u64, change: &Change, log: &mut Log)
+fn apply_number(
+    task_table: &mut TaskTable,
+    number: u32,
+    time: u64,
+    transition: &Transition,
+    log: &mut Log,
+)
     requires early { time < 2 ^ 43 }
-    requires narrow { roster.old.cpus ≤ 64 }
-    requires fits { Fits roster.old.cpus change.now }
-    requires sound { All (IsSound time) roster.old.tasks }
-    requires may { All (λ t. t.number ≡ number → MayMake time change.now t) roster.old.tasks }
+    requires narrow { task_table.old.cpus ≤ 64 }
+    requires fits { Fits task_table.old.cpus transition.now }
+    requires sound { All (IsSound time) task_table.old.tasks }
+    requires may { All (λ t. t.number ≡ number → MayMake time transition.now t)
+        task_table.old.tasks }
     requires room { LogHasRoom 3 log.old }
-    ensures cpus { roster.new.cpus ≡ roster.old.cpus }
-    ensures places { roster.new.places ≡ roster.old.places }
-    ensures tasks { roster.new.tasks
-        ≡ map (of_number number (task_after time change.now)) roster.old.tasks }
-    ensures sound { All (IsSound time) roster.new.tasks }
-    ensures told { Tells log.old
-        (flat_map (telling_spec.told_of_number number (telling_spec.told_by_change time change.now))
-        roster.old.tasks) log.new }
+    ensures cpus { task_table.new.cpus ≡ task_table.old.cpus }
+    ensures places { task_table.new.places ≡ task_table.old.places }
+    ensures tasks { task_table.new.tasks
+        ≡ map (of_number number (task_after time transition.now)) task_table.old.tasks }
+    ensures sound { All (IsSound time) task_table.new.tasks }
+    ensures logged { HasLogged log.old
+        (flat_map (transition_log_spec.logged_of_number number
+        (transition_log_spec.logged_by_transition time transition.now))
+        task_table.old.tasks) log.new }
     ensures room { log.old.room ≤ log.new.room + 3 }
 {
-    if let Some(place) = roster.place(number) {
-        turn(roster, place, time, change, log);
+    if let Some(place) = task_table.place(number) {
+        apply(task_table, place, time, transition, log);
     }
 }
 
-/// Part 1 or 3 of the task at a place, and the log is told what that tells. Neither changes a task
-/// that sits, so it is looked at as it is stored.
+/// Part 1 or 3 of the task at a place, and the log records what happens by it. Neither changes a
+/// task with an open charge, so it is looked at as it is stored.
 #[inline(never)]
-fn tell_part(roster: &mut Roster, place: usize, time: u64, change: &Change, log: &mut Log)
-    requires there { place < length roster.old.tasks }
+fn log_part(
+    task_table: &mut TaskTable,
+    place: usize,
+    time: u64,
+    transition: &Transition,
+    log: &mut Log,
+)
+    requires there { place < length task_table.old.tasks }
     requires early { time < 2 ^ 43 }
-    requires narrow { roster.old.cpus ≤ 64 }
-    requires fits { Fits roster.old.cpus change.now }
-    requires sound { All (IsSound time) roster.old.tasks }
-    requires may { (d : Task) → MayMake time change.now (slice_index_or roster.old.tasks place d) }
-    requires part { (t : Task) → telling_spec.is_late_in time change.now t ≡ false }
+    requires narrow { task_table.old.cpus ≤ 64 }
+    requires fits { Fits task_table.old.cpus transition.now }
+    requires sound { All (IsSound time) task_table.old.tasks }
+    requires may { (d : Task) → MayMake time transition.now
+        (slice_index_or task_table.old.tasks place d) }
+    requires part { (t : Task) → transition_log_spec.is_late_in time transition.now t ≡ false }
     requires room { LogHasRoom 3 log.old }
-    ensures cpus { roster.new.cpus ≡ roster.old.cpus }
-    ensures places { roster.new.places ≡ roster.old.places }
-    ensures step { IsTimerStep (task_after time change.now) place roster.old.tasks
-        roster.new.tasks }
-    ensures sound { All (IsSound time) roster.new.tasks }
-    ensures told { (d : Task) → Tells log.old
-        (telling_spec.told_by_change time change.now (slice_index_or roster.old.tasks place d))
+    ensures cpus { task_table.new.cpus ≡ task_table.old.cpus }
+    ensures places { task_table.new.places ≡ task_table.old.places }
+    ensures step { IsTimerStep (task_after time transition.now) place task_table.old.tasks
+        task_table.new.tasks }
+    ensures sound { All (IsSound time) task_table.new.tasks }
+    ensures logged { (d : Task) → HasLogged log.old
+        (transition_log_spec.logged_by_transition time transition.now
+        (slice_index_or task_table.old.tasks place d))
         log.new }
     ensures room { log.old.room ≤ log.new.room + 3 }
 {
     let before = Before {
-        condition: roster.condition_at(place),
+        condition: task_table.condition_at(place),
         is_late: false,
     };
-    roster.turn(place, time, change);
-    let told = telling::seen_behind(time, change, before, roster.seen_at(place));
-    log.push_all(told);
+    task_table.apply(place, time, transition);
+    let logged = transition_log::seen_later(time, transition, before, task_table.seen_at(place));
+    log.push_all(logged);
 }
 
-/// Part 1 or 3 of the task at a place. The log is told what that tells.
+/// Part 1 or 3 of the task at a place. The log records what happens by it.
 #[inline(always)]
-fn turn_part(roster: &mut Roster, place: usize, time: u64, change: &Change, log: &mut Log)
-    requires there { place < length roster.old.tasks }
+fn apply_part(
+    task_table: &mut TaskTable,
+    place: usize,
+    time: u64,
+    transition: &Transition,
+    log: &mut Log,
+)
+    requires there { place < length task_table.old.tasks }
     requires early { time < 2 ^ 43 }
-    requires narrow { roster.old.cpus ≤ 64 }
-    requires fits { Fits roster.old.cpus change.now }
-    requires sound { All (IsSound time) roster.old.tasks }
-    requires may { (d : Task) → MayMake time change.now (slice_index_or roster.old.tasks place d) }
-    requires part { (t : Task) → telling_spec.is_late_in time change.now t ≡ false }
+    requires narrow { task_table.old.cpus ≤ 64 }
+    requires fits { Fits task_table.old.cpus transition.now }
+    requires sound { All (IsSound time) task_table.old.tasks }
+    requires may { (d : Task) → MayMake time transition.now
+        (slice_index_or task_table.old.tasks place d) }
+    requires part { (t : Task) → transition_log_spec.is_late_in time transition.now t ≡ false }
     requires room { LogHasRoom 3 log.old }
-    ensures cpus { roster.new.cpus ≡ roster.old.cpus }
-    ensures places { roster.new.places ≡ roster.old.places }
-    ensures step { IsTimerStep (task_after time change.now) place roster.old.tasks
-        roster.new.tasks }
-    ensures sound { All (IsSound time) roster.new.tasks }
-    ensures told { (d : Task) → Tells log.old
-        (telling_spec.told_by_change time change.now (slice_index_or roster.old.tasks place d))
+    ensures cpus { task_table.new.cpus ≡ task_table.old.cpus }
+    ensures places { task_table.new.places ≡ task_table.old.places }
+    ensures step { IsTimerStep (task_after time transition.now) place task_table.old.tasks
+        task_table.new.tasks }
+    ensures sound { All (IsSound time) task_table.new.tasks }
+    ensures logged { (d : Task) → HasLogged log.old
+        (transition_log_spec.logged_by_transition time transition.now
+        (slice_index_or task_table.old.tasks place d))
         log.new }
     ensures room { log.old.room ≤ log.new.room + 3 }
 {
     if !log.is_wanted() {
-        roster.turn(place, time, change);
+        task_table.apply(place, time, transition);
         return;
     }
-    if !telling::may_tell(roster.condition_at(place), time, change) {
-        roster.turn(place, time, change);
+    if !transition_log::may_log(task_table.condition_at(place), time, transition) {
+        task_table.apply(place, time, transition);
         return;
     }
-    tell_part(roster, place, time, change, log);
+    log_part(task_table, place, time, transition, log);
 }
 
-/// Parts 1 to 3 of the task at a place, of which the log is told. Where it goes on then: behind the
+/// Parts 1 to 3 of the task at a place, which the log records. Where it goes on then: after the
 /// task, or there, where that has left.
 #[inline(always)]
-fn wake_at(roster: &mut Roster, place: usize, time: u64, log: &mut Log) -> usize
-    requires there { place < length roster.old.tasks }
+fn wake_at(task_table: &mut TaskTable, place: usize, time: u64, log: &mut Log) -> usize
+    requires there { place < length task_table.old.tasks }
     requires few { place < 256 }
-    requires early { time < 2 ^ 42 }
-    requires narrow { roster.old.cpus ≤ 64 }
-    requires sound { All (IsSound time) roster.old.tasks }
+    requires early { time < clock_end }
+    requires narrow { task_table.old.cpus ≤ 64 }
+    requires sound { All (IsSound time) task_table.old.tasks }
     requires room { LogHasRoom 6 log.old }
-    ensures cpus { roster.new.cpus ≡ roster.old.cpus }
-    ensures places { roster.new.places ≡ roster.old.places }
-    ensures woken { IsWoken time place roster.old.tasks roster.new.tasks result }
-    ensures sound { All (IsSound time) roster.new.tasks }
-    ensures told { (d : Task) → Tells log.old
-        (telling_spec.told_of_task time (slice_index_or roster.old.tasks place d)) log.new }
+    ensures cpus { task_table.new.cpus ≡ task_table.old.cpus }
+    ensures places { task_table.new.places ≡ task_table.old.places }
+    ensures woken { IsWoken time place task_table.old.tasks task_table.new.tasks result }
+    ensures sound { All (IsSound time) task_table.new.tasks }
+    ensures logged { (d : Task) → HasLogged log.old
+        (transition_log_spec.logged_of_task time (slice_index_or task_table.old.tasks place d))
+        log.new }
     ensures room { log.old.room ≤ log.new.room + 6 }
 {
-    turn_part(roster, place, time, &Change::Replenish, log);
-    roster.turn(place, time, &Change::Settle);
-    if let Some(number) = roster.left_at(place) {
-        roster.take_off(number, time);
+    apply_part(task_table, place, time, &Transition::Replenish, log);
+    task_table.apply(place, time, &Transition::Settle);
+    if let Some(number) = task_table.left_at(place) {
+        task_table.take_off(number, time);
         return place;
     }
-    turn_part(roster, place, time, &Change::Unblock, log);
+    apply_part(task_table, place, time, &Transition::Unblock, log);
     place + 1
 }
 
-/// Parts 1 to 3, of which the log is told, in one walk. It goes from one task that is due to the
-/// next.
+/// Parts 1 to 3, which the log records, in one walk. It goes from one task that is due to the next.
 #[inline(always)]
-fn wake_due(roster: &mut Roster, time: u64, log: &mut Log)
-    requires early { time < 2 ^ 42 }
-    requires narrow { roster.old.cpus ≤ 64 }
-    requires sound { All (IsSound time) roster.old.tasks }
-    requires room { LogHasRoom (9 * length roster.old.tasks) log.old }
-    ensures cpus { roster.new.cpus ≡ roster.old.cpus }
-    ensures places { roster.new.places ≡ roster.old.places }
-    ensures tasks { roster.new.tasks ≡ tick_spec.prepared time roster.old.tasks }
-    ensures sound { All (IsSound time) roster.new.tasks }
-    ensures told { Tells log.old
-        (flat_map (telling_spec.told_of_task time) roster.old.tasks) log.new }
-    ensures room { log.old.room ≤ log.new.room + 9 * length roster.old.tasks }
+fn wake_due(task_table: &mut TaskTable, time: u64, log: &mut Log)
+    requires early { time < clock_end }
+    requires narrow { task_table.old.cpus ≤ 64 }
+    requires sound { All (IsSound time) task_table.old.tasks }
+    requires room { LogHasRoom (9 * length task_table.old.tasks) log.old }
+    ensures cpus { task_table.new.cpus ≡ task_table.old.cpus }
+    ensures places { task_table.new.places ≡ task_table.old.places }
+    ensures tasks { task_table.new.tasks ≡ tick_spec.prepared time task_table.old.tasks }
+    ensures sound { All (IsSound time) task_table.new.tasks }
+    ensures logged { HasLogged log.old
+        (flat_map (transition_log_spec.logged_of_task time) task_table.old.tasks) log.new }
+    ensures room { log.old.room ≤ log.new.room + 9 * length task_table.old.tasks }
 {
-    let mut place = roster.next_due(0, time);
-    while place < roster.len() {
-        let next = wake_at(roster, place, time, log);
-        place = roster.next_due(next, time);
+    let mut place = task_table.next_due(0, time);
+    while place < task_table.len() {
+        let next = wake_at(task_table, place, time, log);
+        place = task_table.next_due(next, time);
     }
 }
 
-/// Parts 1 to 3 of the task at a place, of which no log is told. Where it goes on then: behind the
-/// task, or there, where that has left.
+/// Parts 1 to 3 of the task at a place, without a log. Where it goes on then: after the task, or
+/// there, where that has left.
 #[inline(always)]
-fn wake_silently_at(roster: &mut Roster, place: usize, time: u64) -> usize
-    requires there { place < length roster.old.tasks }
+fn wake_silently_at(task_table: &mut TaskTable, place: usize, time: u64) -> usize
+    requires there { place < length task_table.old.tasks }
     requires few { place < 256 }
-    requires early { time < 2 ^ 42 }
-    requires sound { All (IsSound time) roster.old.tasks }
-    ensures cpus { roster.new.cpus ≡ roster.old.cpus }
-    ensures places { roster.new.places ≡ roster.old.places }
-    ensures woken { IsWoken time place roster.old.tasks roster.new.tasks result }
-    ensures sound { All (IsSound time) roster.new.tasks }
+    requires early { time < clock_end }
+    requires sound { All (IsSound time) task_table.old.tasks }
+    ensures cpus { task_table.new.cpus ≡ task_table.old.cpus }
+    ensures places { task_table.new.places ≡ task_table.old.places }
+    ensures woken { IsWoken time place task_table.old.tasks task_table.new.tasks result }
+    ensures sound { All (IsSound time) task_table.new.tasks }
 {
-    roster.turn(place, time, &Change::Replenish);
-    roster.turn(place, time, &Change::Settle);
-    if let Some(number) = roster.left_at(place) {
-        roster.take_off(number, time);
+    task_table.apply(place, time, &Transition::Replenish);
+    task_table.apply(place, time, &Transition::Settle);
+    if let Some(number) = task_table.left_at(place) {
+        task_table.take_off(number, time);
         return place;
     }
-    roster.turn(place, time, &Change::Unblock);
+    task_table.apply(place, time, &Transition::Unblock);
     place + 1
 }
 
-/// Parts 1 to 3, of which no log is told, in one walk. It goes from one task that is due to the
-/// next.
+/// Parts 1 to 3, without a log, in one walk. It goes from one task that is due to the next.
 #[inline(always)]
-fn wake_silently(roster: &mut Roster, time: u64)
-    requires early { time < 2 ^ 42 }
-    requires sound { All (IsSound time) roster.old.tasks }
-    ensures cpus { roster.new.cpus ≡ roster.old.cpus }
-    ensures places { roster.new.places ≡ roster.old.places }
-    ensures tasks { roster.new.tasks ≡ tick_spec.prepared time roster.old.tasks }
-    ensures sound { All (IsSound time) roster.new.tasks }
+fn wake_silently(task_table: &mut TaskTable, time: u64)
+    requires early { time < clock_end }
+    requires sound { All (IsSound time) task_table.old.tasks }
+    ensures cpus { task_table.new.cpus ≡ task_table.old.cpus }
+    ensures places { task_table.new.places ≡ task_table.old.places }
+    ensures tasks { task_table.new.tasks ≡ tick_spec.prepared time task_table.old.tasks }
+    ensures sound { All (IsSound time) task_table.new.tasks }
 {
-    let mut place = roster.next_due(0, time);
-    while place < roster.len() {
-        let next = wake_silently_at(roster, place, time);
-        place = roster.next_due(next, time);
+    let mut place = task_table.next_due(0, time);
+    while place < task_table.len() {
+        let next = wake_silently_at(task_table, place, time);
+        place = task_table.next_due(next, time);
     }
 }
 
-/// Parts 1 to 3, of which the log is told, task by task. Mostly no task is due, and then they have
+/// Parts 1 to 3, which the log records, task by task. Mostly no task is due, and then they have
 /// nothing to do.
 #[inline(always)]
-fn wake_all(roster: &mut Roster, time: u64, log: &mut Log)
-    requires early { time < 2 ^ 42 }
-    requires narrow { roster.old.cpus ≤ 64 }
-    requires sound { All (IsSound time) roster.old.tasks }
-    requires room { LogHasRoom (9 * length roster.old.tasks) log.old }
-    ensures cpus { roster.new.cpus ≡ roster.old.cpus }
-    ensures places { roster.new.places ≡ roster.old.places }
-    ensures tasks { roster.new.tasks ≡ tick_spec.prepared time roster.old.tasks }
-    ensures sound { All (IsSound time) roster.new.tasks }
-    ensures told { Tells log.old
-        (flat_map (telling_spec.told_of_task time) roster.old.tasks) log.new }
-    ensures room { log.old.room ≤ log.new.room + 9 * length roster.old.tasks }
+fn wake_all(task_table: &mut TaskTable, time: u64, log: &mut Log)
+    requires early { time < clock_end }
+    requires narrow { task_table.old.cpus ≤ 64 }
+    requires sound { All (IsSound time) task_table.old.tasks }
+    requires room { LogHasRoom (9 * length task_table.old.tasks) log.old }
+    ensures cpus { task_table.new.cpus ≡ task_table.old.cpus }
+    ensures places { task_table.new.places ≡ task_table.old.places }
+    ensures tasks { task_table.new.tasks ≡ tick_spec.prepared time task_table.old.tasks }
+    ensures sound { All (IsSound time) task_table.new.tasks }
+    ensures logged { HasLogged log.old
+        (flat_map (transition_log_spec.logged_of_task time) task_table.old.tasks) log.new }
+    ensures room { log.old.room ≤ log.new.room + 9 * length task_table.old.tasks }
 {
-    if !roster.may_be_due(time) {
+    if !task_table.may_be_due(time) {
         return;
     }
     if log.is_wanted() {
-        wake_due(roster, time, log);
+        wake_due(task_table, time, log);
     } else {
-        wake_silently(roster, time);
+        wake_silently(task_table, time);
     }
 }
 
 /// Part 5 on a CPU that another one has: a switch is added.
 #[inline(always)]
-fn add_switch(switches: &mut Vec<Switch>, time: u64, roster: &Roster, moved: &Moved)
-    requires early { time < 2 ^ 48 }
+fn add_switch(switches: &mut Vec<Switch>, time: u64, task_table: &TaskTable, moved: &Moved)
+    requires early { time < deadline_end }
     requires narrow { moved.now.cpu < 256 }
     requires room { vec_len switches.old < vec_capacity switches.old }
     ensures switches { switches.new.items ≡ switches.old.items
-        ++ choosing_spec.switch_made time roster.now.tasks roster.now.places moved.now ∷ [] }
+        ++ choosing_spec.switch_made time task_table.now.tasks task_table.now.places moved.now ∷
+        [] }
     ensures len { vec_len switches.new ≡ vec_len switches.old + 1 }
     ensures room { vec_capacity switches.new ≡ vec_capacity switches.old }
 {
-    let next = roster.occupant(moved.cpu);
-    let state = roster.state_of(moved.before);
+    let next = task_table.occupant(moved.cpu);
+    let state = task_table.state_of(moved.before);
     switches.push_reserved(switch_of(time, *moved, next, state));
 }
 
 /// Part 5: there is a switch for each CPU that the last choice gave to another one.
 #[inline(always)]
-fn add_switches(switches: &mut Vec<Switch>, time: u64, roster: &Roster)
-    requires early { time < 2 ^ 48 }
-    requires narrow { choosing_spec.AreWithin 64 roster.now.moves }
-    requires room { vec_len switches.old + length roster.now.moves ≤ vec_capacity switches.old }
+fn add_switches(switches: &mut Vec<Switch>, time: u64, task_table: &TaskTable)
+    requires early { time < deadline_end }
+    requires narrow { choosing_spec.AreWithin 64 task_table.now.moves }
+    requires room { vec_len switches.old + length task_table.now.moves ≤ vec_capacity switches.old }
     ensures switches { switches.new.items ≡ switches.old.items
-        ++ map (choosing_spec.switch_made time roster.now.tasks roster.now.places)
-        roster.now.moves }
+        ++ map (choosing_spec.switch_made time task_table.now.tasks task_table.now.places)
+        task_table.now.moves }
     ensures room { vec_capacity switches.new ≡ vec_capacity switches.old }
 {
-    let moves = roster.moves();
+    let moves = task_table.moves();
     for i in 0..moves.len() {
-        add_switch(switches, time, roster, &moves[i]);
+        add_switch(switches, time, task_table, &moves[i]);
     }
 }
 
-/// Parts 1 to 5: replenishment, zero-lag times, wake-ups, placement and the switches. The log is
-/// told what happens to the tasks, on the CPUs to which they belong then. Whether a CPU may have
+/// Parts 1 to 5: replenishment, zero-lag times, wake-ups, placement and the switches. The log
+/// records what happens to the tasks, on the CPUs to which they belong then. Whether a CPU may have
 /// another occupant.
 #[inline(always)]
 pub(crate) fn begin(
     time: u64,
-    roster: &mut Roster,
+    task_table: &mut TaskTable,
     switches: &mut Vec<Switch>,
     log: &mut Log,
 ) -> bool
-    requires narrow { roster.old.cpus ≤ 64 }
-    requires log { LogHasRoom (9 * length roster.old.tasks) log.old }
-    requires early { time < 2 ^ 42 }
-    requires sound { All (IsSound time) roster.old.tasks }
-    requires cpus { length roster.old.places ≡ roster.old.cpus }
-    requires apart { HasNoTaskTwice roster.old.places }
-    requires numbered { AllPairs (λ a b. a.number ≢ b.number) roster.old.tasks }
-    requires room { vec_len switches.old + length roster.old.places ≤ vec_capacity switches.old }
-    ensures cpus { roster.new.cpus ≡ roster.old.cpus }
-    ensures tasks { roster.new.tasks
-        ≡ map (parts_spec.with_last_cpu roster.new.places)
-        (tick_spec.prepared time roster.old.tasks) }
-    ensures prepared { All (IsSound time) (tick_spec.prepared time roster.old.tasks) }
-    ensures places { roster.new.places ≡ places_spec.placed (length roster.old.places)
-        (tick_spec.candidates (tick_spec.prepared time roster.old.tasks)) roster.old.places }
+    requires narrow { task_table.old.cpus ≤ 64 }
+    requires log { LogHasRoom (9 * length task_table.old.tasks) log.old }
+    requires early { time < clock_end }
+    requires sound { All (IsSound time) task_table.old.tasks }
+    requires cpus { length task_table.old.places ≡ task_table.old.cpus }
+    requires apart { HasNoTaskTwice task_table.old.places }
+    requires numbered { AllPairs (λ a b. a.number ≢ b.number) task_table.old.tasks }
+    requires room { vec_len switches.old + length task_table.old.places
+        ≤ vec_capacity switches.old }
+    ensures cpus { task_table.new.cpus ≡ task_table.old.cpus }
+    ensures tasks { task_table.new.tasks
+        ≡ map (parts_spec.with_last_cpu task_table.new.places)
+        (tick_spec.prepared time task_table.old.tasks) }
+    ensures prepared { All (IsSound time) (tick_spec.prepared time task_table.old.tasks) }
+    ensures places { task_table.new.places ≡ places_spec.placed (length task_table.old.places)
+        (tick_spec.candidates (tick_spec.prepared time task_table.old.tasks))
+        task_table.old.places }
     ensures switches { switches.new.items ≡ switches.old.items
         ++ switches_spec.switches_from time
-        (tick_spec.prepared time roster.old.tasks) 0 roster.old.places roster.new.places }
+        (tick_spec.prepared time task_table.old.tasks) 0 task_table.old.places
+        task_table.new.places }
     ensures room { vec_capacity switches.new ≡ vec_capacity switches.old }
-    ensures none { result ≡ false → roster.new.places ≡ roster.old.places }
-    ensures told { Tells log.old (telling_spec.told_at_home roster.new.places time roster.old.tasks)
+    ensures none { result ≡ false → task_table.new.places ≡ task_table.old.places }
+    ensures logged { HasLogged log.old (transition_log_spec.logged_at_home task_table.new.places
+        time task_table.old.tasks)
         log.new }
-    ensures log { log.old.room ≤ log.new.room + 9 * length roster.old.tasks }
+    ensures log { log.old.room ≤ log.new.room + 9 * length task_table.old.tasks }
 {
     let from = log.len();
-    wake_all(roster, time, log);
-    roster.choose();
-    add_switches(switches, time, roster);
-    log.go_home(from, roster.occupants(), roster);
-    !roster.moves().is_empty()
+    wake_all(task_table, time, log);
+    task_table.choose();
+    add_switches(switches, time, task_table);
+    log.go_home(from, task_table.occupants(), task_table);
+    !task_table.moves().is_empty()
 }
 
-/// As `begin`: who starts on a CPU sits there at once.
+/// As `begin`: who starts on a CPU gets an open charge at once.
 #[inline(always)]
-pub(crate) fn begin_seated(
+pub(crate) fn begin_charging(
     time: u64,
     limit: u64,
-    roster: &mut Roster,
+    task_table: &mut TaskTable,
     switches: &mut Vec<Switch>,
     log: &mut Log,
 ) -> bool
-    requires narrow { (0 < roster.old.cpus) × (roster.old.cpus ≤ 64) }
-    requires log { LogHasRoom (9 * length roster.old.tasks) log.old }
-    requires numbered { AllPairs (λ a b. a.number ≢ b.number) roster.old.tasks }
+    requires narrow { (0 < task_table.old.cpus) × (task_table.old.cpus ≤ 64) }
+    requires log { LogHasRoom (9 * length task_table.old.tasks) log.old }
+    requires numbered { AllPairs (λ a b. a.number ≢ b.number) task_table.old.tasks }
     requires limit { IsLimit limit }
-    requires within { tick_spec.sum_of (tick_spec.prepared time roster.old.tasks)
-        ≤ cap roster.old.cpus limit }
-    requires early { time < 2 ^ 42 }
-    requires sound { All (IsSound time) roster.old.tasks }
-    requires cpus { length roster.old.places ≡ roster.old.cpus }
-    requires apart { HasNoTaskTwice roster.old.places }
-    requires room { vec_len switches.old + length roster.old.places ≤ vec_capacity switches.old }
-    ensures cpus { roster.new.cpus ≡ roster.old.cpus }
-    ensures tasks { roster.new.tasks
-        ≡ map (parts_spec.with_last_cpu roster.new.places)
-        (tick_spec.prepared time roster.old.tasks) }
-    ensures prepared { All (IsSound time) (tick_spec.prepared time roster.old.tasks) }
-    ensures places { roster.new.places ≡ places_spec.placed (length roster.old.places)
-        (tick_spec.candidates (tick_spec.prepared time roster.old.tasks)) roster.old.places }
+    requires within { tick_spec.sum_of (tick_spec.prepared time task_table.old.tasks)
+        ≤ cap task_table.old.cpus limit }
+    requires early { time < clock_end }
+    requires sound { All (IsSound time) task_table.old.tasks }
+    requires cpus { length task_table.old.places ≡ task_table.old.cpus }
+    requires apart { HasNoTaskTwice task_table.old.places }
+    requires room { vec_len switches.old + length task_table.old.places
+        ≤ vec_capacity switches.old }
+    ensures cpus { task_table.new.cpus ≡ task_table.old.cpus }
+    ensures tasks { task_table.new.tasks
+        ≡ map (parts_spec.with_last_cpu task_table.new.places)
+        (tick_spec.prepared time task_table.old.tasks) }
+    ensures prepared { All (IsSound time) (tick_spec.prepared time task_table.old.tasks) }
+    ensures places { task_table.new.places ≡ places_spec.placed (length task_table.old.places)
+        (tick_spec.candidates (tick_spec.prepared time task_table.old.tasks))
+        task_table.old.places }
     ensures switches { switches.new.items ≡ switches.old.items
         ++ switches_spec.switches_from time
-        (tick_spec.prepared time roster.old.tasks) 0 roster.old.places roster.new.places }
+        (tick_spec.prepared time task_table.old.tasks) 0 task_table.old.places
+        task_table.new.places }
     ensures room { vec_capacity switches.new ≡ vec_capacity switches.old }
-    ensures none { result ≡ false → roster.new.places ≡ roster.old.places }
-    ensures told { Tells log.old (telling_spec.told_at_home roster.new.places time roster.old.tasks)
+    ensures none { result ≡ false → task_table.new.places ≡ task_table.old.places }
+    ensures logged { HasLogged log.old (transition_log_spec.logged_at_home task_table.new.places
+        time task_table.old.tasks)
         log.new }
-    ensures log { log.old.room ≤ log.new.room + 9 * length roster.old.tasks }
+    ensures log { log.old.room ≤ log.new.room + 9 * length task_table.old.tasks }
 {
     let from = log.len();
-    wake_all(roster, time, log);
-    roster.choose_seated(Moment { time, limit }, switches);
-    log.go_home(from, roster.occupants(), roster);
-    let is_same = roster.moves().is_empty();
+    wake_all(task_table, time, log);
+    task_table.choose_charging(Moment { time, limit }, switches);
+    log.go_home(from, task_table.occupants(), task_table);
+    let is_same = task_table.moves().is_empty();
     !is_same
 }
 
 /// Part 6 of so many ticks at once, up to a time: every running task has its budget, and its work
-/// has fallen. The log is told what happens to them.
+/// has fallen. The log records what happens to them.
 pub(crate) fn pay_all(
-    roster: &mut Roster,
+    task_table: &mut TaskTable,
     running: &[u32],
     budgets: &[i128],
     ticks: u64,
@@ -424,25 +474,32 @@ pub(crate) fn pay_all(
     log: &mut Log,
 )
     requires early { time < 2 ^ 43 }
-    requires narrow { roster.old.cpus ≤ 64 }
-    requires numbered { AllPairs (λ a b. a.number ≢ b.number) roster.old.tasks }
+    requires narrow { task_table.old.cpus ≤ 64 }
+    requires numbered { AllPairs (λ a b. a.number ≢ b.number) task_table.old.tasks }
     requires apart { AllPairs (λ m n. m ≢ n) running.now }
     requires many { length budgets.now ≡ length running.now }
-    requires sound { All (IsSound time) roster.old.tasks }
-    requires may { All (MayPayIf running.now ticks budgets.now) roster.old.tasks }
+    requires sound { All (IsSound time) task_table.old.tasks }
+    requires may { All (MayPayIf running.now ticks budgets.now) task_table.old.tasks }
     requires room { LogHasRoom (3 * length running.now) log.old }
-    ensures cpus { roster.new.cpus ≡ roster.old.cpus }
-    ensures places { roster.new.places ≡ roster.old.places }
-    ensures tasks { roster.new.tasks
-        ≡ map (paid time running.now ticks budgets.now) roster.old.tasks }
-    ensures sound { All (IsSound time) roster.new.tasks }
-    ensures told { Tells log.old (telling_spec.told_in_pay time running.now ticks budgets.now
-        roster.old.tasks) log.new }
+    ensures cpus { task_table.new.cpus ≡ task_table.old.cpus }
+    ensures places { task_table.new.places ≡ task_table.old.places }
+    ensures tasks { task_table.new.tasks
+        ≡ map (paid time running.now ticks budgets.now) task_table.old.tasks }
+    ensures sound { All (IsSound time) task_table.new.tasks }
+    ensures logged { HasLogged log.old (transition_log_spec.logged_in_pay time running.now ticks
+        budgets.now
+        task_table.old.tasks) log.new }
 {
     let from = log.len();
     for i in 0..running.len() {
         let left = budgets[i];
-        turn_number(roster, running[i], time, &Change::Run { ticks, left }, log);
+        apply_number(
+            task_table,
+            running[i],
+            time,
+            &Transition::Run { ticks, left },
+            log,
+        );
     }
     log.put_in_order(from);
 }

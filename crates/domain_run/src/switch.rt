@@ -4,6 +4,7 @@ ghost use Rattle.std.specs.Prelude.{◌≡◌, ◌+◌, ◌<◌, ◌^◌};
 ghost use Rattle.domain_run.specs.Later.{later_switch};
 ghost use Rattle.domain_run.specs.Switch.{IsLeftIn};
 ghost use Rattle.domain_run.specs.private.Packed as packed;
+ghost use Rattle.limits.specs.Limits.{deadline_end};
 
 use edf_pick::Moved;
 use std::marker::Model;
@@ -55,7 +56,7 @@ fn handover_of(state: PrevState, next: Option<u32>) -> Handover
 }
 
 /// One switch of a CPU from one occupant to another (the event sched_switch), in 16 bytes.
-/// Contracts see it as what its calls tell.
+/// Contracts see it as what its calls log.
 #[derive(Clone, Copy)]
 pub struct Switch {
     // The lower 32 bits of the time; `high` has the 16 above them.
@@ -116,7 +117,7 @@ impl Switch {
         cpu: u16,
         state: PrevState,
     ) -> Switch
-        requires early { time < 2 ^ 48 }
+        requires early { time < deadline_end }
         requires narrow { cpu < 256 }
         requires left { IsLeftIn state prev }
         ensures { result ≡ record {
@@ -148,7 +149,7 @@ impl Switch {
     /// The same switch `micros` microseconds later, below 2^48.
     #[inline(always)]
     pub fn later(&self, micros: u64) -> Switch
-        requires { self.now.time + micros < 2 ^ 48 }
+        requires { self.now.time + micros < deadline_end }
         ensures { result ≡ later_switch micros self.now }
     {
         let time = self.time() + micros;
@@ -222,7 +223,7 @@ impl Switch {
 /// Part 5: the switch of a CPU that another one has.
 #[inline(always)]
 pub(crate) fn switch_of(time: u64, moved: Moved, next: Option<u32>, state: PrevState) -> Switch
-    requires early { time < 2 ^ 48 }
+    requires early { time < deadline_end }
     requires narrow { moved.cpu < 256 }
     requires left { IsLeftIn state moved.before }
     ensures { result ≡ record {

@@ -63,8 +63,8 @@ impl Condition {
     }
 }
 
-/// A task of a domain. What an event reads stands in front, in few lines of the cache; the name,
-/// which none reads, at the end.
+/// A task of a domain. What an event reads comes first, in few lines of the cache; the name, which
+/// none reads, at the end.
 #[derive(Drop)]
 pub struct Task {
     /// 1 to 65535.

@@ -45,7 +45,7 @@ fn an_advance_stops_where_the_buffer_is_full(rt: HostRuntime) -> Result<(), Fail
 /// A buffer is filled after the switches that wait. Where the first of them are forgotten, the
 /// others stay, and there is room for as many more.
 #[test]
-fn a_buffer_is_filled_behind_what_waits(rt: HostRuntime) -> Result<(), Fail> {
+fn a_buffer_is_filled_after_what_waits(rt: HostRuntime) -> Result<(), Fail> {
     let tasks = [forever((2, 8, 8), &[Event::Run(1), Event::Sleep(3)])];
     let mut ticked = admitted(rt.alloc(), 1, &tasks)?;
     single_ticks(&mut ticked[0], 10000)?;

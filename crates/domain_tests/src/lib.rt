@@ -5,7 +5,7 @@
 #[cfg(test)]
 mod buffered;
 #[cfg(test)]
-mod logged;
+mod logged_run;
 #[cfg(test)]
 mod of_domain;
 #[cfg(test)]

@@ -4,7 +4,7 @@ ghost use Rattle.std.specs.Prelude.{◌<◌, All, IfOk};
 ghost use Rattle.tick_split.specs.Planning.{IsPlannable};
 ghost use Rattle.tick_split.specs.Charging.{IsChargeable};
 
-use crate::seen::{InOrder, Tally, Told};
+use crate::seen::{InOrder, Logged, Tally};
 use attr_check::{AttrRefusal, SchedAttr, check};
 use jump_run::Silent;
 use std::alloc::{AllocError, Global};
@@ -101,7 +101,7 @@ fn plans_in_order<R: Threads + Wait + Clock + Sync>(
     let mut all = plans()?;
     let order = InOrder::new(rt, first);
     plan_all(rt, alloc, &mut all, 2, &order)?;
-    let (_, _, late) = order.told();
+    let (_, _, late) = order.logged();
     Ok(!late)
 }
 
@@ -114,7 +114,7 @@ fn charges_in_order<R: Threads + Wait + Clock + Sync>(
     let mut all = slices();
     let order = InOrder::new(rt, first);
     charge_all(rt, alloc, &mut all, 2, &order)?;
-    let (_, _, late) = order.told();
+    let (_, _, late) = order.logged();
     Ok(!late)
 }
 
@@ -135,13 +135,13 @@ fn turns_of<R: Threads + Wait>(
     host: HostRuntime,
     all: &mut [Slice],
     workers: usize,
-) -> Result<Told, StartFault>
+) -> Result<Logged, StartFault>
     requires some { 0 < workers }
     requires all { All IsChargeable all.old }
 {
     let tally = Tally::new(host);
     charge_all(rt, host.alloc(), all, workers, &tally)?;
-    Ok(tally.told())
+    Ok(tally.logged())
 }
 
 // What is told of the turns when these plans are made by so many workers.
@@ -150,13 +150,13 @@ fn turns_of_plans<R: Threads + Wait>(
     host: HostRuntime,
     all: &mut [Plan],
     workers: usize,
-) -> Result<Told, StartFault>
+) -> Result<Logged, StartFault>
     requires some { 0 < workers }
     requires all { All IsPlannable all.old }
 {
     let tally = Tally::new(host);
     plan_all(rt, host.alloc(), all, workers, &tally)?;
-    Ok(tally.told())
+    Ok(tally.logged())
 }
 
 // The turns of three slices and of three plans, where so many workers are asked for.
@@ -164,7 +164,7 @@ fn turns_of_three<R: Threads + Wait>(
     rt: &R,
     host: HostRuntime,
     workers: usize,
-) -> Result<[Told; 2], Fail>
+) -> Result<[Logged; 2], Fail>
     requires { 0 < workers }
 {
     let charged = turns_of(rt, host, &mut slices(), workers)?;
@@ -176,7 +176,7 @@ fn turns_of_eight<R: Threads + Wait>(
     rt: &R,
     host: HostRuntime,
     workers: usize,
-) -> Result<[Told; 2], Fail>
+) -> Result<[Logged; 2], Fail>
     requires { 0 < workers }
 {
     let charged = turns_of(rt, host, &mut eight_slices(), workers)?;

@@ -53,7 +53,7 @@ impl<C: Clock> InOrder<C> {
     }
 
     /// How often the other piece was begun and the first one ended, and whether one was late.
-    pub(crate) fn told(&self) -> (usize, usize, bool) {
+    pub(crate) fn logged(&self) -> (usize, usize, bool) {
         let begun = self.begun.load(Ordering::SeqCst);
         let ended = self.ended.load(Ordering::SeqCst);
         (begun, ended, self.late.load(Ordering::SeqCst))
@@ -96,14 +96,14 @@ pub(crate) struct Tally {
 /// the lowest for piece 0; all turns in their order, the last one in the lowest digit, 1 where a
 /// piece begins, 2 where it ends; and how many were taken in another thread than the caller's.
 #[derive(Clone, Copy)]
-pub(crate) struct Told {
+pub(crate) struct Logged {
     pub(crate) begun: usize,
     pub(crate) ended: usize,
     pub(crate) order: usize,
     pub(crate) elsewhere: usize,
 }
 
-impl Told {
+impl Logged {
     /// Whether each piece was begun and ended so often, and so many turns were taken elsewhere.
     pub(crate) fn is(&self, each: usize, elsewhere: usize) -> bool {
         self.begun == each && self.ended == each && self.elsewhere == elsewhere
@@ -146,8 +146,8 @@ impl Tally {
         }
     }
 
-    pub(crate) fn told(&self) -> Told {
-        Told {
+    pub(crate) fn logged(&self) -> Logged {
+        Logged {
             begun: self.begun.load(Ordering::SeqCst),
             ended: self.ended.load(Ordering::SeqCst),
             order: self.order.load(Ordering::SeqCst),

@@ -8,3 +8,7 @@ right width text = replicate (width - length text) 32 ++ text
 -- a column behind others: a space, and a text at its right
 abbrev pub column : ℕ → List ℕ → List ℕ
 column width text = 32 ∷ right width text
+
+-- a number at the right of zeros
+abbrev pub zeros_right : ℕ → List ℕ → List ℕ
+zeros_right width digits = replicate (width - length digits) 48 ++ digits

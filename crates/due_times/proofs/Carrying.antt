@@ -1,11 +1,10 @@
--- A time of a tournament that is carried up.
+-- A time of a timer tree that is carried up.
 use Rattle.std.proofs.Common.{◌≡◌, ◌≢◌, ℕ, zero, suc, ◌+◌, ◌-◌, ◌*◌, ◌/◌, ◌^◌, ◌<◌, ◌≤◌, min, List, length, get_or, set, drop, sym, ap, subst, refl, ◌∙◌, arith, inl, inr}
 use Rattle.std.specs.Int.Bits.{bit_xor, xor_zero_r}
 use Rattle.std.proofs.lemmas.Bool.{cases_eq}
 use Rattle.std.proofs.lemmas.List.{length-set, length-drop, drop-set-add, get_or-set_same, get_or-set_other}
 use Rattle.std.proofs.lemmas.Nat.{xor_block, xor_lt}
-use Rattle.due_times.specs.Timers.{IsSize}
-use Rattle.due_times.specs.private.Tournament.{IsTournamentTree, IsTreeBut, least_below, leaves}
+use Rattle.due_times.specs.private.TimerTree.{IsTimerTreeOf, IsTreeBut, least_below, leaves}
 
 -- within a group of four
 beside : (at q r s : ℕ) → at ≡ 4 * q + r → r < 4 → s < 4 → bit_xor at s ≡ 4 * q + bit_xor r s
@@ -52,7 +51,7 @@ kept nodes at i time other =
     cc (a, b, c, d)
 
 -- a leaf is another, so the node above it may not be right
-pub leaf_changed : (nodes : List ℕ) (at time : ℕ) → IsTournamentTree nodes → length nodes / 2 ≤ at → IsTreeBut (at / 4) (set nodes at time)
+pub leaf_changed : (nodes : List ℕ) (at time : ℕ) → IsTimerTreeOf nodes → length nodes / 2 ≤ at → IsTreeBut (at / 4) (set nodes at time)
 leaf_changed nodes at time is from =
     let long = length-set nodes at time in
     record {
@@ -83,7 +82,7 @@ carried nodes at least is inner there e =
     }
 
 -- where it was right already, each node is
-pub right_already : (nodes : List ℕ) (at : ℕ) → IsTreeBut at nodes → get_or nodes at 0 ≡ least_below nodes at → IsTournamentTree nodes
+pub right_already : (nodes : List ℕ) (at : ℕ) → IsTreeBut at nodes → get_or nodes at 0 ≡ least_below nodes at → IsTimerTreeOf nodes
 right_already nodes at is e = record {
   fours = is.fours;
   each = λ i one within other.
@@ -93,39 +92,10 @@ right_already nodes at is e = record {
       ];
 }
 
-pub leaf_within : (nodes : List ℕ) (leaf : ℕ) → IsTournamentTree nodes → leaf < length (leaves nodes) → leaf < length nodes / 2
+pub leaf_within : (nodes : List ℕ) (leaf : ℕ) → IsTimerTreeOf nodes → leaf < length (leaves nodes) → leaf < length nodes / 2
 leaf_within nodes leaf is h = omega (arith, h, is.fours, length-drop (length nodes / 2) nodes)
 
 pub leaves_set : (nodes : List ℕ) (half leaf time : ℕ) → half ≡ length nodes / 2 → leaves (set nodes (half + leaf) time) ≡ set (leaves nodes) leaf time
 leaves_set nodes half leaf time e =
     ap (λ n. drop (n / 2) (set nodes (half + leaf) time)) (length-set nodes (half + leaf) time)
     ∙ ap (λ n. drop (length nodes / 2) (set nodes (n + leaf) time)) e ∙ drop-set-add (length nodes / 2) nodes leaf time
-
--- the node that may not be right goes up by two levels, or is past the root
-pub tree_above : (nodes : List ℕ) (at : ℕ) → IsTreeBut (at / 16) nodes → IsTreeBut (at / 4 / 4) nodes
-tree_above nodes at is = subst (λ (k : ℕ). IsTreeBut k nodes) (omega arith) is
-
-pub tree_whole : (nodes : List ℕ) (at : ℕ) → at < 16 → IsTreeBut (at / 16) nodes → IsTournamentTree nodes
-tree_whole nodes at low is = subst (λ (k : ℕ). IsTreeBut k nodes) (omega (arith, low)) is
-
--- how many leaves there are, and the first node of a level
-pub low_16 : (half at : ℕ) → IsSize half → half ≤ at → half ≤ 4 * (at / 4)
-low_16 half at (inl e) h = omega (arith, e, h)
-low_16 half at (inr (inl e)) h = omega (arith, e, h)
-low_16 half at (inr (inr (inl e))) h = omega (arith, e, h)
-low_16 half at (inr (inr (inr (inl e)))) h = omega (arith, e, h)
-low_16 half at (inr (inr (inr (inr e)))) h = omega (arith, e, h)
-
-pub low_64 : (half at : ℕ) → IsSize half → 16 ≤ half → half ≤ 4 * at → half ≤ 16 * (at / 4)
-low_64 half at (inl e) wide h = absurd (omega (arith, e, wide))
-low_64 half at (inr (inl e)) wide h = omega (arith, e, h)
-low_64 half at (inr (inr (inl e))) wide h = omega (arith, e, h)
-low_64 half at (inr (inr (inr (inl e)))) wide h = omega (arith, e, h)
-low_64 half at (inr (inr (inr (inr e)))) wide h = omega (arith, e, h)
-
-pub low_256 : (half at : ℕ) → IsSize half → 64 ≤ half → half ≤ 16 * at → half ≤ 64 * (at / 4)
-low_256 half at (inl e) wide h = absurd (omega (arith, e, wide))
-low_256 half at (inr (inl e)) wide h = absurd (omega (arith, e, wide))
-low_256 half at (inr (inr (inl e))) wide h = omega (arith, e, h)
-low_256 half at (inr (inr (inr (inl e)))) wide h = omega (arith, e, h)
-low_256 half at (inr (inr (inr (inr e)))) wide h = omega (arith, e, h)

@@ -1,9 +1,9 @@
--- From a node of a tournament up, over all nodes below it.
+-- From a node of a timer tree up, over all nodes below it.
 use Rattle.std.proofs.Common.{◌≡◌, ℕ, zero, suc, ◌+◌, ◌*◌, ◌/◌, ◌^◌, ◌<◌, ◌≤◌, List, length, get_or, sym, ap, ◌∙◌, arith, subst, inl, inr}
 use Rattle.std.proofs.lemmas.Grind.{pow_more}
 use Rattle.std.proofs.lemmas.Nat.{mul-le}
 use Rattle.std.proofs.lemmas.Bool.{cases_lt}
-use Rattle.due_times.specs.private.Tournament.{IsLeast, IsTournamentTree}
+use Rattle.due_times.specs.private.TimerTree.{IsLeast, IsTimerTreeOf}
 
 -- a node is not after any of those that are so many wide below it
 pub record Covers (nodes : List ℕ) (at span : ℕ) : Type 0 where
@@ -18,14 +18,14 @@ some_span : (b span : ℕ) → b * (span * 4) < (b + 1) * (span * 4) → 1 ≤ s
 some_span b zero h = absurd (omega (arith, h))
 some_span b (suc n) h = omega arith
 
-inner : (nodes : List ℕ) (b span q : ℕ) → IsTournamentTree nodes → b * (span * 4) ≤ q → q < (b + 1) * (span * 4) → q < length nodes → b < length nodes / 4
+inner : (nodes : List ℕ) (b span q : ℕ) → IsTimerTreeOf nodes → b * (span * 4) ≤ q → q < (b + 1) * (span * 4) → q < length nodes → b < length nodes / 4
 inner nodes b span q is low high within =
     let some = some_span b span (omega (arith, low, high)) in
     let wide = mul-le (4 * b) 1 (4 * b) span (omega arith) some in
     omega (arith, low, wide, within, is.fours)
 
 -- what is below a node is below one of its four
-pub covers_fours : (nodes : List ℕ) (span : ℕ) → IsTournamentTree nodes → ((b : ℕ) → 1 ≤ b → Covers nodes b span) → (b : ℕ) → 1 ≤ b → Covers nodes b (span * 4)
+pub covers_fours : (nodes : List ℕ) (span : ℕ) → IsTimerTreeOf nodes → ((b : ℕ) → 1 ≤ b → Covers nodes b span) → (b : ℕ) → 1 ≤ b → Covers nodes b (span * 4)
 covers_fours nodes span is covers b one = record {
   each = λ q low high within.
       let here : IsLeast nodes b = is.each b one (inner nodes b span q is low high within) (λ z. absurd (omega (arith, z, one))) in
@@ -59,7 +59,7 @@ some_wide (suc k) =
     let wide : 4 ^ suc k ≡ 4 ^ k * 4 = ap (λ n. 4 ^ n) more ∙ four_times k in
     omega (arith, wide, some_wide k)
 
-pub covers_pow : (nodes : List ℕ) → IsTournamentTree nodes → (k b : ℕ) → 1 ≤ b → Covers nodes b (4 ^ k)
+pub covers_pow : (nodes : List ℕ) → IsTimerTreeOf nodes → (k b : ℕ) → 1 ≤ b → Covers nodes b (4 ^ k)
 covers_pow nodes is zero b one = covers_one nodes b
 covers_pow nodes is (suc k) b one =
     let more : k + 1 ≡ suc k = omega arith in
@@ -92,7 +92,7 @@ down_high high at next s h upto =
     let less = mul-le (next + 1) s (4 * at + 4) s (omega (arith, upto)) (omega arith) in
     omega (arith, h, less)
 
-pub down_inner : (nodes : List ℕ) (at s : ℕ) → 1 ≤ s → IsTournamentTree nodes → (at + 1) * (s * 4) ≤ length nodes → at < length nodes / 4
+pub down_inner : (nodes : List ℕ) (at s : ℕ) → 1 ≤ s → IsTimerTreeOf nodes → (at + 1) * (s * 4) ≤ length nodes → at < length nodes / 4
 down_inner nodes at s some is high =
     let most = mul-le (4 * at + 4) 1 (4 * at + 4) s (omega arith) some in
     omega (arith, most, high, is.fours)

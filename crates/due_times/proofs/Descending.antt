@@ -1,13 +1,13 @@
--- From the root of a tournament down to the first leaf that has come.
-use Rattle.std.proofs.Common.{◌≡◌, ℕ, ◌+◌, ◌*◌, ◌/◌, ◌^◌, ◌-◌, ◌<◌, ◌≤◌, List, length, get_or, sym, ap, subst, ◌∙◌, arith, inl, inr}
+-- From the root of a timer tree down to the first leaf that has come.
+use Rattle.std.proofs.Common.{◌≡◌, ℕ, zero, suc, ◌+◌, ◌*◌, ◌/◌, ◌^◌, ◌-◌, ◌<◌, ◌≤◌, List, length, get_or, sym, ap, subst, ◌∙◌, arith, inl, inr}
 use Rattle.std.proofs.lemmas.Bool.{cases_lt}
 use Rattle.std.proofs.lemmas.List.{length-drop, get_or-drop}
 use Rattle.due_times.specs.Timers.{least, AreLater, IsSize}
-use Rattle.due_times.specs.private.Tournament.{IsLeast, IsTournamentTree, AreAhead, ArePassed, IsOnWay, leaves}
+use Rattle.due_times.specs.private.TimerTree.{IsLeast, IsTimerTreeOf, AreAhead, ArePassed, IsOnWay, leaves}
 use Rattle.due_times.proofs.Rooted.{rooted}
 use Rattle.due_times.proofs.Climbing.{Covers, covers_pow, four_times, some_wide, down_low, down_high, down_inner}
 
--- behind those of one more node that has not come
+-- after those of one more node that has not come
 ahead_more : (nodes : List ℕ) (time low b s : ℕ) → Covers nodes b s → time < get_or nodes b 0 → AreAhead nodes time low (b * s) → AreAhead nodes time low ((b + 1) * s)
 ahead_more nodes time low b s covers later ahead node above before within =
     elim (cases_lt node (b * s)) [
@@ -17,8 +17,8 @@ ahead_more nodes time low b s covers later ahead node above before within =
           omega (arith, covered, later)
     ]
 
-module _ (nodes : List ℕ) (time at n k : ℕ) (is : IsTournamentTree nodes) (one : 1 ≤ at) (passed : ArePassed (get_or nodes (4 * at) 0) (get_or nodes (4 * at + 1) 0) (get_or nodes (4 * at + 2) 0) time n) where
-  -- as many of the four as have not come lie behind
+module _ (nodes : List ℕ) (time at n k : ℕ) (is : IsTimerTreeOf nodes) (one : 1 ≤ at) (passed : ArePassed (get_or nodes (4 * at) 0) (get_or nodes (4 * at + 1) 0) (get_or nodes (4 * at + 2) 0) time n) where
+  -- as many of the four as have not come lie after
   down_ahead : (low : ℕ) → AreAhead nodes time low (at * (4 ^ k * 4)) → AreAhead nodes time low ((4 * at + n) * 4 ^ k)
   down_ahead low ahead =
       let s = 4 ^ k in
@@ -55,7 +55,7 @@ module _ (nodes : List ℕ) (time at n k : ℕ) (is : IsTournamentTree nodes) (o
       ]
 
 -- from a node on the way to that of the four below it which is chosen
-pub way_down : (nodes : List ℕ) (time at n k : ℕ) → IsTournamentTree nodes → ArePassed (get_or nodes (4 * at) 0) (get_or nodes (4 * at + 1) 0) (get_or nodes (4 * at + 2) 0) time n → IsOnWay nodes time at (4 ^ (k + 1)) → IsOnWay nodes time (4 * at + n) (4 ^ k)
+pub way_down : (nodes : List ℕ) (time at n k : ℕ) → IsTimerTreeOf nodes → ArePassed (get_or nodes (4 * at) 0) (get_or nodes (4 * at + 1) 0) (get_or nodes (4 * at + 2) 0) time n → IsOnWay nodes time at (4 ^ (k + 1)) → IsOnWay nodes time (4 * at + n) (4 ^ k)
 way_down nodes time at n k is passed way =
     let wide = four_times k in
     let high : (at + 1) * (4 ^ k * 4) ≤ length nodes = subst (λ n. (at + 1) * n ≤ length nodes) wide way.high in
@@ -69,7 +69,7 @@ way_down nodes time at n k is passed way =
     }
 
 -- the way begins at the root
-pub from_root : (nodes : List ℕ) (time k : ℕ) → IsTournamentTree nodes → IsSize (length nodes / 2) → length nodes / 2 ≡ 4 ^ k → get_or nodes 1 0 ≤ 2 ^ 64 - 1 → least (leaves nodes) ≤ time → IsOnWay nodes time 1 (4 ^ k)
+pub from_root : (nodes : List ℕ) (time k : ℕ) → IsTimerTreeOf nodes → IsSize (length nodes / 2) → length nodes / 2 ≡ 4 ^ k → get_or nodes 1 0 ≤ 2 ^ 64 - 1 → least (leaves nodes) ≤ time → IsOnWay nodes time 1 (4 ^ k)
 from_root nodes time k is size e top come =
     let root = rooted nodes is size top in
     record {
@@ -80,7 +80,7 @@ from_root nodes time k is size e top come =
       come = omega (arith, root, come);
     }
 
-pub leaves_half : (nodes : List ℕ) → IsTournamentTree nodes → length (leaves nodes) ≡ length nodes / 2
+pub leaves_half : (nodes : List ℕ) → IsTimerTreeOf nodes → length (leaves nodes) ≡ length nodes / 2
 leaves_half nodes is = omega (arith, is.fours, length-drop (length nodes / 2) nodes)
 
 -- the sizes, one after another
@@ -98,33 +98,50 @@ most_1024 n (inr (inr (inl e))) = omega (arith, e)
 most_1024 n (inr (inr (inr (inl e)))) = omega (arith, e)
 most_1024 n (inr (inr (inr (inr e)))) = omega (arith, e)
 
-pub not_four : (n : ℕ) → IsSize n → (n ≡ 4 → ⊥) → 16 ≤ n
-not_four n (inl e) other = absurd (other e)
-not_four n (inr (inl e)) other = omega (arith, e)
-not_four n (inr (inr (inl e))) other = omega (arith, e)
-not_four n (inr (inr (inr (inl e)))) other = omega (arith, e)
-not_four n (inr (inr (inr (inr e)))) other = omega (arith, e)
+-- a width of a level: a power of four
+pub record IsWidth (span : ℕ) : Type 0 where
+  pub level : ℕ
+  pub is : span ≡ 4 ^ level
 
-pub not_16 : (n : ℕ) → IsSize n → 16 ≤ n → (n ≡ 16 → ⊥) → 64 ≤ n
-not_16 n (inl e) more other = absurd (omega (arith, e, more))
-not_16 n (inr (inl e)) more other = absurd (other e)
-not_16 n (inr (inr (inl e))) more other = omega (arith, e)
-not_16 n (inr (inr (inr (inl e)))) more other = omega (arith, e)
-not_16 n (inr (inr (inr (inr e)))) more other = omega (arith, e)
+pub size_width : (n : ℕ) → IsSize n → IsWidth n
+size_width n (inl e) = record { level = 1; is = e }
+size_width n (inr (inl e)) = record { level = 2; is = e }
+size_width n (inr (inr (inl e))) = record { level = 3; is = e }
+size_width n (inr (inr (inr (inl e)))) = record { level = 4; is = e }
+size_width n (inr (inr (inr (inr e)))) = record { level = 5; is = e }
 
-pub not_64 : (n : ℕ) → IsSize n → 64 ≤ n → (n ≡ 64 → ⊥) → 256 ≤ n
-not_64 n (inl e) more other = absurd (omega (arith, e, more))
-not_64 n (inr (inl e)) more other = absurd (omega (arith, e, more))
-not_64 n (inr (inr (inl e))) more other = absurd (other e)
-not_64 n (inr (inr (inr (inl e)))) more other = omega (arith, e)
-not_64 n (inr (inr (inr (inr e)))) more other = omega (arith, e)
+-- the width of the level below
+pub record IsAbove (span : ℕ) : Type 0 where
+  pub level : ℕ
+  pub wide : span ≡ 4 ^ (level + 1)
+  pub next : span / 4 ≡ 4 ^ level
 
-pub not_256 : (n : ℕ) → IsSize n → 256 ≤ n → (n ≡ 256 → ⊥) → n ≡ 1024
-not_256 n (inl e) more other = absurd (omega (arith, e, more))
-not_256 n (inr (inl e)) more other = absurd (omega (arith, e, more))
-not_256 n (inr (inr (inl e))) more other = absurd (omega (arith, e, more))
-not_256 n (inr (inr (inr (inl e)))) more other = absurd (other e)
-not_256 n (inr (inr (inr (inr e)))) more other = e
+pub level_below : (span : ℕ) → IsWidth span → 1 < span → IsAbove span
+level_below span width more = by_level width.level width.is
+  where
+    by_level : (k : ℕ) → span ≡ 4 ^ k → IsAbove span
+    by_level zero e = absurd (omega (arith, e, more))
+    by_level (suc k) e =
+        let wide : span ≡ 4 ^ (k + 1) = e ∙ ap (λ n. 4 ^ n) (omega arith) in
+        record { level = k; wide = wide; next = omega (arith, wide, four_times k) }
+
+pub width_below : (span : ℕ) → IsWidth span → 1 < span → IsWidth (span / 4)
+width_below span width more =
+    let above = level_below span width more in
+    record { level = above.level; is = above.next }
+
+-- the four below a node on the way are there
+pub way_within : (nodes : List ℕ) (time at span : ℕ) → IsTimerTreeOf nodes → IsWidth span → 1 < span → IsOnWay nodes time at span → 4 * at + 3 < length nodes
+way_within nodes time at span is width more way =
+    let above = level_below span width more in
+    let wide : span ≡ 4 ^ above.level * 4 = above.wide ∙ four_times above.level in
+    let inner = down_inner nodes at (4 ^ above.level) (some_wide above.level) is (subst (λ n. (at + 1) * n ≤ length nodes) wide way.high) in
+    omega (arith, inner, is.fours)
+
+-- the way ends at a leaf
+pub way_ended : (nodes : List ℕ) (time at span : ℕ) → IsWidth span → span ≤ 1 → IsOnWay nodes time at span → IsOnWay nodes time at 1
+way_ended nodes time at span width last way =
+    subst (λ n. IsOnWay nodes time at n) (omega (arith, width.is, some_wide width.level, last)) way
 
 -- what the end of the way says of the leaves
 pub leaves_ahead : (nodes : List ℕ) (time at : ℕ) → IsOnWay nodes time at 1 → AreLater (leaves nodes) time 0 (at - length nodes / 2)

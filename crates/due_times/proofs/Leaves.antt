@@ -1,12 +1,12 @@
--- The leaves of a tournament that becomes wider.
+-- The leaves of a timer tree that becomes wider.
 use Rattle.std.proofs.Common.{◌≡◌, ℕ, zero, suc, ◌+◌, ◌-◌, ◌*◌, ◌^◌, ◌<◌, ◌≤◌, List, [], ◌∷◌, ◌++◌, length, get_or, drop, replicate, refl, sym, ap, ◌∙◌, arith, inl, inr}
 use Rattle.std.proofs.lemmas.Bool.{cases_lt}
 use Rattle.std.proofs.lemmas.Grind.{same_number_lists}
 use Rattle.std.proofs.lemmas.List.{length-append, length-drop, length-replicate, get_or_append_left, get_or-append_right, get_or-drop, get_or-replicate}
 use Rattle.due_times.specs.Timers.{least}
-use Rattle.due_times.specs.private.Tournament.{AreCopied}
+use Rattle.due_times.specs.private.TimerTree.{AreCopied}
 
--- behind a list that was made longer there are times that never come
+-- after a list that was made longer there are times that never come
 more_at : (old : List ℕ) (more : List ℕ) (count node : ℕ) → more ≡ old ++ replicate count (2 ^ 64 - 1) → length old ≤ node → node < length old + count → get_or more node 0 ≡ 2 ^ 64 - 1
 more_at old more count node is past within =
     ap (λ ns. get_or ns node 0) is
@@ -24,7 +24,7 @@ widened old more new half two is eight copied = same_number_lists _ _ (omega (ar
 
     right : (k : ℕ) → half ≤ k → k < 4 * half → get_or (drop (4 * half) new) k 0 ≡ get_or (drop half old ++ replicate (3 * half) (2 ^ 64 - 1)) k 0
     right k past h =
-        get_or-drop (4 * half) new k 0 ∙ copied.behind (4 * half + k) (omega (arith, past))
+        get_or-drop (4 * half) new k 0 ∙ copied.following (4 * half + k) (omega (arith, past))
         ∙ more_at old more (6 * half) (4 * half + k) is (omega (arith, two)) (omega (arith, h, two))
         ∙ sym (more_at (drop half old) (drop half old ++ replicate (3 * half) (2 ^ 64 - 1)) (3 * half) k refl (omega (arith, past, two, length-drop half old)) (omega (arith, h, two, length-drop half old)))
 

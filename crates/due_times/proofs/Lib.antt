@@ -3,6 +3,6 @@ pub mod Carrying
 pub mod Rooted
 pub mod Descending
 pub mod Leaves
-pub mod SeatTimes
+pub mod ChargeTimes
 pub mod CallerLemmas
 pub mod Orders

@@ -1,4 +1,4 @@
--- The times of a list, each at its leaf of a tournament.
+-- The times of a list, each at its leaf of a timer tree.
 use Rattle.std.proofs.Common.{◌≡◌, ◌≢◌, ℕ, zero, suc, ◌+◌, ◌-◌, ◌^◌, ◌<◌, ◌≤◌, List, [], ◌∷◌, ◌++◌, length, get_or, set, replicate, All, refl, sym, ap, ◌∙◌, subst, arith, inl, inr}
 use Rattle.std.specs.Prelude.{◌⊎◌}
 use Rattle.std.specs.List.{AllPairs, remove}
@@ -214,8 +214,8 @@ module _ (leaves order : List ℕ) (capacity place : ℕ) (is : AreTimers leaves
   others k d differs = get_or-set_other order place k place d differs
 
   -- another leaf is neither that to which the time moves nor that which it leaves
-  aside : (k : ℕ) → k < length order → k ≢ place → get_or order k 0 ≢ place
-  aside k h differs = elim (cases_lt k place) [
+  deferring : (k : ℕ) → k < length order → k ≢ place → get_or order k 0 ≢ place
+  deferring k h differs = elim (cases_lt k place) [
     | inl before ↦ let own_place = packed k before in λ e. absurd (omega (arith, own_place, e, before))
     | inr past ↦ let up = is.rising place k 0 (omega (arith, past, differs)) h in λ e. absurd (omega (arith, up, e, high))
   ]
@@ -290,7 +290,7 @@ module _ (leaves order : List ℕ) (capacity place : ℕ) (is : AreTimers leaves
         ∙ ap (λ n. get_or leaves (get_or order n 0) 0) (sym here)
     | inr differs ↦
         ap (λ n. get_or moved n 0) (others k 0 differs)
-        ∙ get_or-set_other free place (get_or order k 0) (get_or leaves leaf 0) 0 (aside k h differs)
+        ∙ get_or-set_other free place (get_or order k 0) (get_or leaves leaf 0) 0 (deferring k h differs)
         ∙ get_or-set_other leaves leaf (get_or order k 0) (2 ^ 64 - 1) 0 (apart order place k is.rising there h differs)
   ])
 
@@ -363,7 +363,7 @@ later_all leaves order time leaf first there is later k from before h =
 pub come_first : (leaves order : List ℕ) (capacity time leaf first : ℕ) → AreTimers leaves order capacity → All (λ t. t ≤ 2 ^ 64 - 1) leaves → IsFirstFrom order leaf first → leaf < length leaves → get_or leaves leaf 0 ≤ time → first < length order → get_or (times_by_place leaves order) first 0 ≤ time
 come_first leaves order capacity time leaf first is high from within come there =
     let read = time_is leaves order first there in
-    let at_least = from.behind first (omega arith) there in
+    let at_least = from.following first (omega arith) there in
     elim (find_leaf order leaf) [
       | inl at ↦
           let here : at.place ≡ first = elim (cases_lt at.place first) [
@@ -387,7 +387,7 @@ pub at_leaf : (order : List ℕ) (leaf : ℕ) → AllPairs (λ a b. a < b) order
 at_leaf order leaf rising there same = record {
   within = omega (arith, there);
   before = λ k less. let up = rising k leaf 0 less there in omega (arith, up, same);
-  behind = λ k from h. elim (cases_lt leaf k) [
+  following = λ k from h. elim (cases_lt leaf k) [
     | inl less ↦ let up = rising leaf k 0 less h in omega (arith, up, same)
     | inr not_less ↦ let here : leaf ≡ k = omega (arith, from, not_less) in subst (λ n. leaf ≤ get_or order n 0) here (omega (arith, same))
   ];

@@ -1,9 +1,9 @@
--- The root of a tournament is the first of its leaves.
+-- The root of a timer tree is the first of its leaves.
 use Rattle.std.proofs.Common.{◌≡◌, ℕ, zero, suc, ◌+◌, ◌-◌, ◌*◌, ◌/◌, ◌^◌, ◌<◌, ◌≤◌, min, List, [], ◌∷◌, length, get_or, refl, sym, ap, ◌∙◌, arith, subst, inl, inr}
 use Rattle.std.proofs.lemmas.Bool.{cases_lt}
 use Rattle.std.proofs.lemmas.List.{get_or-drop, length-drop}
 use Rattle.due_times.specs.Timers.{least, IsSize}
-use Rattle.due_times.specs.private.Tournament.{IsTournamentTree, least_below, leaves}
+use Rattle.due_times.specs.private.TimerTree.{IsTimerTreeOf, least_below, leaves}
 use Rattle.due_times.proofs.Climbing.{covers_pow, four_times, some_wide, down_low, down_high, down_inner}
 
 pub least_le : (xs : List ℕ) (k : ℕ) → k < length xs → least xs ≤ get_or xs k 0
@@ -46,7 +46,7 @@ of_four nodes i =
       ]
     ]
 
-reached : (nodes : List ℕ) → IsTournamentTree nodes → (k i : ℕ) → 1 ≤ i → length nodes / 2 ≤ i * 4 ^ k → (i + 1) * 4 ^ k ≤ length nodes → Leaf nodes i
+reached : (nodes : List ℕ) → IsTimerTreeOf nodes → (k i : ℕ) → 1 ≤ i → length nodes / 2 ≤ i * 4 ^ k → (i + 1) * 4 ^ k ≤ length nodes → Leaf nodes i
 reached nodes is zero i one low high = record { at = i; past = omega (arith, low); within = omega (arith, high); same = refl }
 reached nodes is (suc k) i one low high =
     let more : suc k ≡ k + 1 = omega arith in
@@ -58,7 +58,7 @@ reached nodes is (suc k) i one low high =
     let leaf = reached nodes is k next.at (omega (arith, next.low, one)) (down_low (length nodes / 2) i next.at (4 ^ k) from next.low) (down_high (length nodes) i next.at (4 ^ k) upto next.high) in
     record { at = leaf.at; past = leaf.past; within = leaf.within; same = leaf.same ∙ next.same ∙ sym here }
 
-rooted_at : (nodes : List ℕ) (k : ℕ) → IsTournamentTree nodes → length nodes / 2 ≡ 4 ^ k → get_or nodes 1 0 ≤ 2 ^ 64 - 1 → get_or nodes 1 0 ≡ least (leaves nodes)
+rooted_at : (nodes : List ℕ) (k : ℕ) → IsTimerTreeOf nodes → length nodes / 2 ≡ 4 ^ k → get_or nodes 1 0 ≤ 2 ^ 64 - 1 → get_or nodes 1 0 ≡ least (leaves nodes)
 rooted_at nodes k is wide top =
     let half = length nodes / 2 in
     let two : length nodes ≡ 2 * half = omega (arith, is.fours) in
@@ -71,7 +71,7 @@ rooted_at nodes k is wide top =
     subst (λ (v : ℕ). get_or nodes 1 0 ≤ v) (sym (get_or-drop half nodes j 0)) (covers.each (half + j) (omega (arith, wide)) (omega (arith, wide, within, two)) within)) in
     omega (arith, most, read, leaf.same, least_of)
 
-pub rooted : (nodes : List ℕ) → IsTournamentTree nodes → IsSize (length nodes / 2) → get_or nodes 1 0 ≤ 2 ^ 64 - 1 → get_or nodes 1 0 ≡ least (leaves nodes)
+pub rooted : (nodes : List ℕ) → IsTimerTreeOf nodes → IsSize (length nodes / 2) → get_or nodes 1 0 ≤ 2 ^ 64 - 1 → get_or nodes 1 0 ≡ least (leaves nodes)
 rooted nodes is (inl e) top = rooted_at nodes 1 is e top
 rooted nodes is (inr (inl e)) top = rooted_at nodes 2 is e top
 rooted nodes is (inr (inr (inl e))) top = rooted_at nodes 3 is e top

@@ -1,3 +1,3 @@
 pub mod Timers
-pub mod Seats
+pub mod OpenCharges
 pub mod private

@@ -13,7 +13,7 @@ AreLater due time from end =
     (place : ℕ) → from ≤ place → place < end → place < length due
     → time < slice_index_or due place 0
 
--- how many times a tournament of timers has
+-- how many times a timer tree has
 abbrev pub IsSize : ℕ → Type 0
 IsSize count = (count ≡ 4) ⊎ (count ≡ 16) ⊎ (count ≡ 64) ⊎ (count ≡ 256) ⊎ (count ≡ 1024)
 

@@ -1,2 +1,2 @@
-pub mod Tournament
+pub mod TimerTree
 pub mod Leaves

@@ -1,13 +1,14 @@
 //! When something is next to be done to each listed task before the choice. So a tick looks only at
 //! the tasks that are due.
 
-ghost use Rattle.std.specs.Prelude.{◌≡◌, ◌<◌, ◌≤◌, ◌+◌, ◌-◌, ◌^◌, ◌∷◌, ◌++◌, [], ℕ, All, length, min, false, slice_index_or, slice_set, IfOk, IsTrue, vec_capacity};
+ghost use Rattle.std.specs.Prelude.{◌≡◌, ◌<◌, ◌≤◌, ◌+◌, ◌-◌, ◌∷◌, ◌++◌, [], ℕ, All, length, min, false, slice_index_or, slice_set, IfOk, IsTrue, vec_capacity};
 ghost use Rattle.std.specs.List.{AllPairs, remove};
 ghost use Rattle.due_times.specs.Timers as spec;
 ghost use Rattle.due_times.specs.private.Leaves as leaf_spec;
+ghost use Rattle.limits.specs.Limits.{clock_end};
 
-pub use crate::tournament::NEVER;
-use crate::tournament::Tournament;
+pub use crate::timer_tree::NEVER;
+use crate::timer_tree::TimerTree;
 use no_memory::NoMemory;
 use std::alloc::Global;
 use std::marker::Model;
@@ -20,7 +21,7 @@ const MOST: usize = 256;
 #[derive(Drop)]
 pub struct Timers {
     // The other leaves hold a time that never comes.
-    tournament: Tournament,
+    timer_tree: TimerTree,
     // The leaf of each time.
     order: Vec<u16>,
 }
@@ -31,9 +32,9 @@ impl Model for Timers {
 
     ghost Value = { List ℕ };
 
-    ghost view = { λ t. times_by_place t.tournament t.order.items };
+    ghost view = { λ t. times_by_place t.timer_tree t.order.items };
 
-    ghost invariant = { λ t. AreTimers t.tournament t.order.items (vec_capacity t.order) };
+    ghost invariant = { λ t. AreTimers t.timer_tree t.order.items (vec_capacity t.order) };
 }
 
 // The first place whose leaf is not before this one, by binary search. The place is lower than the
@@ -81,7 +82,7 @@ fn first_from(order: &[u16], leaf: usize) -> usize
 // The leaf after those of all times.
 fn next_leaf(order: &[u16]) -> usize
     requires rising { AllPairs (λ a b. a < b) order.now }
-    ensures behind { All (λ leaf. leaf < result) order.now }
+    ensures following { All (λ leaf. leaf < result) order.now }
     ensures near { (bound : ℕ) → All (λ leaf. leaf < bound) order.now → result ≤ bound }
 {
     let count = order.len();
@@ -92,76 +93,76 @@ fn next_leaf(order: &[u16]) -> usize
 }
 
 // Moves the time at a place to the leaf of that number. The times before it have been moved.
-fn pack_at(tournament: &mut Tournament, order: &mut Vec<u16>, place: usize)
-    requires kept { spec.AreTimers tournament.old order.old.items (vec_capacity order.old) }
+fn pack_at(timer_tree: &mut TimerTree, order: &mut Vec<u16>, place: usize)
+    requires kept { spec.AreTimers timer_tree.old order.old.items (vec_capacity order.old) }
     requires there { place < length order.old.items }
     requires packed { leaf_spec.ArePacked order.old.items place }
-    ensures kept { spec.AreTimers tournament.new order.new.items (vec_capacity order.new) }
+    ensures kept { spec.AreTimers timer_tree.new order.new.items (vec_capacity order.new) }
     ensures packed { leaf_spec.ArePacked order.new.items (place + 1) }
-    ensures times { spec.times_by_place tournament.new order.new.items
-        ≡ spec.times_by_place tournament.old order.old.items }
+    ensures times { spec.times_by_place timer_tree.new order.new.items
+        ≡ spec.times_by_place timer_tree.old order.old.items }
     ensures count { length order.new.items ≡ length order.old.items }
-    ensures leaves { length tournament.new ≡ length tournament.old }
+    ensures leaves { length timer_tree.new ≡ length timer_tree.old }
 {
     let leaf = usize::from(order[place]);
     if leaf == place {
         return;
     }
-    let time = tournament.get(leaf);
-    tournament.set(leaf, NEVER);
-    tournament.set(place, time);
+    let time = timer_tree.get(leaf);
+    timer_tree.set(leaf, NEVER);
+    timer_tree.set(place, time);
     order[place] = place as u16;
 }
 
 // Moves each time to the leaf of its place.
-fn pack(tournament: &mut Tournament, order: &mut Vec<u16>)
-    requires { spec.AreTimers tournament.old order.old.items (vec_capacity order.old) }
-    ensures kept { spec.AreTimers tournament.new order.new.items (vec_capacity order.new) }
+fn pack(timer_tree: &mut TimerTree, order: &mut Vec<u16>)
+    requires { spec.AreTimers timer_tree.old order.old.items (vec_capacity order.old) }
+    ensures kept { spec.AreTimers timer_tree.new order.new.items (vec_capacity order.new) }
     ensures packed { leaf_spec.ArePacked order.new.items (length order.new.items) }
-    ensures times { spec.times_by_place tournament.new order.new.items
-        ≡ spec.times_by_place tournament.old order.old.items }
+    ensures times { spec.times_by_place timer_tree.new order.new.items
+        ≡ spec.times_by_place timer_tree.old order.old.items }
     ensures count { length order.new.items ≡ length order.old.items }
-    ensures leaves { length tournament.new ≡ length tournament.old }
+    ensures leaves { length timer_tree.new ≡ length timer_tree.old }
 {
     for place in 0..order.len() {
-        pack_at(tournament, order, place);
+        pack_at(timer_tree, order, place);
     }
 }
 
 // Makes room after the leaves of all times. If the list fills more than half of the tree, the tree
 // gets four times as many leaves. Else the times are packed, and many removals share that cost.
-fn make_room(tournament: &mut Tournament, order: &mut Vec<u16>)
-    requires kept { spec.AreTimers tournament.old order.old.items (vec_capacity order.old) }
+fn make_room(timer_tree: &mut TimerTree, order: &mut Vec<u16>)
+    requires kept { spec.AreTimers timer_tree.old order.old.items (vec_capacity order.old) }
     requires few { length order.old.items < 256 }
-    ensures kept { spec.AreTimers tournament.new order.new.items (vec_capacity order.new) }
-    ensures room { All (λ leaf. leaf + 1 < length tournament.new) order.new.items }
-    ensures times { spec.times_by_place tournament.new order.new.items
-        ≡ spec.times_by_place tournament.old order.old.items }
+    ensures kept { spec.AreTimers timer_tree.new order.new.items (vec_capacity order.new) }
+    ensures room { All (λ leaf. leaf + 1 < length timer_tree.new) order.new.items }
+    ensures times { spec.times_by_place timer_tree.new order.new.items
+        ≡ spec.times_by_place timer_tree.old order.old.items }
     ensures count { length order.new.items ≡ length order.old.items }
 {
-    if order.len() > tournament.len() / 2 {
-        tournament.widen();
+    if order.len() > timer_tree.len() / 2 {
+        timer_tree.widen();
     } else {
-        pack(tournament, order);
+        pack(timer_tree, order);
     }
 }
 
 // A leaf after those of all times.
-fn free_leaf(tournament: &mut Tournament, order: &mut Vec<u16>) -> usize
-    requires kept { spec.AreTimers tournament.old order.old.items (vec_capacity order.old) }
+fn free_leaf(timer_tree: &mut TimerTree, order: &mut Vec<u16>) -> usize
+    requires kept { spec.AreTimers timer_tree.old order.old.items (vec_capacity order.old) }
     requires few { length order.old.items < 256 }
-    ensures kept { spec.AreTimers tournament.new order.new.items (vec_capacity order.new) }
-    ensures behind { All (λ leaf. leaf < result) order.new.items }
-    ensures there { result < length tournament.new }
-    ensures times { spec.times_by_place tournament.new order.new.items
-        ≡ spec.times_by_place tournament.old order.old.items }
+    ensures kept { spec.AreTimers timer_tree.new order.new.items (vec_capacity order.new) }
+    ensures following { All (λ leaf. leaf < result) order.new.items }
+    ensures there { result < length timer_tree.new }
+    ensures times { spec.times_by_place timer_tree.new order.new.items
+        ≡ spec.times_by_place timer_tree.old order.old.items }
     ensures count { length order.new.items ≡ length order.old.items }
 {
     let leaf = next_leaf(order);
-    if leaf < tournament.len() {
+    if leaf < timer_tree.len() {
         return leaf;
     }
-    make_room(tournament, order);
+    make_room(timer_tree, order);
     next_leaf(order)
 }
 
@@ -171,7 +172,7 @@ impl Timers {
         ensures { IfOk result (λ timers. timers ≡ []) }
     {
         Ok(Timers {
-            tournament: Tournament::open(alloc)?,
+            timer_tree: TimerTree::open(alloc)?,
             order: Vec::with_capacity(alloc, MOST)?,
         })
     }
@@ -182,7 +183,7 @@ impl Timers {
         requires { place < length self.now }
         ensures { result ≡ slice_index_or self.now place 0 }
     {
-        self.tournament.get(usize::from(self.order[place]))
+        self.timer_tree.get(usize::from(self.order[place]))
     }
 
     // A later place. No task from this one up to it is due.
@@ -194,7 +195,9 @@ impl Timers {
         ensures most { result ≤ length self.now }
         ensures others { spec.AreLater self.now time place result }
     {
-        let leaf = self.tournament.behind(usize::from(self.order[place]), time);
+        let leaf = self
+            .timer_tree
+            .following(usize::from(self.order[place]), time);
         first_from(&self.order, leaf)
     }
 
@@ -222,7 +225,7 @@ impl Timers {
         ensures others { spec.AreLater self.now time 0 result }
         ensures due { result < length self.now → slice_index_or self.now result 0 ≤ time }
     {
-        first_from(&self.order, self.tournament.first_come(time))
+        first_from(&self.order, self.timer_tree.first_come(time))
     }
 
     /// The first place, from this one on, whose task is due at a time; where there is none, how
@@ -252,7 +255,7 @@ impl Timers {
         requires { place < length self.old }
         ensures { self.new ≡ slice_set self.old place due }
     {
-        self.tournament.set(usize::from(self.order[place]), due);
+        self.timer_tree.set(usize::from(self.order[place]), due);
     }
 
     /// One task more at the end of the list.
@@ -260,8 +263,8 @@ impl Timers {
         requires { length self.old < 256 }
         ensures { self.new ≡ self.old ++ due ∷ [] }
     {
-        let leaf = free_leaf(&mut self.tournament, &mut self.order);
-        self.tournament.set(leaf, due);
+        let leaf = free_leaf(&mut self.timer_tree, &mut self.order);
+        self.timer_tree.set(leaf, due);
         self.order.push_reserved(leaf as u16);
     }
 
@@ -271,7 +274,7 @@ impl Timers {
         ensures { self.new ≡ remove self.old place }
     {
         let leaf = self.order.remove(place);
-        self.tournament.set(usize::from(leaf), NEVER);
+        self.timer_tree.set(usize::from(leaf), NEVER);
     }
 
     /// Whether a task may be due at a time: the first time has come. Where it says no, none is due.
@@ -286,12 +289,12 @@ impl Timers {
     pub fn least(&self) -> u64
         ensures { result ≡ spec.least self.now }
     {
-        self.tournament.least()
+        self.timer_tree.least()
     }
 
     /// The ticks from a time to the first at which a task is due, at most 2^42 - 1.
     pub fn ticks_to_due(&self, time: u64) -> u64
-        ensures { result ≡ min (spec.least self.now - time) (2 ^ 42 - 1) }
+        ensures { result ≡ min (spec.least self.now - time) (clock_end - 1) }
     {
         self.least().saturating_sub(time).min((1 << 42) - 1)
     }

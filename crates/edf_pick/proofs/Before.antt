@@ -7,8 +7,8 @@ use Rattle.edf_pick.specs.Choice.{is_before}
 use Rattle.edf_pick.specs.Order.{is_same}
 
 -- what the test says
-pub before_tells : (a b : Candidate) → is_before a b ≡ true → (a.deadline < b.deadline) ⊎ ((a.deadline ≡ b.deadline) × (a.number < b.number))
-before_tells a b h =
+pub before_logs : (a b : Candidate) → is_before a b ≡ true → (a.deadline < b.deadline) ⊎ ((a.deadline ≡ b.deadline) × (a.number < b.number))
+before_logs a b h =
     elim (or_cases (ltb a.deadline b.deadline) (eqb a.deadline b.deadline && ltb a.number b.number) h) [
       | inl x ↦ inl (ltb-true a.deadline b.deadline x)
       | inr y ↦ let p = and_parts (eqb a.deadline b.deadline) (ltb a.number b.number) y in inr (eqb-true a.deadline b.deadline p.0, ltb-true a.number b.number p.1)
@@ -22,18 +22,18 @@ before_tie a b e h =
     or_right (ltb a.deadline b.deadline) (eqb a.deadline b.deadline && ltb a.number b.number)
     (and_from (eqb a.deadline b.deadline) (ltb a.number b.number) (eq-eqb a.deadline b.deadline e) (lt-ltb a.number b.number h))
 
-pub same_tells : (a b : Candidate) → is_same a b ≡ true → (a.deadline ≡ b.deadline) × (a.number ≡ b.number)
-same_tells a b h = let p = and_parts (eqb a.deadline b.deadline) (eqb a.number b.number) h in (eqb-true a.deadline b.deadline p.0, eqb-true a.number b.number p.1)
+pub same_logs : (a b : Candidate) → is_same a b ≡ true → (a.deadline ≡ b.deadline) × (a.number ≡ b.number)
+same_logs a b h = let p = and_parts (eqb a.deadline b.deadline) (eqb a.number b.number) h in (eqb-true a.deadline b.deadline p.0, eqb-true a.number b.number p.1)
 
 pub before_both : (a b c : Candidate) → is_before a b ≡ true → is_before b c ≡ true → is_before a c ≡ true
 before_both a b c p q =
-    elim (before_tells a b p) [
-      | inl x ↦ elim (before_tells b c q) [ inl y ↦ before_earlier a c (omega arith) | inr y ↦ before_earlier a c (omega arith) ]
-      | inr x ↦ elim (before_tells b c q) [ inl y ↦ before_earlier a c (omega arith) | inr y ↦ before_tie a c (omega arith) (omega arith) ]
+    elim (before_logs a b p) [
+      | inl x ↦ elim (before_logs b c q) [ inl y ↦ before_earlier a c (omega arith) | inr y ↦ before_earlier a c (omega arith) ]
+      | inr x ↦ elim (before_logs b c q) [ inl y ↦ before_earlier a c (omega arith) | inr y ↦ before_tie a c (omega arith) (omega arith) ]
     ]
 
 pub before_itself : (a : Candidate) → is_before a a ≡ false
-before_itself a = false_from_ne_true (is_before a a) (λ h. elim (before_tells a a h) [ inl x ↦ absurd (omega arith) | inr x ↦ absurd (omega arith) ])
+before_itself a = false_from_ne_true (is_before a a) (λ h. elim (before_logs a a h) [ inl x ↦ absurd (omega arith) | inr x ↦ absurd (omega arith) ])
 
 pub before_reverse : (a b : Candidate) → is_before a b ≡ true → is_before b a ≡ false
 before_reverse a b h = false_from_ne_true (is_before b a) (λ k. both_ways (is_before a a) (before_itself a) (before_both a b a h k))
@@ -60,23 +60,23 @@ before_by_key a b one other =
         | inl e ↦ before_tie a b e (omega arith)
         | inr o ↦ elim o [ inl earlier ↦ before_earlier a b earlier | inr later ↦ absurd (omega arith) ]
       ])
-      | inr more ↦ le-ltb (key a) (key b) more ∙ sym (false_from_ne_true (is_before a b) (λ h. elim (before_tells a b h) [ inl x ↦ absurd (omega arith) | inr x ↦ absurd (omega arith) ]))
+      | inr more ↦ le-ltb (key a) (key b) more ∙ sym (false_from_ne_true (is_before a b) (λ h. elim (before_logs a b h) [ inl x ↦ absurd (omega arith) | inr x ↦ absurd (omega arith) ]))
     ]
 
 -- what is before another has another place
 pub before_differs : (a b : Candidate) → is_before a b ≡ true → is_same a b ≡ false
 before_differs a b h =
-    false_from_ne_true (is_same a b) (λ s. let e = same_tells a b s in elim (before_tells a b h) [ inl x ↦ absurd (omega arith) | inr x ↦ absurd (omega arith) ])
+    false_from_ne_true (is_same a b) (λ s. let e = same_logs a b s in elim (before_logs a b h) [ inl x ↦ absurd (omega arith) | inr x ↦ absurd (omega arith) ])
 
 pub differs_reverse : (a b : Candidate) → is_before a b ≡ true → is_same b a ≡ false
 differs_reverse a b h =
-    false_from_ne_true (is_same b a) (λ s. let e = same_tells b a s in elim (before_tells a b h) [ inl x ↦ absurd (omega arith) | inr x ↦ absurd (omega arith) ])
+    false_from_ne_true (is_same b a) (λ s. let e = same_logs b a s in elim (before_logs a b h) [ inl x ↦ absurd (omega arith) | inr x ↦ absurd (omega arith) ])
 
 -- two at one place are before the same tasks
 pub same_before : (a c b : Candidate) → is_same a c ≡ true → is_before a b ≡ true → is_before c b ≡ true
 same_before a c b s h =
-    let e = same_tells a c s in
-    elim (before_tells a b h) [ inl x ↦ before_earlier c b (omega arith) | inr x ↦ before_tie c b (omega arith) (omega arith) ]
+    let e = same_logs a c s in
+    elim (before_logs a b h) [ inl x ↦ before_earlier c b (omega arith) | inr x ↦ before_tie c b (omega arith) (omega arith) ]
 
 pub same_itself : (a : Candidate) → is_same a a ≡ true
 same_itself a = and_from (eqb a.deadline a.deadline) (eqb a.number a.number) (eq-eqb a.deadline a.deadline refl) (eq-eqb a.number a.number refl)

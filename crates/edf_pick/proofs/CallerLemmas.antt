@@ -13,7 +13,7 @@ use mathlib.Core.Path.{fun_ext}
 use Rattle.edf_pick.specs.declared.candidate.Candidate.{Candidate}
 use Rattle.edf_pick.specs.Choice.{is_before, rank, candidate_at_rank}
 use Rattle.edf_pick.specs.Order.{IsRising, is_same, has_candidate, with_candidate, without_candidate, by_deadline}
-use Rattle.edf_pick.specs.Places.{Places, is_chosen_number, kept_if_chosen, seated_if, seated_upto, placed}
+use Rattle.edf_pick.specs.Places.{Places, is_chosen_number, kept_if_chosen, assigned_if, assigned_upto, placed}
 use Rattle.edf_pick.proofs.Before.{before_reverse, before_other, before_past, same_itself, number_differs}
 use Rattle.edf_pick.proofs.Rising.{place, insert_place, rising_with, without_absent}
 use Rattle.edf_pick.proofs.Picked.{map_same, rank_place, place_at}
@@ -89,8 +89,8 @@ with_later a c queue h = cond-true (is_before a c) (a ∷ with_candidate c queue
 pub with_here : (a c : Candidate) (queue : List Candidate) → is_before a c ≡ false → with_candidate c (a ∷ queue) ≡ c ∷ a ∷ queue
 with_here a c queue h = cond-false (is_before a c) (a ∷ with_candidate c queue) (c ∷ a ∷ queue) h
 
-behind : (a : Candidate) (xs ys : List Candidate) → xs ≡ ys → a ∷ xs ≡ a ∷ ys
-behind a xs ys e = ap (λ (zs : List Candidate). a ∷ zs) e
+following : (a : Candidate) (xs ys : List Candidate) → xs ≡ ys → a ∷ xs ≡ a ∷ ys
+following a xs ys e = ap (λ (zs : List Candidate). a ∷ zs) e
 
 taken_in : (c : Candidate) (xs ys : List Candidate) → xs ≡ ys → with_candidate c xs ≡ with_candidate c ys
 taken_in c xs ys e = ap (λ (zs : List Candidate). with_candidate c zs) e
@@ -105,18 +105,18 @@ with_swap c x [] other =
 with_swap c x (a ∷ queue) other =
     elim (cases_Bool (is_before a c)) [
       | inl ac ↦ elim (cases_Bool (is_before a x)) [
-        | inl ax ↦ taken_in x _ _ (with_later a c queue ac) ∙ with_later a x (with_candidate c queue) ax ∙ behind a _ _ (with_swap c x queue other)
+        | inl ax ↦ taken_in x _ _ (with_later a c queue ac) ∙ with_later a x (with_candidate c queue) ax ∙ following a _ _ (with_swap c x queue other)
             ∙ sym (with_later a c (with_candidate x queue) ac) ∙ sym (taken_in c _ _ (with_later a x queue ax))
-        | inr ax ↦ taken_in x _ _ (with_later a c queue ac) ∙ with_here a x (with_candidate c queue) ax ∙ sym (behind x _ _ (with_later a c queue ac))
+        | inr ax ↦ taken_in x _ _ (with_later a c queue ac) ∙ with_here a x (with_candidate c queue) ax ∙ sym (following x _ _ (with_later a c queue ac))
             ∙ sym (with_later x c (a ∷ queue) (before_past a x c ax ac)) ∙ sym (taken_in c _ _ (with_here a x queue ax))
       ]
       | inr ac ↦ elim (cases_Bool (is_before a x)) [
-        | inl ax ↦ taken_in x _ _ (with_here a c queue ac) ∙ with_later c x (a ∷ queue) (before_past a c x ac ax) ∙ behind c _ _ (with_later a x queue ax)
+        | inl ax ↦ taken_in x _ _ (with_here a c queue ac) ∙ with_later c x (a ∷ queue) (before_past a c x ac ax) ∙ following c _ _ (with_later a x queue ax)
             ∙ sym (with_here a c (with_candidate x queue) ac) ∙ sym (taken_in c _ _ (with_later a x queue ax))
         | inr ax ↦ elim (cases_Bool (is_before x c)) [
-          | inl xc ↦ taken_in x _ _ (with_here a c queue ac) ∙ with_here c x (a ∷ queue) (before_reverse x c xc) ∙ sym (behind x _ _ (with_here a c queue ac))
+          | inl xc ↦ taken_in x _ _ (with_here a c queue ac) ∙ with_here c x (a ∷ queue) (before_reverse x c xc) ∙ sym (following x _ _ (with_here a c queue ac))
               ∙ sym (with_later x c (a ∷ queue) xc) ∙ sym (taken_in c _ _ (with_here a x queue ax))
-          | inr xc ↦ taken_in x _ _ (with_here a c queue ac) ∙ with_later c x (a ∷ queue) (before_other x c xc other) ∙ behind c _ _ (with_here a x queue ax)
+          | inr xc ↦ taken_in x _ _ (with_here a c queue ac) ∙ with_later c x (a ∷ queue) (before_other x c xc other) ∙ following c _ _ (with_here a x queue ax)
               ∙ sym (with_here x c (a ∷ queue) xc) ∙ sym (taken_in c _ _ (with_here a x queue ax))
         ]
       ]
@@ -136,7 +136,7 @@ without_with c (a ∷ queue) absent =
     let rest = without_candidate c (with_candidate c queue) in
     let all = without_candidate c (a ∷ queue) in
     elim (cases_Bool (is_before a c)) [
-      | inl ac ↦ ap (λ (zs : List Candidate). without_candidate c zs) (with_later a c queue ac) ∙ ap (λ (b : Bool). cond (not b) (a ∷ rest) rest) parts.0 ∙ behind a _ _ (without_with c queue parts.1)
+      | inl ac ↦ ap (λ (zs : List Candidate). without_candidate c zs) (with_later a c queue ac) ∙ ap (λ (b : Bool). cond (not b) (a ∷ rest) rest) parts.0 ∙ following a _ _ (without_with c queue parts.1)
       | inr ac ↦ ap (λ (zs : List Candidate). without_candidate c zs) (with_here a c queue ac) ∙ ap (λ (b : Bool). cond (not b) (c ∷ all) all) (same_itself c) ∙ without_absent c (a ∷ queue) absent
     ]
 
@@ -185,7 +185,7 @@ find_ordered p (c ∷ xs) single =
     find_with p c (by_deadline xs) (λ t. sym (list_any-IsPermutation p xs (by_deadline xs) (permuted xs)) ∙ list_any_none p xs (λ k d h. single 0 (suc k) d (omega arith) (omega arith) t))
     ∙ ap (λ (o : Option Candidate). cond (p c) (Some c) o) (find_ordered p xs (λ i j d h k. single (suc i) (suc j) d (omega arith) (omega arith)))
 
--- a task stands in the order at the place that its rank says
+-- a task runs in the order at the place that its rank says
 rank_ordered : (xs : List Candidate) (c : Candidate) → IsNumbered xs → Contains xs c → (rank xs c < length (by_deadline xs)) × (get_or (by_deadline xs) (rank xs c) c ≡ c)
 rank_ordered xs c numbered there =
     let queue = by_deadline xs in
@@ -210,14 +210,14 @@ ranked_same xs r numbered =
     ne_eqb (rank xs b) r (λ e. numbered i j d h k (ap (λ (c : Candidate). c.number) (one_rank xs a b numbered (Contains-get_or xs i d (omega arith)) (Contains-get_or xs j d k) (eqb-true (rank xs a) r t ∙ sym e)))) in
     ap (λ (f : Candidate → ℕ). find (λ c. eqb (f c) r) (by_deadline xs)) (fun_ext (ranks xs)) ∙ find_ordered (λ c. eqb (rank xs c) r) xs single
 
-seated_same : (xs : List Candidate) (places : Places) (r : ℕ) → IsNumbered xs → seated_upto (by_deadline xs) places r ≡ seated_upto xs places r
-seated_same xs places zero numbered = refl
-seated_same xs places (suc r) numbered =
-    ap (λ (ps : Places). seated_if ps (candidate_at_rank (by_deadline xs) r)) (seated_same xs places r numbered)
-    ∙ ap (λ (o : Option Candidate). seated_if (seated_upto xs places r) o) (ranked_same xs r numbered)
+assigned_same : (xs : List Candidate) (places : Places) (r : ℕ) → IsNumbered xs → assigned_upto (by_deadline xs) places r ≡ assigned_upto xs places r
+assigned_same xs places zero numbered = refl
+assigned_same xs places (suc r) numbered =
+    ap (λ (ps : Places). assigned_if ps (candidate_at_rank (by_deadline xs) r)) (assigned_same xs places r numbered)
+    ∙ ap (λ (o : Option Candidate). assigned_if (assigned_upto xs places r) o) (ranked_same xs r numbered)
 
 -- what `pick` does with a queue is what the definition says of any list of its tasks
 pub placed_ordered : (cpus : ℕ) (xs : List Candidate) (before : Places) → IsNumbered xs → placed cpus (by_deadline xs) before ≡ placed cpus xs before
 placed_ordered cpus xs before numbered =
-    seated_same xs (map (kept_if_chosen cpus (by_deadline xs)) before) cpus numbered
-    ∙ ap (λ (ps : Places). seated_upto xs ps cpus) (map_same (kept_if_chosen cpus (by_deadline xs)) (kept_if_chosen cpus xs) (λ o. kept_same cpus xs o) before)
+    assigned_same xs (map (kept_if_chosen cpus (by_deadline xs)) before) cpus numbered
+    ∙ ap (λ (ps : Places). assigned_upto xs ps cpus) (map_same (kept_if_chosen cpus (by_deadline xs)) (kept_if_chosen cpus xs) (λ o. kept_same cpus xs o) before)

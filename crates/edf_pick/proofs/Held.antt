@@ -5,7 +5,7 @@ use Rattle.std.specs.List.Sorted.{IsPermutation}
 use Rattle.std.proofs.lemmas.List.Elements.{All-nil, All-cons, All-contains}
 use Rattle.std.proofs.lemmas.List.Sorted.{IsPermutation-refl, IsPermutation-cons, IsPermutation-trans, IsPermutation-middle}
 use Rattle.edf_pick.specs.declared.candidate.Candidate.{Candidate}
-use Rattle.edf_pick.specs.private.Waiting.{all_held}
+use Rattle.edf_pick.specs.private.Ready.{all_held}
 use Rattle.edf_pick.proofs.Sorting.{contains_parts}
 
 -- ---- ONE MORE, ONE LESS

@@ -3,8 +3,8 @@ pub mod CallerLemmas
 pub mod Chosen
 pub mod Held
 pub mod Left
-pub mod Marked
 pub mod Moving
+pub mod Occupants
 pub mod OneCpu
 pub mod Picked
 pub mod Resting
@@ -14,6 +14,6 @@ pub mod Searching
 pub mod Settled
 pub mod Sorting
 pub mod Spans
-pub mod Standing
+pub mod OnCpu
 pub mod Stays
 pub mod Waits

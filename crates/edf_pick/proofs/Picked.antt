@@ -12,8 +12,8 @@ use Rattle.std.proofs.lemmas.Option.{slice_get-get_or, slice_get_past}
 use Rattle.edf_pick.specs.declared.candidate.Candidate.{Candidate}
 use Rattle.edf_pick.specs.Choice.{is_before, rank, is_chosen, candidate_at_rank}
 use Rattle.edf_pick.specs.Order.{IsRising}
-use Rattle.edf_pick.specs.Places.{Places, is_chosen_number, kept_if_chosen, seated, seated_if, seated_upto, placed}
-use Rattle.edf_pick.specs.private.First.{staying, seated_all}
+use Rattle.edf_pick.specs.Places.{Places, is_chosen_number, kept_if_chosen, assigned, assigned_if, assigned_upto, placed}
+use Rattle.edf_pick.specs.private.First.{kept_running, assigned_all}
 use Rattle.edf_pick.proofs.Before.{before_itself}
 use Rattle.edf_pick.proofs.Rising.{place, rising_parted}
 
@@ -43,7 +43,7 @@ count_prefix p (x ∷ xs) parted =
           zero-add (sum_by one xs) ∙ nothing
     ] refl)
 
--- in a queue as many are before a task as stand in front of its place
+-- in a queue as many are before a task as run in front of its place
 pub rank_place : (queue : List Candidate) (c : Candidate) → IsRising queue → rank queue c ≡ place c queue
 rank_place queue c rising = count_prefix (λ a. is_before a c) queue (rising_parted c queue rising)
 
@@ -76,7 +76,7 @@ number_first cpus queue n rising =
     (λ k d h l. ap (λ (j : ℕ). ltb j cpus) (rank_at queue k d rising h) ∙ lt-ltb k cpus l)
     (λ k d h l. ap (λ (j : ℕ). ltb j cpus) (rank_at queue k d rising h) ∙ le-ltb k cpus l)
 
-kept_is : (cpus : ℕ) (queue : List Candidate) (occupant : Option ℕ) → IsRising queue → staying (take cpus queue) occupant ≡ kept_if_chosen cpus queue occupant
+kept_is : (cpus : ℕ) (queue : List Candidate) (occupant : Option ℕ) → IsRising queue → kept_running (take cpus queue) occupant ≡ kept_if_chosen cpus queue occupant
 kept_is cpus queue None rising = refl
 kept_is cpus queue (Some n) rising = ap (λ (b : Bool). cond b (Some n) None) (sym (number_first cpus queue n rising))
 
@@ -98,24 +98,24 @@ ranked_is queue r rising =
           ∙ slice_get_past queue (length queue) (omega arith) ∙ sym (slice_get_past queue r h)
     ])
 
-pub seated_more : (chosen : List Candidate) (places : Places) (i : ℕ) (d : Candidate) → i < length chosen → seated_all (take (i + 1) chosen) places ≡ seated (seated_all (take i chosen) places) (get_or chosen i d)
-seated_more chosen places i d h = fold_more seated places chosen i d h
+pub assigned_more : (chosen : List Candidate) (places : Places) (i : ℕ) (d : Candidate) → i < length chosen → assigned_all (take (i + 1) chosen) places ≡ assigned (assigned_all (take i chosen) places) (get_or chosen i d)
+assigned_more chosen places i d h = fold_more assigned places chosen i d h
 
-seated_first : (queue : List Candidate) (places : Places) (r : ℕ) → IsRising queue → seated_upto queue places r ≡ seated_all (take r queue) places
-seated_first queue places zero rising = refl
-seated_first queue places (suc r) rising =
-    let before = seated_all (take r queue) places in
+assigned_first : (queue : List Candidate) (places : Places) (r : ℕ) → IsRising queue → assigned_upto queue places r ≡ assigned_all (take r queue) places
+assigned_first queue places zero rising = refl
+assigned_first queue places (suc r) rising =
+    let before = assigned_all (take r queue) places in
     let one : r + 1 ≡ suc r = omega arith in
-    ap (λ (o : Option Candidate). seated_if (seated_upto queue places r) o) (ranked_is queue r rising)
-    ∙ ap (λ (ps : Places). seated_if ps (slice_get queue r)) (seated_first queue places r rising)
+    ap (λ (o : Option Candidate). assigned_if (assigned_upto queue places r) o) (ranked_is queue r rising)
+    ∙ ap (λ (ps : Places). assigned_if ps (slice_get queue r)) (assigned_first queue places r rising)
     ∙ (elim (cases_lt r (length queue)) [
-      | inl h ↦ ap (λ (o : Option Candidate). seated_if before o) (slice_get-get_or queue r nobody h)
-          ∙ sym (seated_more queue places r nobody h) ∙ ap (λ (k : ℕ). seated_all (take k queue) places) one
-      | inr h ↦ ap (λ (o : Option Candidate). seated_if before o) (slice_get_past queue r h)
-          ∙ ap (λ (xs : List Candidate). seated_all xs places) (take_all r queue h ∙ sym (take_all (suc r) queue (omega arith)))
+      | inl h ↦ ap (λ (o : Option Candidate). assigned_if before o) (slice_get-get_or queue r nobody h)
+          ∙ sym (assigned_more queue places r nobody h) ∙ ap (λ (k : ℕ). assigned_all (take k queue) places) one
+      | inr h ↦ ap (λ (o : Option Candidate). assigned_if before o) (slice_get_past queue r h)
+          ∙ ap (λ (xs : List Candidate). assigned_all xs places) (take_all r queue h ∙ sym (take_all (suc r) queue (omega arith)))
     ])
 
-pub picked : (cpus : ℕ) (queue : List Candidate) (before : Places) → IsRising queue → seated_all (take cpus queue) (map (staying (take cpus queue)) before) ≡ placed cpus queue before
+pub picked : (cpus : ℕ) (queue : List Candidate) (before : Places) → IsRising queue → assigned_all (take cpus queue) (map (kept_running (take cpus queue)) before) ≡ placed cpus queue before
 picked cpus queue before rising =
-    ap (λ (ps : Places). seated_all (take cpus queue) ps) (map_same (staying (take cpus queue)) (kept_if_chosen cpus queue) (λ o. kept_is cpus queue o rising) before)
-    ∙ sym (seated_first queue (map (kept_if_chosen cpus queue) before) cpus rising)
+    ap (λ (ps : Places). assigned_all (take cpus queue) ps) (map_same (kept_running (take cpus queue)) (kept_if_chosen cpus queue) (λ o. kept_is cpus queue o rising) before)
+    ∙ sym (assigned_first queue (map (kept_if_chosen cpus queue) before) cpus rising)

@@ -1,4 +1,5 @@
--- After a choice each task that stands belongs to its CPU: those that start get it, the others have it.
+-- After a choice each task that runs belongs to its CPU: those that start get it, the others have
+-- it.
 use Rattle.std.proofs.Common.{◌≡◌, ◌≢◌, ◌<◌, ◌+◌, ℕ, zero, suc, Bool, true, false, cond, ltb, Some, None, List, [], ◌∷◌, length, map, get_or, refl, sym, ap, ◌∙◌, subst, arith, inl, inr, eq-eqb, zero-add}
 use Rattle.std.specs.Prelude.{◌⊎◌, All, position}
 use Rattle.std.specs.List.{position_or_len}
@@ -8,11 +9,11 @@ use Rattle.edf_pick.specs.declared.candidate.Candidate.{Candidate}
 use Rattle.edf_pick.specs.declared.moves.Moved.{Moved}
 use Rattle.edf_pick.specs.Changes.{home_on, with_home}
 use Rattle.edf_pick.specs.Moves.{same_occupant, moved_from}
-use Rattle.edf_pick.specs.Places.{Places, AreSingle, is_task, stands}
+use Rattle.edf_pick.specs.Places.{Places, AreSingle, is_task, is_on_cpu}
 use Rattle.edf_pick.specs.Schedule.{IsAtHome, homed_on, homed_by}
-use Rattle.edf_pick.proofs.Marked.{task_is, occupied, stands_here}
+use Rattle.edf_pick.proofs.Occupants.{task_is, occupied, runs_here}
 use Rattle.edf_pick.proofs.Moving.{same_is}
-use Rattle.edf_pick.proofs.Standing.{stands_where}
+use Rattle.edf_pick.proofs.OnCpu.{runs_where}
 
 -- MAPS
 pub map_same_on : (f g : Candidate → Candidate) (xs : List Candidate) → All (λ x. f x ≡ g x) xs → map f xs ≡ map g xs
@@ -20,7 +21,7 @@ map_same_on f g [] same = refl
 map_same_on f g (x ∷ xs) same =
     ap (λ (y : Candidate). y ∷ map f xs) (same 0 x (omega arith)) ∙ ap (λ (ys : List Candidate). g x ∷ ys) (map_same_on f g xs (λ k d h. same (suc k) d (omega (arith, h))))
 
--- where a task stands
+-- where a task runs
 pub on_position : (places : Places) (cpu n : ℕ) → AreSingle places → get_or places cpu None ≡ Some n → position (is_task n) places ≡ Some cpu
 on_position places cpu n single on =
     let within : cpu < length places = occupied places cpu n on in
@@ -44,17 +45,17 @@ off places cpu c e = ap (λ (b : Bool). cond b (record c { home = cpu }) c) e
 
 -- ALL CPUS
 
--- who stands nowhere keeps its home
-nowhere : (places : Places) (n cpu : ℕ) → stands n places ≡ false → is_task n (get_or places cpu None) ≡ false
+-- a task that runs nowhere keeps its home
+nowhere : (places : Places) (n cpu : ℕ) → is_on_cpu n places ≡ false → is_task n (get_or places cpu None) ≡ false
 nowhere [] n cpu e = refl
-nowhere (o ∷ places) n zero e = (or_parts (is_task n o) (stands n places) e).0
-nowhere (o ∷ places) n (suc cpu) e = nowhere places n cpu (or_parts (is_task n o) (stands n places) e).1
+nowhere (o ∷ places) n zero e = (or_parts (is_task n o) (is_on_cpu n places) e).0
+nowhere (o ∷ places) n (suc cpu) e = nowhere places n cpu (or_parts (is_task n o) (is_on_cpu n places) e).1
 
-by_nowhere : (places : Places) (moves : List Moved) (c : Candidate) → stands c.number places ≡ false → homed_by places moves c ≡ c
+by_nowhere : (places : Places) (moves : List Moved) (c : Candidate) → is_on_cpu c.number places ≡ false → homed_by places moves c ≡ c
 by_nowhere places [] c e = refl
 by_nowhere places (m ∷ moves) c e = ap (λ (a : Candidate). homed_by places moves a) (off places m.cpu c (nowhere places c.number m.cpu e)) ∙ by_nowhere places moves c e
 
-pub no_position : (places : Places) (n : ℕ) → stands n places ≡ false → position (is_task n) places ≡ None
+pub no_position : (places : Places) (n : ℕ) → is_on_cpu n places ≡ false → position (is_task n) places ≡ None
 no_position places n e =
     let k : position_or_len (is_task n) places ≡ length places = position_or_len_is (is_task n) places (length places) None (omega arith) (λ k l. nowhere places n k e) (λ l. absurd (omega arith)) in
     ap (λ (j : ℕ). cond (ltb j (length places)) (Some j) None) k ∙ ap (λ (b : Bool). cond b (Some (length places)) None) (le-ltb (length places) (length places) (omega arith))
@@ -112,9 +113,9 @@ listed k (suc i) (b ∷ before) (a ∷ after) len h differs =
 module _ (before after : Places) (len : length after ≡ length before) (was : AreSingle before) (single : AreSingle after) where
   pub homes_of : (c : Candidate) → IsAtHome before c → homed_by after (moved_from 0 before after) c ≡ with_home after c
   homes_of c home =
-      elim (cases_Bool (stands c.number after)) [
+      elim (cases_Bool (is_on_cpu c.number after)) [
         | inl there ↦
-            let w = stands_where c.number after there in
+            let w = runs_where c.number after there in
             let within : w.0 < length after = occupied after w.0 c.number w.1 in
             let is : with_home after c ≡ record c { home = w.0 } = ap (home_on c) (on_position after w.0 c.number single w.1) in
             by_where after (moved_from 0 before after) c w.0 single w.1 (why w.0 w.1 within) ∙ sym is
@@ -125,9 +126,9 @@ module _ (before after : Places) (len : length after ≡ length before) (was : A
       why cpu on within =
           elim (cases_Bool (same_occupant (get_or before cpu None) (get_or after cpu None))) [
             | inl same ↦
-                let stood : get_or before cpu None ≡ Some c.number = same_is (get_or before cpu None) (get_or after cpu None) same ∙ on in
-                let at_home : get_or before c.home None ≡ Some c.number = task_is c.number (get_or before c.home None) (home (stands_here c.number before cpu stood)) in
-                inl (was c.home cpu c.number at_home stood)
+                let was_on_cpu : get_or before cpu None ≡ Some c.number = same_is (get_or before cpu None) (get_or after cpu None) same ∙ on in
+                let at_home : get_or before c.home None ≡ Some c.number = task_is c.number (get_or before c.home None) (home (runs_here c.number before cpu was_on_cpu)) in
+                inl (was c.home cpu c.number at_home was_on_cpu)
             | inr differs ↦
                 let l = listed 0 cpu before after (sym len) (omega (arith, len, within)) differs in
                 inr (l.0, l.1, l.2, l.3 ∙ zero-add cpu)

@@ -59,7 +59,7 @@ before_too c queue j k n m rising less within one other some = elim (cases_lt 0 
 ]
 
 module _ (c : Candidate) (queue : List Candidate) (at width part : ℕ) (rising : IsRising queue) (is : IsSearched c queue at width) (fits : 4 * part ≤ width) (within : at + 3 * part < length queue) where
-  -- from a place on, where the one a part behind it is not before c
+  -- from a place on, where the one a part after it is not before c
   stays : (from left sum next : ℕ) → at + part * sum ≡ from → from + left ≡ at + width → left ≤ width → next ≡ from + part → next ≤ at + 3 * part → IsSearched c queue from left → is_before (get_or queue next c) c ≡ false → IsSearched c queue (at + part * sum) (width - 3 * part)
   stays from left sum next to same less after upto here late =
       subst (λ (k : ℕ). IsSearched c queue k (width - 3 * part)) (sym to)

@@ -12,92 +12,92 @@ use Rattle.edf_pick.specs.declared.candidate.Candidate.{Candidate}
 use Rattle.edf_pick.specs.Changes.{with_home}
 use Rattle.edf_pick.specs.Moves.{same_occupant}
 use Rattle.edf_pick.specs.Order.{by_deadline}
-use Rattle.edf_pick.specs.Places.{Places, count_occupant, put, seat_of, seated, stands, AreSingle, AreTaken, placed}
+use Rattle.edf_pick.specs.Places.{Places, count_occupant, put, cpu_for, assigned, is_on_cpu, AreSingle, AreTaken, placed}
 use Rattle.edf_pick.specs.private.Choosing.{IsChosen}
-use Rattle.edf_pick.specs.private.First.{seated_all}
-use Rattle.edf_pick.specs.private.Waiting.{all_held, staying_on, all_waiting, AreOn, IsWaiting, AreSeated}
+use Rattle.edf_pick.specs.private.First.{assigned_all}
+use Rattle.edf_pick.specs.private.Ready.{all_held, running_places, all_ready, AreOn, IsReady, AreAssigned}
 use Rattle.edf_pick.proofs.Chosen.{all_before}
-use Rattle.edf_pick.proofs.Marked.{all_stay, put_at, stands_here}
+use Rattle.edf_pick.proofs.Occupants.{all_stay, put_at, runs_here}
 use Rattle.edf_pick.proofs.Moving.{same_all}
 use Rattle.edf_pick.proofs.Sorting.{ordered_same}
-use Rattle.edf_pick.proofs.Waits.{next_seat, stays_length, stays_where, placed_by_movers, seated_homed, seated_waiting}
+use Rattle.edf_pick.proofs.Waits.{next_assign, stays_length, stays_where, placed_by_movers, assigned_homed, assigned_ready}
 
 pub none_taken : (o : Option ℕ) → count_occupant o ≡ 0 → o ≡ None
 none_taken None e = refl
 none_taken (Some n) e = absurd (omega arith)
 
--- who stays stood there before
-pub stays_stood : (stays : List (Option Candidate)) (old : Places) (cpu n : ℕ) → AreOn stays old → get_or (staying_on stays) cpu None ≡ Some n → get_or old cpu None ≡ Some n
-stays_stood stays old cpu n on at = let w = stays_where stays cpu n at in (on cpu w.0 w.1).1 ∙ ap (λ (k : ℕ). Some k) w.2
+-- who stays ran there before
+pub stays_run : (stays : List (Option Candidate)) (old : Places) (cpu n : ℕ) → AreOn stays old → get_or (running_places stays) cpu None ≡ Some n → get_or old cpu None ≡ Some n
+stays_run stays old cpu n on at = let w = stays_where stays cpu n at in (on cpu w.0 w.1).1 ∙ ap (λ (k : ℕ). Some k) w.2
 
 -- who does not stay has gone
-pub kept_are : (stays : List (Option Candidate)) (old new : Places) (marks stood left : ℕ) → AreOn stays old → length stays ≡ length old → length new ≡ length old → AreTaken (staying_on stays) marks → AreTaken old stood
-    → ((i : ℕ) → bit_at left i ≡ 1 → bit_at marks i ≡ 0) → ((i : ℕ) → bit_at left i ≡ 0 → bit_at marks i ≡ 0 → bit_at stood i ≡ 0)
+pub kept_are : (stays : List (Option Candidate)) (old new : Places) (marks was_on_cpu left : ℕ) → AreOn stays old → length stays ≡ length old → length new ≡ length old → AreTaken (running_places stays) marks → AreTaken old was_on_cpu
+    → ((i : ℕ) → bit_at left i ≡ 1 → bit_at marks i ≡ 0) → ((i : ℕ) → bit_at left i ≡ 0 → bit_at marks i ≡ 0 → bit_at was_on_cpu i ≡ 0)
     → ((cpu : ℕ) → bit_at left cpu ≡ 1 → get_or new cpu None ≡ None) → ((cpu : ℕ) → bit_at left cpu ≡ 0 → get_or new cpu None ≡ get_or old cpu None)
-    → new ≡ staying_on stays
-kept_are stays old new marks stood left on many len marked there only bare gone others =
+    → new ≡ running_places stays
+kept_are stays old new marks was_on_cpu left on many len marked there only bare gone others =
     let all = stays_length stays in
-    same_all new (staying_on stays) (omega (arith, all, many, len)) (λ cpu. elim (cases_eq (bit_at left cpu) 1) [
-      | inl mark ↦ gone cpu mark ∙ sym (none_taken (get_or (staying_on stays) cpu None) (sym (marked cpu) ∙ only cpu mark))
+    same_all new (running_places stays) (omega (arith, all, many, len)) (λ cpu. elim (cases_eq (bit_at left cpu) 1) [
+      | inl mark ↦ gone cpu mark ∙ sym (none_taken (get_or (running_places stays) cpu None) (sym (marked cpu) ∙ only cpu mark))
       | inr other ↦
           let few = bit_at-lt left cpu in
           let zero : bit_at left cpu ≡ 0 = omega (arith, other, few) in
-          others cpu zero ∙ by_stay cpu zero (get_or (staying_on stays) cpu None) refl
+          others cpu zero ∙ by_stay cpu zero (get_or (running_places stays) cpu None) refl
     ])
   where
-    by_stay : (cpu : ℕ) → bit_at left cpu ≡ 0 → (o : Option ℕ) → get_or (staying_on stays) cpu None ≡ o → get_or old cpu None ≡ get_or (staying_on stays) cpu None
+    by_stay : (cpu : ℕ) → bit_at left cpu ≡ 0 → (o : Option ℕ) → get_or (running_places stays) cpu None ≡ o → get_or old cpu None ≡ get_or (running_places stays) cpu None
     by_stay cpu zero None e = none_taken (get_or old cpu None) (sym (there cpu) ∙ bare cpu zero (marked cpu ∙ ap count_occupant e)) ∙ sym e
-    by_stay cpu zero (Some n) e = stays_stood stays old cpu n on e ∙ sym e
+    by_stay cpu zero (Some n) e = stays_run stays old cpu n on e ∙ sym e
 
 -- each occupant stays
-pub stay_all : (stays : List (Option Candidate)) (places : Places) (marks : ℕ) → AreOn stays places → length stays ≡ length places → AreTaken (staying_on stays) marks → AreTaken places marks → staying_on stays ≡ places
+pub stay_all : (stays : List (Option Candidate)) (places : Places) (marks : ℕ) → AreOn stays places → length stays ≡ length places → AreTaken (running_places stays) marks → AreTaken places marks → running_places stays ≡ places
 stay_all stays places marks on many marked there =
     let all = stays_length stays in
-    same_all (staying_on stays) places (omega (arith, all, many)) (λ cpu. by_stay cpu (get_or (staying_on stays) cpu None) refl)
+    same_all (running_places stays) places (omega (arith, all, many)) (λ cpu. by_stay cpu (get_or (running_places stays) cpu None) refl)
   where
-    by_stay : (cpu : ℕ) (o : Option ℕ) → get_or (staying_on stays) cpu None ≡ o → get_or (staying_on stays) cpu None ≡ get_or places cpu None
+    by_stay : (cpu : ℕ) (o : Option ℕ) → get_or (running_places stays) cpu None ≡ o → get_or (running_places stays) cpu None ≡ get_or places cpu None
     by_stay cpu None e = e ∙ sym (none_taken (get_or places cpu None) (sym (there cpu) ∙ marked cpu ∙ ap count_occupant e))
-    by_stay cpu (Some n) e = e ∙ sym (stays_stood stays places cpu n on e)
+    by_stay cpu (Some n) e = e ∙ sym (stays_run stays places cpu n on e)
 
--- where nobody goes and nobody comes, the same one stands
-pub same_there : (stays : List (Option Candidate)) (movers : List Candidate) (old new : Places) (cpu : ℕ) → AreOn stays old → new ≡ seated_all movers (staying_on stays)
-    → (count_occupant (get_or (staying_on stays) cpu None) ≡ 0 → count_occupant (get_or old cpu None) ≡ 0) → (count_occupant (get_or (staying_on stays) cpu None) ≡ 0 → count_occupant (get_or new cpu None) ≡ 0) → get_or old cpu None ≡ get_or new cpu None
-same_there stays movers old new cpu on is went came = by_occupant (get_or (staying_on stays) cpu None) refl
+-- where nobody goes and nobody comes, the same one runs
+pub same_there : (stays : List (Option Candidate)) (movers : List Candidate) (old new : Places) (cpu : ℕ) → AreOn stays old → new ≡ assigned_all movers (running_places stays)
+    → (count_occupant (get_or (running_places stays) cpu None) ≡ 0 → count_occupant (get_or old cpu None) ≡ 0) → (count_occupant (get_or (running_places stays) cpu None) ≡ 0 → count_occupant (get_or new cpu None) ≡ 0) → get_or old cpu None ≡ get_or new cpu None
+same_there stays movers old new cpu on is went came = by_occupant (get_or (running_places stays) cpu None) refl
   where
-    by_occupant : (o : Option ℕ) → get_or (staying_on stays) cpu None ≡ o → get_or old cpu None ≡ get_or new cpu None
+    by_occupant : (o : Option ℕ) → get_or (running_places stays) cpu None ≡ o → get_or old cpu None ≡ get_or new cpu None
     by_occupant None e =
-        let none : count_occupant (get_or (staying_on stays) cpu None) ≡ 0 = ap count_occupant e in
+        let none : count_occupant (get_or (running_places stays) cpu None) ≡ 0 = ap count_occupant e in
         none_taken (get_or old cpu None) (went none) ∙ sym (none_taken (get_or new cpu None) (came none))
-    by_occupant (Some n) e = stays_stood stays old cpu n on e ∙ sym (ap (λ (ps : Places). get_or ps cpu None) is ∙ all_stay movers (staying_on stays) cpu n e)
+    by_occupant (Some n) e = stays_run stays old cpu n on e ∙ sym (ap (λ (ps : Places). get_or ps cpu None) is ∙ all_stay movers (running_places stays) cpu n e)
 
--- who stands after others have been seated is one of them or stood before
-pub came_from : (cs : List Candidate) (places : Places) (cpu n : ℕ) → get_or (seated_all cs places) cpu None ≡ Some n → (get_or places cpu None ≡ Some n) ⊎ (list_any (λ c. eqb c.number n) cs ≡ true)
+-- the task that runs after others have got their CPUs is one of them or ran before
+pub came_from : (cs : List Candidate) (places : Places) (cpu n : ℕ) → get_or (assigned_all cs places) cpu None ≡ Some n → (get_or places cpu None ≡ Some n) ⊎ (list_any (λ c. eqb c.number n) cs ≡ true)
 came_from [] places cpu n on = inl on
 came_from (c ∷ cs) places cpu n on =
-    elim (came_from cs (seated places c) cpu n on) [
-      | inl stood ↦ by_stand (stands c.number places) stood
+    elim (came_from cs (assigned places c) cpu n on) [
+      | inl was_on_cpu ↦ by_on_cpu (is_on_cpu c.number places) was_on_cpu
       | inr later ↦ inr (or_right (eqb c.number n) (list_any (λ x. eqb x.number n) cs) later)
     ]
   where
-    by_seat : (o : Option ℕ) → get_or (put places c.number o) cpu None ≡ Some n → (get_or places cpu None ≡ Some n) ⊎ (list_any (λ x. eqb x.number n) (c ∷ cs) ≡ true)
-    by_seat None e = inl e
-    by_seat (Some at) e = elim (put_at places at c.number cpu n e) [
+    by_assign : (o : Option ℕ) → get_or (put places c.number o) cpu None ≡ Some n → (get_or places cpu None ≡ Some n) ⊎ (list_any (λ x. eqb x.number n) (c ∷ cs) ≡ true)
+    by_assign None e = inl e
+    by_assign (Some at) e = elim (put_at places at c.number cpu n e) [
       | inl here ↦ inr (or_left (eqb c.number n) (list_any (λ x. eqb x.number n) cs) (eq-eqb c.number n here.1))
       | inr before ↦ inl before
     ]
 
-    by_stand : (b : Bool) → get_or (cond b places (put places c.number (seat_of places c))) cpu None ≡ Some n → (get_or places cpu None ≡ Some n) ⊎ (list_any (λ x. eqb x.number n) (c ∷ cs) ≡ true)
-    by_stand true e = inl e
-    by_stand false e = by_seat (seat_of places c) e
+    by_on_cpu : (b : Bool) → get_or (cond b places (put places c.number (cpu_for places c))) cpu None ≡ Some n → (get_or places cpu None ≡ Some n) ⊎ (list_any (λ x. eqb x.number n) (c ∷ cs) ≡ true)
+    by_on_cpu true e = inl e
+    by_on_cpu false e = by_assign (cpu_for places c) e
 
--- on a CPU from which somebody has gone or to which somebody has come another one stands
-pub other_there : (stays : List (Option Candidate)) (movers : List Candidate) (old new : Places) (cpu : ℕ) → All (λ c. stands c.number old ≡ false) movers → new ≡ seated_all movers (staying_on stays)
-    → count_occupant (get_or (staying_on stays) cpu None) ≡ 0 → (count_occupant (get_or old cpu None) ≡ 1) ⊎ (count_occupant (get_or new cpu None) ≡ 1) → same_occupant (get_or old cpu None) (get_or new cpu None) ≡ false
+-- on a CPU from which somebody has gone or to which somebody has come another one runs
+pub other_there : (stays : List (Option Candidate)) (movers : List Candidate) (old new : Places) (cpu : ℕ) → All (λ c. is_on_cpu c.number old ≡ false) movers → new ≡ assigned_all movers (running_places stays)
+    → count_occupant (get_or (running_places stays) cpu None) ≡ 0 → (count_occupant (get_or old cpu None) ≡ 1) ⊎ (count_occupant (get_or new cpu None) ≡ 1) → same_occupant (get_or old cpu None) (get_or new cpu None) ≡ false
 other_there stays movers old new cpu away is bare some = by_both (get_or old cpu None) (get_or new cpu None) refl refl
   where
     came : (n : ℕ) → get_or new cpu None ≡ Some n → list_any (λ c. eqb c.number n) movers ≡ true
-    came n on = elim (came_from movers (staying_on stays) cpu n (ap (λ (ps : Places). get_or ps cpu None) (sym is) ∙ on)) [
-      | inl stood ↦ absurd (let one : count_occupant (get_or (staying_on stays) cpu None) ≡ 1 = ap count_occupant stood in omega (arith, bare, one))
+    came n on = elim (came_from movers (running_places stays) cpu n (ap (λ (ps : Places). get_or ps cpu None) (sym is) ∙ on)) [
+      | inl was_on_cpu ↦ absurd (let one : count_occupant (get_or (running_places stays) cpu None) ≡ 1 = ap count_occupant was_on_cpu in omega (arith, bare, one))
       | inr there ↦ there
     ]
 
@@ -110,8 +110,8 @@ other_there stays movers old new cpu away is bare some = by_both (get_or old cpu
     by_both (Some m) None at_o at_p = refl
     by_both (Some m) (Some n) at_o at_p = ne_eqb m n (λ same.
         let none : list_any (λ c. eqb c.number n) movers ≡ false = list_any_none (λ c. eqb c.number n) movers (λ k d h. ne_eqb (get_or movers k d).number n (λ number.
-        let stand : stands (get_or movers k d).number old ≡ true = ap (λ j. stands j old) (number ∙ sym same) ∙ stands_here m old cpu at_o in
-        let clash : true ≡ false = sym stand ∙ away k d h in cc)) in
+        let on_one : is_on_cpu (get_or movers k d).number old ≡ true = ap (λ j. is_on_cpu j old) (number ∙ sym same) ∙ runs_here m old cpu at_o in
+        let clash : true ≡ false = sym on_one ∙ away k d h in cc)) in
         let clash : true ≡ false = sym (came n at_p) ∙ none in cc)
 
 -- MARKS
@@ -131,30 +131,30 @@ either a b c i only e = elim (cases_eq (bit_at a i) 1) [
 
 -- the next mover has a seat
 pub next_mover : (stays : List (Option Candidate)) (movers : List Candidate) (i : ℕ) (d : Candidate) (now : List (Option Candidate)) (places : Places) → length (all_held stays) + length movers ≤ length stays → i < length movers
-    → AreSeated stays (take i movers) now places → (cpu : ℕ) × (seat_of places (get_or movers i d) ≡ Some cpu)
+    → AreAssigned stays (take i movers) now places → (cpu : ℕ) × (cpu_for places (get_or movers i d) ≡ Some cpu)
 next_mover stays movers i d now places free h is =
     let some = length-take-le i movers (omega (arith, h)) in
-    next_seat stays (take i movers) now places (get_or movers i d) is (omega (arith, some, free, h))
+    next_assign stays (take i movers) now places (get_or movers i d) is (omega (arith, some, free, h))
 
 -- THE WHOLE CHOICE
-module _ (stays0 : List (Option Candidate)) (waiting0 : List Candidate) (stays : List (Option Candidate)) (movers waiting : List Candidate) (before : Places) (now : List (Option Candidate)) (places : Places) (is : IsWaiting stays0 waiting0 before)
-    (single : AreSingle before) (same : IsPermutation (all_held stays0 ++ waiting0) (all_held stays ++ (movers ++ waiting))) (chosen : IsChosen stays movers waiting before) (seats : AreSeated stays movers now places) where
-  whole : all_waiting stays0 waiting0 ≡ by_deadline (all_held stays ++ (movers ++ waiting))
-  whole = ordered_same (all_held stays0 ++ waiting0) (all_held stays ++ (movers ++ waiting)) is.numbered same
+module _ (stays0 : List (Option Candidate)) (waiting0 : List Candidate) (stays : List (Option Candidate)) (movers ready_rest : List Candidate) (before : Places) (now : List (Option Candidate)) (places : Places) (is : IsReady stays0 waiting0 before)
+    (single : AreSingle before) (same : IsPermutation (all_held stays0 ++ waiting0) (all_held stays ++ (movers ++ ready_rest))) (chosen : IsChosen stays movers ready_rest before) (assignments : AreAssigned stays movers now places) where
+  whole : all_ready stays0 waiting0 ≡ by_deadline (all_held stays ++ (movers ++ ready_rest))
+  whole = ordered_same (all_held stays0 ++ waiting0) (all_held stays ++ (movers ++ ready_rest)) is.numbered same
 
-  pub picked_places : placed (length before) (all_waiting stays0 waiting0) before ≡ places
+  pub picked_places : placed (length before) (all_ready stays0 waiting0) before ≡ places
   picked_places =
       let it = chosen.choosing in
       ap (λ (xs : List Candidate). placed (length before) xs before) whole
-      ∙ placed_by_movers (length before) stays movers waiting before it.len it.numbered it.rising it.waits it.on it.away single it.few chosen.all (all_before stays movers waiting before chosen)
-      ∙ sym seats.seated
+      ∙ placed_by_movers (length before) stays movers ready_rest before it.len it.numbered it.rising it.waits it.on it.away single it.few chosen.all (all_before stays movers ready_rest before chosen)
+      ∙ sym assignments.assigned
 
-  pub picked_homes : map (with_home places) (all_waiting stays0 waiting0) ≡ all_waiting now waiting
+  pub picked_homes : map (with_home places) (all_ready stays0 waiting0) ≡ all_ready now ready_rest
   picked_homes =
       let it = chosen.choosing in
-      ap (λ (xs : List Candidate). map (with_home places) xs) whole ∙ seated_homed stays movers waiting before now places it.numbered it.on single seats
+      ap (λ (xs : List Candidate). map (with_home places) xs) whole ∙ assigned_homed stays movers ready_rest before now places it.numbered it.on single assignments
 
-  pub picked_waiting : IsWaiting now waiting places
-  picked_waiting =
+  pub picked_ready : IsReady now ready_rest places
+  picked_ready =
       let it = chosen.choosing in
-      seated_waiting stays movers waiting before now places it.numbered it.on single seats
+      assigned_ready stays movers ready_rest before now places it.numbered it.on single assignments

@@ -1,4 +1,5 @@
--- A list in order: one for the same tasks, and what stays in order when tasks go, change or come behind.
+-- A list in order: one for the same tasks, and what stays in order when tasks go, change or come
+-- after.
 use Rattle.std.proofs.Common.{◌≡◌, ◌≢◌, ◌<◌, ◌≤◌, ℕ, zero, suc, Bool, true, false, cond, eqb, ltb, ◌&&◌, ◌||◌, List, [], ◌∷◌, ◌++◌, length, get_or, map, refl, sym, subst, ap, ◌∙◌, arith, inl, inr, ◌⊎◌, eq-eqb}
 use Rattle.std.specs.Prelude.{All, Contains, filter, not, sum_by}
 use Rattle.std.specs.List.Sorted.{IsPermutation}
@@ -86,7 +87,7 @@ contains_parts x xs a at = by_place at.0 at.1 at.2
 after_first : (a : Candidate) (xs : List Candidate) → IsRising (a ∷ xs) → (x : Candidate) → Contains xs x → is_before a x ≡ true
 after_first a xs rising x at = All-contains (λ b. is_before a b ≡ true) xs x (rising_first a xs rising) at
 
--- what is behind the first is not the first
+-- what is after the first is not the first
 never_first : (a : Candidate) (xs : List Candidate) → IsRising (a ∷ xs) → Contains xs a → ⊥
 never_first a xs rising at = let clash : true ≡ false = sym (after_first a xs rising a at) ∙ before_itself a in cc
 
@@ -94,10 +95,10 @@ firsts_same : (a b : Candidate) (us vs : List Candidate) → IsRising (a ∷ us)
 firsts_same a b us vs ra rb ab ba =
     elim (contains_parts b vs a ab) [
       | inl same ↦ sym same
-      | inr behind ↦ elim (contains_parts a us b ba) [
+      | inr following ↦ elim (contains_parts a us b ba) [
         | inl same ↦ same
         | inr after ↦
-            let one = after_first b vs rb a behind in
+            let one = after_first b vs rb a following in
             let other = after_first a us ra b after in
             absurd (let clash : true ≡ false = sym other ∙ before_reverse b a one in cc)
       ]
@@ -158,13 +159,13 @@ contains_filter p (a ∷ xs) x at passes =
 pub contains_from_filter : (p : Candidate → Bool) (xs : List Candidate) (x : Candidate) → Contains (filter p xs) x → Contains xs x × (p x ≡ true)
 contains_from_filter p [] x at = absurd (let h = at.1 in omega (arith, h))
 contains_from_filter p (a ∷ xs) x at =
-    let behind : Contains (filter p xs) x → Contains (a ∷ xs) x × (p x ≡ true) = λ later. let rest = contains_from_filter p xs x later in (contains_later a xs x rest.0, rest.1) in
+    let following : Contains (filter p xs) x → Contains (a ∷ xs) x × (p x ≡ true) = λ later. let rest = contains_from_filter p xs x later in (contains_later a xs x rest.0, rest.1) in
     elim (cases_Bool (p a)) [
       | inl e ↦ elim (contains_parts a (filter p xs) x (subst (λ ys. Contains ys x) (cond-true (p a) (a ∷ filter p xs) (filter p xs) e) at)) [
         | inl same ↦ (subst (λ c. Contains (a ∷ xs) c) same (contains_first a xs), ap p (sym same) ∙ e)
-        | inr later ↦ behind later
+        | inr later ↦ following later
       ]
-      | inr e ↦ behind (subst (λ ys. Contains ys x) (cond-false (p a) (a ∷ filter p xs) (filter p xs) e) at)
+      | inr e ↦ following (subst (λ ys. Contains ys x) (cond-false (p a) (a ∷ filter p xs) (filter p xs) e) at)
     ]
 
 pub ordered_filter : (p : Candidate → Bool) (xs : List Candidate) → IsNumbered xs → filter p (by_deadline xs) ≡ by_deadline (filter p xs)
@@ -211,7 +212,7 @@ pub ordered_map : (f : Candidate → Candidate) → KeepsPlace f → (xs : List 
 ordered_map f keeps [] = refl
 ordered_map f keeps (c ∷ xs) = map_with f keeps c (by_deadline xs) ∙ ap (λ (ys : List Candidate). with_candidate (f c) ys) (ordered_map f keeps xs)
 
--- ---- SOME BEHIND THE OTHERS
+-- ---- SOME After THE OTHERS
 
 pub rising_append : (xs ys : List Candidate) → IsRising xs → IsRising ys → All (λ a. All (λ b. is_before a b ≡ true) ys) xs → IsRising (xs ++ ys)
 rising_append [] ys rx ry apart = ry

@@ -1,4 +1,4 @@
--- The tasks that stand from one place of a room up to another, after a move.
+-- The tasks that run from one place of a room up to another, after a move.
 use Rattle.std.proofs.Common.{◌≡◌, ◌<◌, ◌≤◌, ◌+◌, ◌-◌, ℕ, List, length, drop, get_or, set, sym, ap, ◌∙◌, arith, inl, inr}
 use Rattle.std.specs.List.{insert, remove}
 use Rattle.std.proofs.lemmas.Bool.{cases_eq, cases_lt}
@@ -69,21 +69,21 @@ module _ (front end low high place : ℕ) (xs ys : List Candidate) (there : fron
   new_len : length (tasks_between low high ys) ≡ high - low
   new_len = between_len low high ys (omega (arith, there, many)) within
 
-  stands : place < length (tasks_between front end xs)
-  stands = omega (arith, there, old_len)
+  is_on_cpu : place < length (tasks_between front end xs)
+  is_on_cpu = omega (arith, there, old_len)
 
   left : (i : ℕ) (d : Candidate) → low + i < high → get_or (tasks_between low high ys) i d ≡ get_or (remove (tasks_between front end xs) place) i d
   left i d h =
       elim (cases_lt i place) [
         | inl less ↦
-            between_get low high ys i d h ∙ below i d less ∙ sym (between_get front end xs i d (omega (arith, less, there))) ∙ sym (get_or-remove_below (tasks_between front end xs) place d i less stands)
+            between_get low high ys i d h ∙ below i d less ∙ sym (between_get front end xs i d (omega (arith, less, there))) ∙ sym (get_or-remove_below (tasks_between front end xs) place d i less is_on_cpu)
         | inr more ↦
-            between_get low high ys i d h ∙ above i d more (omega (arith, h, many)) ∙ sym (between_get front end xs (i + 1) d (omega (arith, h, many))) ∙ sym (get_or-remove_above (tasks_between front end xs) place d i more stands)
+            between_get low high ys i d h ∙ above i d more (omega (arith, h, many)) ∙ sym (between_get front end xs (i + 1) d (omega (arith, h, many))) ∙ sym (get_or-remove_above (tasks_between front end xs) place d i more is_on_cpu)
       ]
 
   pub between_removed : tasks_between low high ys ≡ remove (tasks_between front end xs) place
   between_removed =
-      let less : length (remove (tasks_between front end xs) place) + 1 ≡ length (tasks_between front end xs) = length-remove (tasks_between front end xs) place stands in
+      let less : length (remove (tasks_between front end xs) place) + 1 ≡ length (tasks_between front end xs) = length-remove (tasks_between front end xs) place is_on_cpu in
       ext_get_or nobody (tasks_between low high ys) (remove (tasks_between front end xs) place) (omega (arith, old_len, new_len, less, many, there)) (λ i h. left i nobody (omega (arith, h, new_len)))
 
 -- ---- WHAT A COPY WITHIN THE ROOM LEAVES
@@ -134,7 +134,7 @@ module _ (front end place : ℕ) (xs zs : List Candidate) (len : length zs ≡ l
       (λ i d h. moved (front + 1 + i) d (omega arith) (omega (arith, h)) ∙ ap (λ (n : ℕ). get_or xs n d) (let e : front + (front + 1 + i - (front + 1)) ≡ front + i = omega arith in e))
       (λ i d h k. still (front + 1 + i) d (omega (arith, h)) ∙ ap (λ (n : ℕ). get_or xs n d) (let e : front + 1 + i ≡ front + (i + 1) = omega arith in e))
 
-  -- those behind the place have gone down by one
+  -- those after the place have gone down by one
   pub removed_above : front + place < end
       → ((k : ℕ) (d : Candidate) → front + place ≤ k → k < front + place + (end - (front + place + 1)) → get_or zs k d ≡ get_or xs (front + place + 1 + (k - (front + place))) d)
       → ((k : ℕ) (d : Candidate) → k < front + place → get_or zs k d ≡ get_or xs k d)

@@ -8,17 +8,17 @@ use Rattle.std.proofs.lemmas.Nat.Bits.{bit_at-lt, bit_at-zero}
 use Rattle.edf_pick.specs.declared.candidate.Candidate.{Candidate}
 use Rattle.edf_pick.specs.Choice.{is_before}
 use Rattle.edf_pick.specs.Places.{count_occupant, AreTaken}
-use Rattle.edf_pick.specs.private.Waiting.{all_held, candidate_number, staying_on}
-use Rattle.edf_pick.specs.private.Staying.{bare_key, stay_of, stays_of, IsLatest, IsStaying}
+use Rattle.edf_pick.specs.private.Ready.{all_held, candidate_number, running_places}
+use Rattle.edf_pick.specs.private.RunningSet.{bare_key, stay_of, stays_of, IsLatest, IsRunningSet}
 use Rattle.edf_pick.proofs.Held.{All_held}
-use Rattle.edf_pick.proofs.Before.{before_itself, before_tells, before_past}
+use Rattle.edf_pick.proofs.Before.{before_itself, before_logs, before_past}
 
 -- THE ORDER
 pub past_both : (a b c : Candidate) → is_before a b ≡ false → is_before b c ≡ false → is_before a c ≡ false
 past_both a b c p q = false_from_ne_true (is_before a c) (λ h. both_ways (is_before b c) q (before_past a b c p h))
 
 pub never_before_bare : (c : Candidate) → is_before c bare_key ≡ false
-never_before_bare c = false_from_ne_true (is_before c bare_key) (λ h. elim (before_tells c bare_key h) [ inl x ↦ absurd (omega arith) | inr x ↦ absurd (omega arith) ])
+never_before_bare c = false_from_ne_true (is_before c bare_key) (λ h. elim (before_logs c bare_key h) [ inl x ↦ absurd (omega arith) | inr x ↦ absurd (omega arith) ])
 
 -- THE VIEW
 pub stays_at : (mark : ℕ → ℕ) (keys : List Candidate) (k : ℕ) (d : Candidate) → (mark k ≡ 1 → k < length keys) → get_or (stays_of mark keys) k None ≡ stay_of (mark k) (get_or keys k d)
@@ -135,7 +135,7 @@ view_none cpus few =
     same_stays (stays_of (bit_at 0) (take cpus keys)) (replicate cpus None) (omega (arith, len, all))
     (λ k. view_at 0 cpus k keys (length-replicate 64 bare_key) few within ∙ stay_bare (bit_at 0 k) (get_or keys k bare_key) (bit_at-zero k) ∙ sym (none_at cpus k))
 
-pub none_stay : (cpus : ℕ) → cpus ≤ 64 → IsStaying cpus 0 0 (replicate 64 bare_key) (replicate 8 bare_key) 0 bare_key
+pub none_stay : (cpus : ℕ) → cpus ≤ 64 → IsRunningSet cpus 0 0 (replicate 64 bare_key) (replicate 8 bare_key) 0 bare_key
 none_stay cpus few =
     let clash : (k : ℕ) → bit_at 0 k ≡ 1 → ⊥ = λ k e. let none = bit_at-zero k in omega (arith, e, none) in
     record {
@@ -168,7 +168,7 @@ taken_of zero c few = refl
 taken_of (suc zero) c few = refl
 taken_of (suc (suc m)) c few = absurd (omega arith)
 
-pub marks_taken : (marks cpus : ℕ) (keys : List Candidate) → length keys ≡ 64 → cpus ≤ 64 → ((cpu : ℕ) → bit_at marks cpu ≡ 1 → cpu < cpus) → AreTaken (staying_on (stays_of (bit_at marks) (take cpus keys))) marks
+pub marks_taken : (marks cpus : ℕ) (keys : List Candidate) → length keys ≡ 64 → cpus ≤ 64 → ((cpu : ℕ) → bit_at marks cpu ≡ 1 → cpu < cpus) → AreTaken (running_places (stays_of (bit_at marks) (take cpus keys))) marks
 marks_taken marks cpus keys full few within cpu =
     let view = stays_of (bit_at marks) (take cpus keys) in
     taken_of (bit_at marks cpu) (get_or keys cpu bare_key) (bit_at-lt marks cpu)
@@ -241,7 +241,7 @@ latest_at keys most c known is =
     (one.there.0, one.there.3 ∙ is.there.3)
 
 -- STEPS
-pub came_view : (cpus busy marks after unknown cpu : ℕ) (keys most : List Candidate) (top key : Candidate) → IsStaying cpus busy marks keys most unknown top → cpu < cpus
+pub came_view : (cpus busy marks after unknown cpu : ℕ) (keys most : List Candidate) (top key : Candidate) → IsRunningSet cpus busy marks keys most unknown top → cpu < cpus
     → bit_at after cpu ≡ 1 → ((k : ℕ) → k ≢ cpu → bit_at after k ≡ bit_at marks k)
     → stays_of (bit_at after) (take cpus (set keys cpu key)) ≡ set (stays_of (bit_at marks) (take cpus keys)) cpu (Some key)
 came_view cpus busy marks after unknown cpu keys most top key is inside mark others =
@@ -253,7 +253,7 @@ came_view cpus busy marks after unknown cpu keys most top key is inside mark oth
     (λ k e. elim (cases_eq k cpu) [ inl same ↦ omega (arith, same, inside) | inr apart ↦ is.within k (sym (others k apart) ∙ e) ])
     (stay_marked (bit_at after cpu) (get_or new cpu bare_key) mark ∙ ap (λ (c : Candidate). Some c) here) others (λ k apart. get_or-set_other keys cpu k key bare_key apart)
 
-pub gone_view : (cpus busy marks after unknown cpu : ℕ) (keys most : List Candidate) (top : Candidate) → IsStaying cpus busy marks keys most unknown top → bit_at marks cpu ≡ 1
+pub gone_view : (cpus busy marks after unknown cpu : ℕ) (keys most : List Candidate) (top : Candidate) → IsRunningSet cpus busy marks keys most unknown top → bit_at marks cpu ≡ 1
     → bit_at after cpu ≡ 0 → ((k : ℕ) → k ≢ cpu → bit_at after k ≡ bit_at marks k)
     → stays_of (bit_at after) (take cpus (set keys cpu bare_key)) ≡ set (stays_of (bit_at marks) (take cpus keys)) cpu None
 gone_view cpus busy marks after unknown cpu keys most top is mark unmarked others =
@@ -265,11 +265,11 @@ gone_view cpus busy marks after unknown cpu keys most top is mark unmarked other
     (λ k e. elim (cases_eq k cpu) [ inl same ↦ omega (arith, same, inside) | inr apart ↦ is.within k (sym (others k apart) ∙ e) ])
     (stay_bare (bit_at after cpu) (get_or new cpu bare_key) unmarked) others (λ k apart. get_or-set_other keys cpu k bare_key bare_key apart)
 
-pub is_stayed : (cpus busy marks after unknown cpu : ℕ) (keys most : List Candidate) (top key m t : Candidate) → IsStaying cpus busy marks keys most unknown top → cpu < cpus
+pub is_stayed : (cpus busy marks after unknown cpu : ℕ) (keys most : List Candidate) (top key m t : Candidate) → IsRunningSet cpus busy marks keys most unknown top → cpu < cpus
     → bit_at marks cpu ≡ 0 → key.home ≡ cpu → bit_at after cpu ≡ 1 → ((k : ℕ) → k ≢ cpu → bit_at after k ≡ bit_at marks k)
     → (m ≡ get_or most (cpu / 8) bare_key) ⊎ (m ≡ key) → is_before m (get_or most (cpu / 8) bare_key) ≡ false → is_before m key ≡ false → (is_before key (get_or most (cpu / 8) bare_key) ≡ false → m ≡ key)
     → is_before t top ≡ false → is_before t key ≡ false
-    → IsStaying cpus (busy + 1) after (set keys cpu key) (set most (cpu / 8) m) unknown t
+    → IsRunningSet cpus (busy + 1) after (set keys cpu key) (set most (cpu / 8) m) unknown t
 is_stayed cpus busy marks after unknown cpu keys most top key m t is inside unmarked home mark others one first second tie past_top past_key =
     let few = is.few in
     let full = is.full in
@@ -316,10 +316,10 @@ is_stayed cpus busy marks after unknown cpu keys most top key m t is inside unma
       ];
     }
 
-pub is_off : (cpus busy less marks after unknown more cpu : ℕ) (keys most : List Candidate) (top : Candidate) → IsStaying cpus busy marks keys most unknown top
+pub is_off : (cpus busy less marks after unknown more cpu : ℕ) (keys most : List Candidate) (top : Candidate) → IsRunningSet cpus busy marks keys most unknown top
     → bit_at marks cpu ≡ 1 → bit_at after cpu ≡ 0 → ((k : ℕ) → k ≢ cpu → bit_at after k ≡ bit_at marks k)
     → bit_at more (cpu / 8) ≡ 1 → ((g : ℕ) → g ≢ cpu / 8 → bit_at more g ≡ bit_at unknown g) → less + 1 ≡ busy
-    → IsStaying cpus less after (set keys cpu bare_key) most more top
+    → IsRunningSet cpus less after (set keys cpu bare_key) most more top
 is_off cpus busy less marks after unknown more cpu keys most top is mark unmarked others set_here set_else minus =
     let few = is.few in
     let full = is.full in
@@ -360,7 +360,7 @@ is_off cpus busy less marks after unknown more cpu keys most top is mark unmarke
       ];
     }
 
--- unmarked key is behind a task, so nobody who stays is
+-- unmarked key is after a task, so nobody who stays is
 pub held_bound : (marks cpus : ℕ) (keys : List Candidate) (c : Candidate) → length keys ≡ 64 → cpus ≤ 64 → ((cpu : ℕ) → bit_at marks cpu ≡ 1 → cpu < cpus) → ((cpu : ℕ) → is_before c (get_or keys cpu bare_key) ≡ false)
     → All (λ a. is_before c a ≡ false) (all_held (stays_of (bit_at marks) (take cpus keys)))
 held_bound marks cpus keys c full few within past =
@@ -370,7 +370,7 @@ held_bound marks cpus keys c full few within past =
     ap (λ (d : Candidate). is_before c d) (sym at.1) ∙ past cpu)
 
 -- one that another is before stays on its home CPU
-pub latest_stays : (cpus busy marks unknown : ℕ) (keys most : List Candidate) (top c last : Candidate) → IsStaying cpus busy marks keys most unknown top → is_before c last ≡ true → (cpu : ℕ) × (get_or keys cpu bare_key ≡ last)
+pub latest_stays : (cpus busy marks unknown : ℕ) (keys most : List Candidate) (top c last : Candidate) → IsRunningSet cpus busy marks keys most unknown top → is_before c last ≡ true → (cpu : ℕ) × (get_or keys cpu bare_key ≡ last)
     → get_or (stays_of (bit_at marks) (take cpus keys)) last.home None ≡ Some last
 latest_stays cpus busy marks unknown keys most top c last is before at =
     let cpu = at.0 in

@@ -1,16 +1,16 @@
--- A task belongs to the CPU on which it stands (own).
+-- A task belongs to the CPU on which it runs (own).
 use Rattle.std.specs.Prelude.{ℕ, Bool, position, Option, Some, None, slice_index_or}
 use Rattle.edf_pick.specs.declared.candidate.Candidate.{Candidate}
 use Rattle.edf_pick.specs.Places.{Places, is_task}
 
--- a task that stands on the CPU to which it belongs
-abbrev pub stands_home : Places → Candidate → Bool
-stands_home places c = is_task c.number (slice_index_or places c.home None)
+-- a task that runs on the CPU to which it belongs
+abbrev pub runs_home : Places → Candidate → Bool
+runs_home places c = is_task c.number (slice_index_or places c.home None)
 
 abbrev pub home_on : Candidate → Option ℕ → Candidate
 home_on c None = c
 home_on c (Some cpu) = record c { home = cpu }
 
--- a task that stands belongs to the CPU on which it stands
+-- a task that runs belongs to the CPU on which it runs
 abbrev pub with_home : Places → Candidate → Candidate
 with_home places c = home_on c (position (is_task c.number) places)

@@ -19,7 +19,7 @@ two_of_three = refl
 earlier_first : placed 1 (ready 8 1 0 ∷ ready 7 2 0 ∷ []) (Some 1 ∷ []) ≡ Some 2 ∷ []
 earlier_first = refl
 
--- a chosen task stays where it stood, though another of an earlier deadline belongs there; that one
+-- a chosen task stays where it ran, though another of an earlier deadline belongs there; that one
 -- goes to the lowest free CPU
 chosen_stays : placed 3 (ready 5 1 2 ∷ ready 8 2 0 ∷ []) (None ∷ None ∷ Some 2 ∷ [])
     ≡ Some 1 ∷ None ∷ Some 2 ∷ []
@@ -29,7 +29,7 @@ chosen_stays = refl
 first_has_it : placed 2 (ready 8 1 1 ∷ ready 7 2 1 ∷ []) (None ∷ None ∷ []) ≡ Some 1 ∷ Some 2 ∷ []
 first_has_it = refl
 
--- who is not ready stands nowhere
+-- who is not ready runs nowhere
 nobody : placed 2 [] (Some 1 ∷ Some 2 ∷ []) ≡ None ∷ None ∷ []
 nobody = refl
 
@@ -43,13 +43,13 @@ taken_out : without_candidate (ready 8 1 3) (ready 5 7 1 ∷ ready 8 1 0 ∷ rea
     ≡ ready 5 7 1 ∷ ready 8 2 0 ∷ []
 taken_out = refl
 
--- the CPUs that another one has, in their order, and who stood there before: task 4 has gone from
--- CPU 1, and task 2 has come to CPU 2, which was idle
+-- the CPUs that another one has, in their order, and which task ran there before: task 4 has gone
+-- from CPU 1, and task 2 has come to CPU 2, which was idle
 two_moved : moved_from 0 (Some 1 ∷ Some 4 ∷ None ∷ []) (Some 1 ∷ None ∷ Some 2 ∷ [])
     ≡ record { cpu = 1; before = Some 4 } ∷ record { cpu = 2; before = None } ∷ []
 two_moved = refl
 
--- who stands belongs to that CPU, and who stands nowhere to the one that it had
+-- the task that runs belongs to that CPU, and a task that runs nowhere to the one that it had
 each_home : map (with_home (None ∷ Some 2 ∷ [])) (ready 5 2 0 ∷ ready 8 1 0 ∷ [])
     ≡ ready 5 2 1 ∷ ready 8 1 0 ∷ []
 each_home = refl

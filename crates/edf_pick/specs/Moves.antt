@@ -1,4 +1,4 @@
--- On which CPUs another one stands after a choice, and who stood there before (own).
+-- On which CPUs another one runs after a choice, and which task ran there before (own).
 use Rattle.std.specs.Prelude.{ℕ, ◌+◌, ◌==◌, Bool, true, false, if◌then◌else◌, List, [], ◌∷◌, Option, Some, None}
 use Rattle.edf_pick.specs.declared.moves.Moved.{Moved}
 use Rattle.edf_pick.specs.Places.{Places}
@@ -9,7 +9,7 @@ same_occupant None (Some n) = false
 same_occupant (Some m) None = false
 same_occupant (Some m) (Some n) = m == n
 
--- a CPU, if another one stands there
+-- a CPU, if another one runs there
 abbrev pub moved_at : ℕ → Option ℕ → Option ℕ → List Moved
 moved_at cpu b a = if same_occupant b a then [] else record { cpu = cpu; before = b } ∷ []
 

@@ -15,7 +15,7 @@ is_same a b = a.deadline == b.deadline && a.number == b.number
 abbrev pub has_candidate : Candidate → List Candidate → Bool
 has_candidate c queue = list_any (λ a. is_same a c) queue
 
--- with one more, behind those that are before it
+-- with one more, after those that are before it
 abbrev pub with_candidate : Candidate → List Candidate → List Candidate
 with_candidate c [] = c ∷ []
 with_candidate c (a ∷ queue) = if is_before a c then a ∷ with_candidate c queue else c ∷ a ∷ queue

@@ -5,28 +5,28 @@ use Rattle.std.specs.List.{list_any}
 use Rattle.edf_pick.specs.declared.candidate.Candidate.{Candidate}
 use Rattle.edf_pick.specs.Choice.{is_chosen, candidate_at_rank}
 
--- who stands on each CPU, none for idle
+-- the task that runs on each CPU, none for idle
 abbrev pub Places : Type 0
 Places = List (Option ℕ)
 
--- 1 where somebody stands
+-- 1 where a task runs
 abbrev pub count_occupant : Option ℕ → ℕ
 count_occupant None = 0
 count_occupant (Some n) = 1
 
--- the word has a mark for each CPU on which somebody stands
+-- the word has a mark for each CPU on which a task runs
 abbrev pub AreTaken : Places → ℕ → Type 0
 AreTaken places marks =
     (cpu : ℕ) → bit_at marks cpu ≡ count_occupant (slice_index_or places cpu None)
 
--- no task stands on two CPUs
+-- no task runs on two CPUs
 abbrev pub AreSingle : Places → Type 0
 AreSingle places =
     (a b n : ℕ) → slice_index_or places a None ≡ Some n → slice_index_or places b None ≡ Some n
     → a ≡ b
 
 -- those of 1 to 64 CPUs, with the room for so many that they were opened with, so they take no
--- more; and a copy of them, from which the next choice tells who stood there before
+-- more; and a copy of them, from which the next choice finds which task ran there before
 pub record IsPlaces (places before : Places) (capacity before_capacity marks : ℕ) : Type 0 where
   pub some : 0 < length places
   pub few : length places ≤ 64
@@ -41,8 +41,8 @@ abbrev pub is_task : ℕ → Option ℕ → Bool
 is_task number None = false
 is_task number (Some n) = n == number
 
-abbrev pub stands : ℕ → Places → Bool
-stands number places = list_any (is_task number) places
+abbrev pub is_on_cpu : ℕ → Places → Bool
+is_on_cpu number places = list_any (is_task number) places
 
 abbrev pub is_chosen_number : ℕ → List Candidate → ℕ → Bool
 is_chosen_number cpus ready number =
@@ -57,10 +57,10 @@ abbrev pub is_free : Option (Option ℕ) → Bool
 is_free None = false
 is_free (Some occupant) = is_none occupant
 
--- the CPU for a task that stands nowhere: the one to which it belongs where that is free, else the
+-- the CPU for a task that runs nowhere: the one to which it belongs where that is free, else the
 -- lowest free one
-abbrev pub seat_of : Places → Candidate → Option ℕ
-seat_of places c =
+abbrev pub cpu_for : Places → Candidate → Option ℕ
+cpu_for places c =
     if is_free (slice_get places c.home) then Some c.home
     else position (λ occupant. is_none occupant) places
 
@@ -68,19 +68,20 @@ abbrev pub put : Places → ℕ → Option ℕ → Places
 put places number None = places
 put places number (Some cpu) = slice_set places cpu (Some number)
 
-abbrev pub seated : Places → Candidate → Places
-seated places c = if stands c.number places then places else put places c.number (seat_of places c)
+abbrev pub assigned : Places → Candidate → Places
+assigned places c =
+    if is_on_cpu c.number places then places else put places c.number (cpu_for places c)
 
-abbrev pub seated_if : Places → Option Candidate → Places
-seated_if places None = places
-seated_if places (Some c) = seated places c
+abbrev pub assigned_if : Places → Option Candidate → Places
+assigned_if places None = places
+assigned_if places (Some c) = assigned places c
 
 -- the tasks before which 0, 1, .. others are, one after another
-abbrev pub seated_upto : List Candidate → Places → ℕ → Places
-seated_upto ready places zero = places
-seated_upto ready places (suc r) =
-    seated_if (seated_upto ready places r) (candidate_at_rank ready r)
+abbrev pub assigned_upto : List Candidate → Places → ℕ → Places
+assigned_upto ready places zero = places
+assigned_upto ready places (suc r) =
+    assigned_if (assigned_upto ready places r) (candidate_at_rank ready r)
 
 -- those that stay, and then the other chosen ones in the order of the choice
 abbrev pub placed : ℕ → List Candidate → Places → Places
-placed cpus ready before = seated_upto ready (map (kept_if_chosen cpus ready) before) cpus
+placed cpus ready before = assigned_upto ready (map (kept_if_chosen cpus ready) before) cpus

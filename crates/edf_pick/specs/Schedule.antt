@@ -1,23 +1,23 @@
--- The ready tasks of a root domain and who stands on its CPUs, as one (own).
+-- The ready tasks of a root domain and the tasks that run on its CPUs, as one (own).
 use Rattle.std.specs.Prelude.{ℕ, ◌≡◌, true, if◌then◌else◌, List, fold, IsTrue, None, slice_index_or}
 use Rattle.edf_pick.specs.declared.candidate.Candidate.{Candidate}
 use Rattle.edf_pick.specs.declared.moves.Moved.{Moved}
-use Rattle.edf_pick.specs.Changes.{stands_home}
-use Rattle.edf_pick.specs.Places.{Places, is_task, stands}
+use Rattle.edf_pick.specs.Changes.{runs_home}
+use Rattle.edf_pick.specs.Places.{Places, is_task, is_on_cpu}
 
 pub record ScheduleView : Type 0 where
   -- the ready tasks in the order of the choice
   pub queue : List Candidate
-  -- who stands on each CPU
+  -- the task that runs on each CPU
   pub places : Places
   -- the CPUs that the last choice gave to another one
   pub moves : List Moved
 
--- a task that stands does so on the CPU to which it belongs
+-- a task that runs does so on the CPU to which it belongs
 abbrev pub IsAtHome : Places → Candidate → Type 0
-IsAtHome places c = IsTrue (stands c.number places) → stands_home places c ≡ true
+IsAtHome places c = IsTrue (is_on_cpu c.number places) → runs_home places c ≡ true
 
--- the task that stands on this CPU belongs to it
+-- the task that runs on this CPU belongs to it
 abbrev pub homed_on : Places → ℕ → Candidate → Candidate
 homed_on places cpu c =
     if is_task c.number (slice_index_or places cpu None) then record c { home = cpu } else c

@@ -2,5 +2,5 @@ pub mod Choosing
 pub mod First
 pub mod Room
 pub mod Search
-pub mod Staying
-pub mod Waiting
+pub mod RunningSet
+pub mod Ready

@@ -7,28 +7,28 @@ ghost use Rattle.std.specs.List.Sorted.{IsPermutation};
 ghost use Rattle.edf_pick.specs.Choice as choice;
 ghost use Rattle.edf_pick.specs.private.Choosing as spec;
 ghost use Rattle.edf_pick.specs.private.First.{is_home};
-ghost use Rattle.edf_pick.specs.private.Staying.{bare_key};
-ghost use Rattle.edf_pick.specs.private.Waiting.{all_held};
+ghost use Rattle.edf_pick.specs.private.RunningSet.{bare_key};
+ghost use Rattle.edf_pick.specs.private.Ready.{all_held};
 
+use crate::assignments::is_at_home;
 use crate::candidate::Candidate;
 use crate::movers::Movers;
 use crate::order::is_before;
 use crate::queue::Queue;
-use crate::seats::is_at_home;
-use crate::staying::Staying;
+use crate::running::RunningSet;
 
-// A chosen task stays where it stands, or is a mover.
+// A chosen task stays where it runs, or is a mover.
 #[inline(always)]
-fn choose(staying: &mut Staying, movers: &mut Movers, places: &[Option<u32>], c: &Candidate)
-    requires len { length staying.old ≡ length places.now }
+fn choose(running: &mut RunningSet, movers: &mut Movers, places: &[Option<u32>], c: &Candidate)
+    requires len { length running.old ≡ length places.now }
     requires few { length movers.old < 64 }
     requires bare { is_home places.now c.now ≡ true
-        → slice_index_or staying.old c.now.home None ≡ None }
-    ensures staying { staying.new ≡ spec.chosen_stays places.now c.now staying.old }
+        → slice_index_or running.old c.now.home None ≡ None }
+    ensures running { running.new ≡ spec.chosen_stays places.now c.now running.old }
     ensures movers { movers.new ≡ spec.chosen_movers places.now c.now movers.old }
 {
     if is_at_home(places, c) {
-        staying.stay(c.home as usize, c);
+        running.stay(c.home as usize, c);
     } else {
         movers.push(*c);
     }
@@ -37,129 +37,134 @@ fn choose(staying: &mut Staying, movers: &mut Movers, places: &[Option<u32>], c:
 // The first of those who wait is chosen.
 #[inline(always)]
 fn choose_first(
-    waiting: &mut Queue,
-    staying: &mut Staying,
+    ready_rest: &mut Queue,
+    running: &mut RunningSet,
     movers: &mut Movers,
     places: &[Option<u32>],
 )
     requires few { length places.now ≤ 64 }
-    requires some { 0 < length waiting.old }
-    requires is { spec.IsChoosing staying.old movers.old waiting.old places.now }
-    requires free { length (all_held staying.old) + length movers.old < length places.now }
-    ensures is { spec.IsChoosing staying.new movers.new waiting.new places.now }
-    ensures same { IsPermutation (all_held staying.old ++ (movers.old ++ waiting.old))
-        (all_held staying.new ++ (movers.new ++ waiting.new)) }
-    ensures fewer { length waiting.new < length waiting.old }
+    requires some { 0 < length ready_rest.old }
+    requires is { spec.IsChoosing running.old movers.old ready_rest.old places.now }
+    requires free { length (all_held running.old) + length movers.old < length places.now }
+    ensures is { spec.IsChoosing running.new movers.new ready_rest.new places.now }
+    ensures same { IsPermutation (all_held running.old ++ (movers.old ++ ready_rest.old))
+        (all_held running.new ++ (movers.new ++ ready_rest.new)) }
+    ensures fewer { length ready_rest.new < length ready_rest.old }
 {
-    let c = waiting.take_first();
-    choose(staying, movers, places, &c);
+    let c = ready_rest.take_first();
+    choose(running, movers, places, &c);
 }
 
 // The first of those who wait are chosen, as long as a CPU is left for one.
 #[inline(always)]
-fn fill(waiting: &mut Queue, staying: &mut Staying, movers: &mut Movers, places: &[Option<u32>])
+fn fill(
+    ready_rest: &mut Queue,
+    running: &mut RunningSet,
+    movers: &mut Movers,
+    places: &[Option<u32>],
+)
     requires few { length places.now ≤ 64 }
-    requires is { spec.IsChoosing staying.old movers.old waiting.old places.now }
-    ensures is { spec.IsChoosing staying.new movers.new waiting.new places.now }
-    ensures same { IsPermutation (all_held staying.old ++ (movers.old ++ waiting.old))
-        (all_held staying.new ++ (movers.new ++ waiting.new)) }
-    ensures all { spec.AreAllSeated staying.new movers.new waiting.new places.now }
+    requires is { spec.IsChoosing running.old movers.old ready_rest.old places.now }
+    ensures is { spec.IsChoosing running.new movers.new ready_rest.new places.now }
+    ensures same { IsPermutation (all_held running.old ++ (movers.old ++ ready_rest.old))
+        (all_held running.new ++ (movers.new ++ ready_rest.new)) }
+    ensures all { spec.AreAllAssigned running.new movers.new ready_rest.new places.now }
 {
-    'free: while !waiting.is_empty() && staying.busy() + movers.len() < places.len() {
-        choose_first(waiting, staying, movers, places);
+    'free: while !ready_rest.is_empty() && running.busy() + movers.len() < places.len() {
+        choose_first(ready_rest, running, movers, places);
     }
 }
 
 // The latest of those who stay, if the first of those who wait is before it.
 #[inline(always)]
-fn outdone(waiting: &Queue, staying: &mut Staying) -> Option<Candidate>
-    ensures still { staying.new ≡ staying.old }
-    ensures none { IfNone result ((waiting.now ≡ [])
-        ⊎ All (λ a. choice.is_before (slice_index_or waiting.now 0 bare_key) a ≡ false)
-        (all_held staying.old)) }
-    ensures some { IfSome result (λ last. 0 < length waiting.now) }
+fn outdone(ready_rest: &Queue, running: &mut RunningSet) -> Option<Candidate>
+    ensures still { running.new ≡ running.old }
+    ensures none { IfNone result ((ready_rest.now ≡ [])
+        ⊎ All (λ a. choice.is_before (slice_index_or ready_rest.now 0 bare_key) a ≡ false)
+        (all_held running.old)) }
+    ensures some { IfSome result (λ last. 0 < length ready_rest.now) }
     ensures first { IfSome result (λ last.
-        choice.is_before (slice_index_or waiting.now 0 bare_key) last ≡ true) }
-    ensures there { IfSome result (λ last. slice_index_or staying.old last.home None ≡ Some last) }
+        choice.is_before (slice_index_or ready_rest.now 0 bare_key) last ≡ true) }
+    ensures there { IfSome result (λ last. slice_index_or running.old last.home None ≡ Some last) }
 {
-    let tasks = waiting.as_slice();
+    let tasks = ready_rest.as_slice();
     if tasks.is_empty() {
         return None;
     }
     let c = tasks[0];
-    if !staying.may_outlast(&c) {
+    if !running.may_outlast(&c) {
         return None;
     }
-    let last = staying.latest();
+    let last = running.latest();
     if is_before(&c, &last) {
         return Some(last);
     }
     None
 }
 
-// The first of those who wait is chosen in the place of one who stays and is behind it.
+// The first of those who wait is chosen in the place of one who stays and is after it.
 #[inline(always)]
 fn displace(
-    waiting: &mut Queue,
-    staying: &mut Staying,
+    ready_rest: &mut Queue,
+    running: &mut RunningSet,
     movers: &mut Movers,
     places: &[Option<u32>],
     last: Candidate,
 )
     requires few { length places.now ≤ 64 }
-    requires some { 0 < length waiting.old }
-    requires is { spec.IsChoosing staying.old movers.old waiting.old places.now }
-    requires first { choice.is_before (slice_index_or waiting.old 0 bare_key) last ≡ true }
-    requires there { slice_index_or staying.old last.home None ≡ Some last }
-    ensures is { spec.IsChoosing staying.new movers.new waiting.new places.now }
-    ensures same { IsPermutation (all_held staying.old ++ (movers.old ++ waiting.old))
-        (all_held staying.new ++ (movers.new ++ waiting.new)) }
-    ensures busy { length (all_held staying.new) + length movers.new
-        ≡ length (all_held staying.old) + length movers.old }
-    ensures earlier { spec.total (all_held staying.new ++ movers.new)
-        < spec.total (all_held staying.old ++ movers.old) }
+    requires some { 0 < length ready_rest.old }
+    requires is { spec.IsChoosing running.old movers.old ready_rest.old places.now }
+    requires first { choice.is_before (slice_index_or ready_rest.old 0 bare_key) last ≡ true }
+    requires there { slice_index_or running.old last.home None ≡ Some last }
+    ensures is { spec.IsChoosing running.new movers.new ready_rest.new places.now }
+    ensures same { IsPermutation (all_held running.old ++ (movers.old ++ ready_rest.old))
+        (all_held running.new ++ (movers.new ++ ready_rest.new)) }
+    ensures busy { length (all_held running.new) + length movers.new
+        ≡ length (all_held running.old) + length movers.old }
+    ensures earlier { spec.total (all_held running.new ++ movers.new)
+        < spec.total (all_held running.old ++ movers.old) }
 {
-    let c = waiting.take_first();
-    staying.off(last.home as usize);
-    waiting.insert(last);
-    choose(staying, movers, places, &c);
+    let c = ready_rest.take_first();
+    running.off(last.home as usize);
+    ready_rest.insert(last);
+    choose(running, movers, places, &c);
 }
 
 // As long as one who waits is before one who stays, it is chosen in its place.
 #[inline(always)]
 fn displace_all(
-    waiting: &mut Queue,
-    staying: &mut Staying,
+    ready_rest: &mut Queue,
+    running: &mut RunningSet,
     movers: &mut Movers,
     places: &[Option<u32>],
 )
     requires few { length places.now ≤ 64 }
-    requires is { spec.IsChoosing staying.old movers.old waiting.old places.now }
-    requires all { spec.AreAllSeated staying.old movers.old waiting.old places.now }
-    ensures is { spec.IsChosen staying.new movers.new waiting.new places.now }
-    ensures same { IsPermutation (all_held staying.old ++ (movers.old ++ waiting.old))
-        (all_held staying.new ++ (movers.new ++ waiting.new)) }
+    requires is { spec.IsChoosing running.old movers.old ready_rest.old places.now }
+    requires all { spec.AreAllAssigned running.old movers.old ready_rest.old places.now }
+    ensures is { spec.IsChosen running.new movers.new ready_rest.new places.now }
+    ensures same { IsPermutation (all_held running.old ++ (movers.old ++ ready_rest.old))
+        (all_held running.new ++ (movers.new ++ ready_rest.new)) }
 {
-    'rounds: while let Some(last) = outdone(waiting, staying) {
-        displace(waiting, staying, movers, places, last);
+    'rounds: while let Some(last) = outdone(ready_rest, running) {
+        displace(ready_rest, running, movers, places, last);
     }
 }
 
-/// The choice of those who run: who stays where it stands, who moves, and who waits.
+/// The choice of those who run: who stays where it runs, who moves, and who waits.
 #[inline(always)]
 pub(crate) fn choose_all(
-    waiting: &mut Queue,
-    staying: &mut Staying,
+    ready_rest: &mut Queue,
+    running: &mut RunningSet,
     movers: &mut Movers,
     places: &[Option<u32>],
 )
     requires few { length places.now ≤ 64 }
-    requires is { spec.IsChoosing staying.old [] waiting.old places.now }
-    ensures is { spec.IsChosen staying.new movers.new waiting.new places.now }
-    ensures same { IsPermutation (all_held staying.old ++ waiting.old)
-        (all_held staying.new ++ (movers.new ++ waiting.new)) }
+    requires is { spec.IsChoosing running.old [] ready_rest.old places.now }
+    ensures is { spec.IsChosen running.new movers.new ready_rest.new places.now }
+    ensures same { IsPermutation (all_held running.old ++ ready_rest.old)
+        (all_held running.new ++ (movers.new ++ ready_rest.new)) }
 {
     movers.clear();
-    fill(waiting, staying, movers, places);
-    displace_all(waiting, staying, movers, places);
+    fill(ready_rest, running, movers, places);
+    displace_all(ready_rest, running, movers, places);
 }

@@ -1,4 +1,4 @@
-//! The chosen tasks of one choice that stand nowhere.
+//! The chosen tasks of one choice that run nowhere.
 
 ghost use Rattle.std.specs.Prelude.{◌≡◌, ◌<◌, ◌++◌, ◌∷◌, [], IfOk, length};
 
@@ -58,7 +58,7 @@ impl Movers {
         self.list.clear();
     }
 
-    /// One more, behind the others.
+    /// One more, after the others.
     #[inline(always)]
     pub(crate) fn push(&mut self, c: Candidate)
         requires { length self.old < 64 }

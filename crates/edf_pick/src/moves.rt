@@ -8,7 +8,7 @@ use cpu_marks::{first, without};
 use std::alloc::{AllocError, Global};
 use std::marker::Model;
 
-/// A CPU that another one has after a choice, or nobody, and who stood there before.
+/// A CPU that another one has after a choice, or nobody, and which task ran there before.
 #[derive(Clone, Copy)]
 pub struct Moved {
     /// From 0 on.
@@ -60,7 +60,7 @@ impl Moves {
         self.list.clear();
     }
 
-    /// The first CPU alone, where this one stood before.
+    /// The first CPU alone, where this one ran before.
     #[inline(always)]
     pub(crate) fn list_first(&mut self, before: Option<u32>)
         ensures { self.new ≡ record { cpu = 0; before = before } ∷ [] }

@@ -42,7 +42,7 @@ fn one_before(queue: &[Candidate], c: &Candidate, place: usize) -> usize
     usize::from(is_before(&queue[place], c))
 }
 
-// A look at one task, so many behind a place: the place, or this many further on where that task is
+// A look at one task, so many after a place: the place, or this many further on where that task is
 // before c.
 #[inline(always)]
 fn look_at_half(queue: &[Candidate], c: &Candidate, place: usize, half: usize) -> usize
@@ -54,8 +54,8 @@ fn look_at_half(queue: &[Candidate], c: &Candidate, place: usize, half: usize) -
     place + half * one_before(queue, c, place + half)
 }
 
-// A look at three tasks at once: one part, two and three parts behind a place. The place, or as
-// many parts further on as there are of them before c.
+// A look at three tasks at once: one part, two and three parts after a place. The place, or as many
+// parts further on as there are of them before c.
 #[inline(always)]
 fn look_at_parts(queue: &[Candidate], c: &Candidate, place: usize, part: usize) -> usize
     requires rising { order.IsRising queue.now }

@@ -1,25 +1,22 @@
-//! Who stands on each CPU, and how that moves on by one tick.
+//! The task that runs on each CPU.
 
-ghost use Rattle.std.specs.Prelude.{◌≡◌, ◌≢◌, ◌<◌, ◌≤◌, ◌+◌, ◌∷◌, [], false, All, AllPairs, IfOk, None, length, replicate, take, vec_len, vec_capacity};
-ghost use Rattle.edf_pick.specs.private.First.{AreLeaving, AreMovers};
+ghost use Rattle.std.specs.Prelude.{◌≡◌, ◌≢◌, ◌<◌, ◌≤◌, ◌+◌, ◌∷◌, [], false, All, AllPairs, IfOk, None, Some, length, replicate, slice_set, vec_len, vec_capacity};
 ghost use Rattle.edf_pick.specs.Moves.{moved_from};
-ghost use Rattle.edf_pick.specs.Places.{AreSingle, AreTaken, placed, stands};
-ghost use Rattle.edf_pick.specs.private.Waiting.{all_held, AreOn, AreSeated};
+ghost use Rattle.edf_pick.specs.Places.{AreSingle, AreTaken, is_on_cpu};
+ghost use Rattle.edf_pick.specs.private.Ready.{all_held, AreOn, AreAssigned};
 
-use crate::at_home::{Marks, marks_of_all};
+use crate::assignments::{occupy, vacate};
 use crate::candidate::Candidate;
 use crate::moves::Moves;
-use crate::picking::pick_from;
-use crate::queue::Queue;
+use crate::running::RunningSet;
 use crate::settling::move_on;
-use crate::staying::Staying;
 use std::alloc::{AllocError, Global};
 use std::marker::Model;
 
-/// Who stands on each of the 1 to 64 CPUs of a root domain: the number of a task, or nobody where
-/// the CPU is idle. Contracts see it as the list of its occupants. A placement with room for more
-/// or fewer than its CPUs, or where a task stands twice, cannot be built. Beside the list it keeps
-/// a word with a mark for each CPU on which somebody stands, and a copy of the list.
+/// Which task runs on each of the 1 to 64 CPUs of a root domain: the number of a task, or nobody
+/// where the CPU is idle. Contracts see it as the list of its occupants. A placement with room for
+/// more or fewer than its CPUs, or where a task is there twice, cannot be built. Beside the list it
+/// keeps a word with a mark for each CPU on which a task runs, and a copy of the list.
 #[derive(Drop)]
 pub struct Placement {
     occupants: Vec<Option<u32>>,
@@ -52,11 +49,11 @@ fn idle(alloc: Global, cpus: usize) -> Result<Vec<Option<u32>>, AllocError>
     Ok(places)
 }
 
-// The marks of one CPU, where this one stands or nobody.
-fn mark_of(stands: Option<u32>) -> u64
-    ensures { AreTaken (stands ∷ []) result }
+// The marks of one CPU, where this one runs or nobody.
+fn mark_of(is_on_cpu: Option<u32>) -> u64
+    ensures { AreTaken (is_on_cpu ∷ []) result }
 {
-    match stands {
+    match is_on_cpu {
         Some(_) => 1,
         None => 0,
     }
@@ -78,16 +75,16 @@ impl Placement {
 
     /// The only CPU has this one from now on, or nobody.
     #[inline(always)]
-    pub(crate) fn give(&mut self, stands: Option<u32>)
+    pub(crate) fn give(&mut self, is_on_cpu: Option<u32>)
         requires { length self.old ≡ 1 }
-        ensures { self.new ≡ stands ∷ [] }
+        ensures { self.new ≡ is_on_cpu ∷ [] }
     {
-        self.occupants[0] = stands;
-        self.before[0] = stands;
-        self.taken = mark_of(stands);
+        self.occupants[0] = is_on_cpu;
+        self.before[0] = is_on_cpu;
+        self.taken = mark_of(is_on_cpu);
     }
 
-    /// Who stands on each CPU, from CPU 0 on.
+    /// The task that runs on each CPU, from CPU 0 on.
     pub fn occupants(&self) -> &[Option<u32>]
         ensures occupants { result.now ≡ self.now }
         ensures some { 0 < length self.now }
@@ -97,7 +94,7 @@ impl Placement {
         self.occupants.as_slice()
     }
 
-    /// A word with a mark for each CPU on which somebody stands.
+    /// A word with a mark for each CPU on which a task runs.
     #[inline(always)]
     pub(crate) fn taken(&self) -> u64
         ensures { AreTaken self.now result }
@@ -105,54 +102,46 @@ impl Placement {
         self.taken
     }
 
-    /// What a choice finds by a look at each chosen task.
-    #[inline(always)]
-    pub(crate) fn marks_of_all(&self, queue: &[Candidate]) -> Marks
-        ensures movers { AreMovers (take (length self.now) queue.now) self.now result.movers }
-        ensures leaving { AreLeaving (take (length self.now) queue.now) self.now
-            result.movers result.left }
-        ensures single { AreSingle self.now }
+    /// Nobody runs on this CPU any more.
+    pub(crate) fn vacate(&mut self, cpu: usize)
+        requires { cpu < length self.old }
+        ensures { self.new ≡ slice_set self.old cpu None }
     {
-        marks_of_all(&self.occupants, queue, self.taken)
+        self.taken = vacate(&mut self.occupants, cpu, self.taken);
+        self.before[cpu] = None;
     }
-}
 
-/// Moves the occupants of the CPUs on by one tick. As many of the first tasks of the queue are
-/// chosen as there are CPUs (global EDF: sched-deadline.rst, "Main algorithm"; ties and the
-/// placement are own). A chosen task stays where it stands; the others, in the order of the queue,
-/// go to the CPU to which they belong where that is free, else to the lowest free one. Takes no
-/// memory.
-pub fn pick(placement: &mut Placement, queue: &Queue)
-    ensures { placement.new ≡ placed (length placement.old) queue.now placement.old }
-{
-    let tasks = queue.as_slice();
-    let marks = placement.marks_of_all(tasks);
-    pick_from(&mut placement.occupants, tasks, marks, &mut placement.taken);
-    placement
-        .before
-        .copy_from_slice(placement.occupants.as_slice());
+    /// A task that runs nowhere runs on this CPU from now on.
+    pub(crate) fn occupy(&mut self, cpu: usize, number: u32)
+        requires within { cpu < length self.old }
+        requires away { is_on_cpu number self.old ≡ false }
+        ensures { self.new ≡ slice_set self.old cpu (Some number) }
+    {
+        self.taken = occupy(&mut self.occupants, cpu, number, self.taken);
+        self.before[cpu] = Some(number);
+    }
 }
 
 /// As [`crate::settling::move_on`], and lists the CPUs that another one has.
 #[inline(always)]
 pub(crate) fn settle(
     placement: &mut Placement,
-    staying: &mut Staying,
+    running: &mut RunningSet,
     movers: &[Candidate],
     moves: &mut Moves,
 )
-    requires len { length staying.old ≡ length placement.old }
-    requires free { length (all_held staying.old) + length movers.now ≤ length staying.old }
+    requires len { length running.old ≡ length placement.old }
+    requires free { length (all_held running.old) + length movers.now ≤ length running.old }
     requires numbered { AllPairs (λ a b. a.number ≢ b.number) movers.now }
-    requires on { AreOn staying.old placement.old }
-    requires away { All (λ c. stands c.number placement.old ≡ false) movers.now }
-    ensures seated { AreSeated staying.old movers.now staying.new placement.new }
+    requires on { AreOn running.old placement.old }
+    requires away { All (λ c. is_on_cpu c.number placement.old ≡ false) movers.now }
+    ensures assigned { AreAssigned running.old movers.now running.new placement.new }
     ensures moves { moves.new ≡ moved_from 0 placement.old placement.new }
     ensures single { AreSingle placement.old }
 {
     let changed = move_on(
         &mut placement.occupants,
-        staying,
+        running,
         movers,
         &mut placement.taken,
     );

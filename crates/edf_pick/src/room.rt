@@ -1,5 +1,5 @@
-//! The room in which the tasks of a queue stand, one behind the other: who comes or goes moves
-//! those of the shorter side alone.
+//! The room in which the tasks of a queue are, one after the other: who comes or goes moves those
+//! of the shorter side alone.
 
 ghost use Rattle.std.specs.Prelude.{◌≡◌, ◌<◌, ◌≤◌, ◌+◌, [], IfOk, length, vec_capacity};
 ghost use Rattle.std.specs.List.{insert, remove};
@@ -12,7 +12,7 @@ use std::alloc::{AllocError, Global};
 /// to the beginning then.
 const PLACES: usize = 1024;
 
-/// The tasks stand at the places from `front` up to `end`. What the others hold means nothing.
+/// The tasks are at the places from `front` up to `end`. What the others hold means nothing.
 #[derive(Drop)]
 pub(crate) struct Room {
     pub(crate) tasks: Vec<Candidate>,
@@ -37,7 +37,7 @@ fn places(alloc: Global) -> Result<Vec<Candidate>, AllocError>
 }
 
 impl Room {
-    /// Nobody stands there. No other call takes memory.
+    /// It holds no task. No other call takes memory.
     pub(crate) fn open(alloc: Global) -> Result<Room, AllocError>
         ensures is { IfOk result (λ room. spec.IsTaskRoom room) }
         ensures none { IfOk result (λ room. spec.tasks_in_room room ≡ []) }
@@ -116,7 +116,7 @@ impl Room {
         self.front = 0;
     }
 
-    // There is a free place behind the tasks.
+    // There is a free place after the tasks.
     #[inline(always)]
     fn free_end(&mut self)
         requires is { spec.IsTaskRoom self.old }
@@ -131,7 +131,7 @@ impl Room {
         }
     }
 
-    /// One more stands at this place.
+    /// One more task at this place.
     #[inline(always)]
     pub(crate) fn insert(&mut self, place: usize, task: Candidate)
         requires is { spec.IsTaskRoom self.old }
@@ -164,7 +164,7 @@ impl Room {
         self.front += 1;
     }
 
-    // Those behind the place go down by one.
+    // Those after the place go down by one.
     #[inline(always)]
     fn remove_above(&mut self, place: usize)
         requires is { spec.IsTaskRoom self.old }
@@ -178,7 +178,7 @@ impl Room {
         self.end -= 1;
     }
 
-    /// The one at this place stands there no more.
+    /// The one at this place is taken out.
     #[inline(always)]
     pub(crate) fn remove(&mut self, place: usize)
         requires is { spec.IsTaskRoom self.old }
@@ -194,7 +194,7 @@ impl Room {
         }
     }
 
-    /// The first stands there no more.
+    /// The first is taken out.
     #[inline(always)]
     pub(crate) fn remove_first(&mut self)
         requires is { spec.IsTaskRoom self.old }

@@ -1,4 +1,4 @@
-//! The ready tasks of a root domain and who stands on its CPUs, as one.
+//! The ready tasks of a root domain and the tasks that run on its CPUs, as one.
 
 ghost use Rattle.std.specs.Prelude.{◌≡◌, ◌≢◌, ◌<◌, ◌≤◌, [], None, length, map, replicate, All, IfOk};
 ghost use Rattle.edf_pick.specs.Changes.{with_home};
@@ -13,19 +13,19 @@ use crate::movers::Movers;
 use crate::moves::{Moved, Moves};
 use crate::placement::Placement;
 use crate::queue::Queue;
-use crate::renew::pick_waiting;
-use crate::staying::Staying;
+use crate::renew::pick_ready;
+use crate::running::RunningSet;
 use std::alloc::{AllocError, Global};
 use std::marker::Model;
 
-/// The ready tasks of a root domain and who stands on each of its CPUs. Only those who wait stand
-/// in a queue, apart from those who stay where they stand: contracts see both as one queue in the
-/// order of the choice. One where two tasks have one number, or where a task stands away from home,
+/// The ready tasks of a root domain and the task that runs on each of its CPUs. Only those who wait
+/// are in a queue, apart from those who stay where they run: contracts see both as one queue in the
+/// order of the choice. One where two tasks have one number, or where a task runs away from home,
 /// cannot be built.
 #[derive(Drop)]
 pub struct Schedule {
-    waiting: Queue,
-    staying: Staying,
+    ready_rest: Queue,
+    running: RunningSet,
     movers: Movers,
     placement: Placement,
     moves: Moves,
@@ -33,17 +33,17 @@ pub struct Schedule {
 
 impl Model for Schedule {
     ghost use Rattle.edf_pick.specs.Schedule.{ScheduleView};
-    ghost use Rattle.edf_pick.specs.private.Waiting.{all_waiting, IsWaiting};
+    ghost use Rattle.edf_pick.specs.private.Ready.{all_ready, IsReady};
 
     ghost Value = { ScheduleView };
 
     ghost view = { λ s. record {
-      queue = all_waiting s.staying s.waiting;
+      queue = all_ready s.running s.ready_rest;
       places = s.placement;
       moves = s.moves;
     } };
 
-    ghost invariant = { λ s. IsWaiting s.staying s.waiting s.placement };
+    ghost invariant = { λ s. IsReady s.running s.ready_rest s.placement };
 }
 
 impl Schedule {
@@ -56,15 +56,15 @@ impl Schedule {
             (λ s. s ≡ record { queue = []; places = replicate cpus None; moves = [] }) }
     {
         Ok(Schedule {
-            waiting: Queue::open(alloc)?,
-            staying: Staying::open(cpus),
+            ready_rest: Queue::open(alloc)?,
+            running: RunningSet::open(cpus),
             movers: Movers::open(alloc)?,
             placement: Placement::open(alloc, cpus)?,
             moves: Moves::open(alloc)?,
         })
     }
 
-    /// Who stands on each CPU, from CPU 0 on.
+    /// The task that runs on each CPU, from CPU 0 on.
     pub fn occupants(&self) -> &[Option<u32>]
         ensures occupants { result.now ≡ self.now.places }
         ensures some { 0 < length self.now.places }
@@ -80,15 +80,15 @@ impl Schedule {
         self.moves.as_slice()
     }
 
-    /// Takes in a task of a number that no task has; if it stands on a CPU, then on the one to
-    /// which it belongs.
+    /// Takes in a task of a number that no task has; if it runs on a CPU, then on the one to which
+    /// it belongs.
     pub fn insert(&mut self, c: Candidate)
         requires few { length self.old.queue < 256 }
         requires numbered { All (λ a. a.number ≢ c.number) self.old.queue }
         requires homed { spec.IsAtHome self.old.places c }
         ensures { self.new ≡ record self.old { queue = order.with_candidate c self.old.queue } }
     {
-        self.waiting.insert(c);
+        self.ready_rest.insert(c);
     }
 
     /// Takes out the task of the deadline and the number of `c`, and answers whether it was there.
@@ -98,23 +98,23 @@ impl Schedule {
             ≡ record self.old { queue = order.without_candidate c.now self.old.queue } }
         ensures there { result ≡ order.has_candidate c.now self.old.queue }
     {
-        take_out(&mut self.waiting, &mut self.staying, c)
+        take_out(&mut self.ready_rest, &mut self.running, c)
     }
 
     /// The choice of the next tick and its placement, by a look at those who wait alone. As many of
     /// the first tasks of the queue are chosen as there are CPUs (global EDF: sched-deadline.rst,
-    /// "Main algorithm"; ties and the placement are own). A chosen task stays where it stands; the
+    /// "Main algorithm"; ties and the placement are own). A chosen task stays where it runs; the
     /// others, in the order of the queue, go to the CPU to which they belong where that is free,
-    /// else to the lowest free one. Each task that stands then belongs to its CPU. Takes no memory.
+    /// else to the lowest free one. Each task that runs then belongs to its CPU. Takes no memory.
     pub fn pick(&mut self)
         ensures places { self.new.places
             ≡ placed (length self.old.places) self.old.queue self.old.places }
         ensures queue { self.new.queue ≡ map (with_home self.new.places) self.old.queue }
         ensures moves { self.new.moves ≡ moved_from 0 self.old.places self.new.places }
     {
-        pick_waiting(
-            &mut self.waiting,
-            &mut self.staying,
+        pick_ready(
+            &mut self.ready_rest,
+            &mut self.running,
             &mut self.movers,
             &mut self.placement,
             &mut self.moves,

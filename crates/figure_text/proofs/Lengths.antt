@@ -75,24 +75,24 @@ lines_short name number (j ∷ js) n few early wide =
 
 -- ---- their sums, where the greatest number stands for any above it
 
-pub task_most : (count sat most jobs name : ℕ) → count ≡ jobs → sat ≡ min (256 + name) (2 ^ 64 - 1) → most ≡ min (count * sat) (2 ^ 64 - 1) → most < 2 ^ 64 - 1 → jobs * (256 + name) ≤ most
-task_most zero sat most jobs name same line all small =
+pub task_most : (count was_started most jobs name : ℕ) → count ≡ jobs → was_started ≡ min (256 + name) (2 ^ 64 - 1) → most ≡ min (count * was_started) (2 ^ 64 - 1) → most < 2 ^ 64 - 1 → jobs * (256 + name) ≤ most
+task_most zero was_started most jobs name same line all small =
     let none : jobs * (256 + name) ≡ 0 = ap (λ (n : ℕ). n * (256 + name)) (sym same) ∙ omega arith in
     omega (arith, none)
-task_most (suc k) sat most jobs name same line all small =
-    let product : most ≡ suc k * sat = least_below (suc k * sat) most (2 ^ 64 - 1) all small in
-    let whole : sat ≡ 256 + name = omega (arith, line, product, suc-mul k sat, small) in
-    let is : jobs * (256 + name) ≡ suc k * sat = (λ i. sym same i * sym whole i) in
+task_most (suc k) was_started most jobs name same line all small =
+    let product : most ≡ suc k * was_started = least_below (suc k * was_started) most (2 ^ 64 - 1) all small in
+    let whole : was_started ≡ 256 + name = omega (arith, line, product, suc-mul k was_started, small) in
+    let is : jobs * (256 + name) ≡ suc k * was_started = (λ i. sym same i * sym whole i) in
     omega (arith, is, product)
   where
     least_below : (n r m : ℕ) → r ≡ min n m → r < m → r ≡ n
     least_below n r m is small = omega (arith, is, small)
 
-pub usual_most : (count sat most jobs name : ℕ) → count ≡ jobs → sat ≡ min (256 + name) (2 ^ 64 - 1) → most ≡ min (count * sat) (2 ^ 64 - 1) → name ≤ 256 → most ≤ 512 * jobs
-usual_most count sat most jobs name same line all short =
-    let few : sat ≤ 512 = omega (arith, line, short) in
-    let product : count * sat ≤ count * 512 = mul-le-mul_left count few in
-    let below : most ≤ count * sat = least_within (count * sat) most (2 ^ 64 - 1) all in
+pub usual_most : (count was_started most jobs name : ℕ) → count ≡ jobs → was_started ≡ min (256 + name) (2 ^ 64 - 1) → most ≡ min (count * was_started) (2 ^ 64 - 1) → name ≤ 256 → most ≤ 512 * jobs
+usual_most count was_started most jobs name same line all short =
+    let few : was_started ≤ 512 = omega (arith, line, short) in
+    let product : count * was_started ≤ count * 512 = mul-le-mul_left count few in
+    let below : most ≤ count * was_started = least_within (count * was_started) most (2 ^ 64 - 1) all in
     omega (arith, below, product, same)
   where
     least_within : (n r m : ℕ) → r ≡ min n m → r ≤ n

@@ -1,4 +1,4 @@
--- Lines put behind one another.
+-- Lines put after one another.
 use Rattle.std.proofs.Common.{◌≡◌, ℕ, suc, ◌+◌, ◌<◌, List, [], ◌∷◌, ◌++◌, length, get_or, take, map, refl, sym, ap, ◌∙◌, arith, append_assoc, append-nil}
 use Rattle.std.specs.Prelude.{sum_by}
 use Rattle.std.proofs.lemmas.List.{take_more, map-append, length-map, length-take-le}
@@ -18,7 +18,7 @@ numbered_push line n (y ∷ ys) x =
     ap (λ t. line n y ++ t) (numbered_push line (n + 1) ys x ∙ ap (λ k. numbered_lines line (n + 1) ys ++ line k x) e)
     ∙ sym (append_assoc (line n y) (numbered_lines line (n + 1) ys) (line (n + suc (length ys)) x))
 
--- the line of what was read at a place, which has a number, behind those of what stands before it
+-- the line of what was read at a place, which has a number, after those of what stands before it
 numbered_at : {X : Type 0} (line : ℕ → X → List ℕ) (n : ℕ) (xs : List X) (i k : ℕ) (d : X) (old before after : List ℕ) → i < length xs → k ≡ n + i → before ≡ old ++ numbered_lines line n (take i xs) → after ≡ before ++ line k (get_or xs i d) → after ≡ old ++ numbered_lines line n (take (i + 1) xs)
 numbered_at line n xs i k d old before after l at b a =
     let x = get_or xs i d in
@@ -28,7 +28,7 @@ numbered_at line n xs i k d old before after l at b a =
     ap (numbered_lines line n) (take_more xs i d l) ∙ numbered_push line n (take i xs) x ∙ ap (λ m. numbered_lines line n (take i xs) ++ line m x) here in
     a ∙ ap (λ t. t ++ line k x) b ∙ append_assoc old (numbered_lines line n (take i xs)) (line k x) ∙ ap (λ t. old ++ t) (sym more)
 
--- the same behind a draft
+-- the same after a draft
 pub more_numbered : {X : Type 0} (line : ℕ → X → List ℕ) (n : ℕ) (xs : List X) (i k : ℕ) (d : X) (old before after : DraftView) → i < length xs → k ≡ n + i → Adds old before (numbered_lines line n (take i xs)) → Adds before after (line k (get_or xs i d)) → Adds old after (numbered_lines line n (take (i + 1) xs))
 more_numbered line n xs i k d old before after l at b a whole =
     let last = a whole in

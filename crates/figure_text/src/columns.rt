@@ -1,4 +1,4 @@
-//! Columns put behind what stands before.
+//! Columns put after what stands before.
 
 ghost use Rattle.std.specs.Prelude.{◌≡◌, ◌<◌, ◌≤◌, ◌^◌, codes, decimal};
 ghost use Rattle.std.specs.Fmt.{signed_decimal};

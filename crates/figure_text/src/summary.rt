@@ -212,9 +212,9 @@ fn put_domains(out: &mut Draft, domains: &[DomainSummary<'_>])
     }
 }
 
-/// Puts the summary of 1 to 8 domains of a machine behind a text: a table of their tasks, one of
-/// the CPUs of the machine, counted through, and one of the domains. Times are in microseconds,
-/// shares in hundredths of a per cent, rounded down.
+/// Puts the summary of 1 to 8 domains of a machine after a text: a table of their tasks, one of the
+/// CPUs of the machine, counted through, and one of the domains. Times are in microseconds, shares
+/// in hundredths of a per cent, rounded down.
 pub fn put_summary(out: &mut Draft, domains: &[DomainSummary<'_>])
     requires short { All texts.IsShortSummary domains.now }
     requires machine { All texts.IsOfMachine domains.now }

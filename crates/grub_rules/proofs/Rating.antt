@@ -5,9 +5,10 @@ use Rattle.std.specs.Int.{int_max}
 use Rattle.std.proofs.lemmas.Int.{ints}
 use Rattle.std.proofs.lemmas.Bool.{cond_both, ltb-true, ltb-false}
 use Rattle.std.proofs.Math.Nat.{div-le_of_le-mul, div-le_self}
-use Rattle.attr_check.specs.Ratio.{unit, cap}
+use Rattle.attr_check.specs.Ratio.{cap}
 use Rattle.attr_check.specs.ParamsView.{ParamsView, IsOrdered}
 use Rattle.grub_rules.specs.Rate.{div_up, charged_bw, rate_charged, rate, rate_on}
+use Rattle.limits.specs.Limits.{unit}
 
 -- the larger of a natural and a whole number, by what is to be added for another natural
 larger : (z : ℤ) (bw inactive used : ℕ) → z +ℤ pos inactive ≡ pos used → unsigned_abs (int_max (pos bw) z) ≡ max bw (used - inactive)

@@ -2,8 +2,8 @@
 -- reclaiming").
 use Rattle.std.specs.Prelude.{ℕ, ℤ, pos, ◌-ℤ◌, ◌+◌, ◌-◌, ◌*◌, ◌/◌, max, unsigned_abs, if◌then◌else◌}
 use Rattle.std.specs.Int.{int_max}
-use Rattle.attr_check.specs.Ratio.{unit}
 use Rattle.attr_check.specs.ParamsView.{ParamsView}
+use Rattle.limits.specs.Limits.{unit}
 
 -- a quotient, rounded up (own)
 abbrev pub div_up : ℕ → ℕ → ℕ

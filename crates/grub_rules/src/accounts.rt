@@ -12,7 +12,7 @@ use std::marker::Model;
 /// bandwidth of the tasks that belong to it, this_bw, and of those of them that are active,
 /// running_bw, in 1/2^20 of a CPU.
 ///
-/// Each call tells it of one change of the list of tasks. So, of every list that the sums count, in
+/// Each call reports one change of the list of tasks. So, of every list that the sums count, in
 /// whatever order, they count the list with that change afterwards. Sums with room for more or
 /// fewer than the CPUs cannot be built.
 #[derive(Drop)]

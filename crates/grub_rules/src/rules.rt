@@ -1,10 +1,11 @@
 //! Zero-lag times and the reclaiming rate (sched-deadline.rst, "Bandwidth reclaiming").
 
 ghost use Rattle.std.specs.Prelude.{◌≡◌, ◌<◌, ◌≤◌, ◌^◌, ◌*◌, ◌/◌, pos, ◌≤ℤ◌};
-ghost use Rattle.attr_check.specs.Ratio.{cap, unit};
+ghost use Rattle.attr_check.specs.Ratio.{cap};
 ghost use Rattle.cbs_rules.specs.Budget.{above_zero, budget};
 ghost use Rattle.grub_rules.specs.Lag as lag;
 ghost use Rattle.grub_rules.specs.Rate as rates;
+ghost use Rattle.limits.specs.Limits.{least_limit, unit};
 
 use attr_check::{Params, UNIT};
 use cbs_rules::Server;
@@ -45,7 +46,7 @@ const DEFAULT_LIMIT: u64 = 996_147;
 /// the bandwidth itself, and a division by the default, which is known, is a multiplication.
 fn share_of(bw: u64, limit: u64) -> u64
     requires bw { bw ≤ 2 ^ 26 }
-    requires limit { (0 < limit) × (limit ≤ 1048576) }
+    requires limit { (0 < limit) × (limit ≤ unit) }
     ensures { result ≡ rates.div_up (bw * unit) limit }
 {
     match limit {
@@ -94,7 +95,7 @@ pub fn zero_lag(server: &Server, params: &Params, time: u64) -> Option<u64>
 /// memory.
 pub fn rate_for(bw: u64, limit: u64) -> u64
     requires bw { bw ≤ 2 ^ 26 }
-    requires limit { (10485 ≤ limit) × (limit ≤ 1048576) }
+    requires limit { (least_limit ≤ limit) × (limit ≤ unit) }
     ensures value { result ≡ rates.rate_charged bw limit }
     ensures some { 0 < result }
     ensures slow { bw ≤ 2 ^ 20 → result ≤ 2 ^ 27 }
@@ -111,7 +112,7 @@ pub fn rate(params: &Params, uinact: u64, sum: u64, cpus: u64, limit: u64) -> u6
     requires uinact { uinact ≤ 2 ^ 26 }
     requires sum { sum ≤ 2 ^ 26 }
     requires cpus { (0 < cpus) × (cpus ≤ 64) }
-    requires limit { (10485 ≤ limit) × (limit ≤ 1048576) }
+    requires limit { (least_limit ≤ limit) × (limit ≤ unit) }
     ensures value { result ≡ rates.rate params.now uinact sum cpus limit }
     ensures some { 0 < result }
     ensures slow { sum ≤ cap cpus limit → result ≤ 2 ^ 27 }

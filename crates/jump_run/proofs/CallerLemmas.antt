@@ -1,2 +1,2 @@
--- What a caller shows of many ticks, one behind another.
-pub use Rattle.jump_run.proofs.Ticks.{ticks_more, told_more}
+-- What a caller shows of many ticks, one after another.
+pub use Rattle.jump_run.proofs.Ticks.{ticks_more, logged_more}

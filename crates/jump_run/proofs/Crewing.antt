@@ -23,18 +23,18 @@ use Rattle.jump_run.proofs.Gathering.{running_within}
 pub plans_push : (d : Domain) (ticks next i : ℕ) (plans : List Plan) (r : Running) (p : Plan) → next ≤ ticks → next ≤ r.work → running d i ≡ Some r → length plans ≡ i → p ≡ plan_of d r → IsSoundPlan p
     → ArePlans d ticks plans → ArePlans d next (plans ++ p ∷ [])
 plans_push d ticks next i plans r p less work at long is fit are =
-    let last : (j : ℕ) → j < length (plans ++ p ∷ []) → i ≤ j → i ≡ j = λ j within behind. (let more = length_push plans p in omega (arith, more, long, within, behind)) in
+    let last : (j : ℕ) → j < length (plans ++ p ∷ []) → i ≤ j → i ≡ j = λ j within following. (let more = length_push plans p in omega (arith, more, long, within, following)) in
     let same : (q : Running) (j : ℕ) → i ≡ j → running d j ≡ Some q → r ≡ q = λ q j e h. same_Some r q (sym at ∙ ap (running d) e ∙ h) in
     record {
       each = λ j q x within h.
           elim (cases_lt j i) [
             | inl before ↦ get_or_append_left plans (p ∷ []) x j (omega (arith, before, long)) ∙ are.each j q x (omega (arith, before, long)) h
-            | inr behind ↦ let e = last j within behind in get_or_push plans p x j (long ∙ e) ∙ is ∙ ap (plan_of d) (same q j e h)
+            | inr following ↦ let e = last j within following in get_or_push plans p x j (long ∙ e) ∙ is ∙ ap (plan_of d) (same q j e h)
           ];
       worked = λ j q within h.
           elim (cases_lt j i) [
             | inl before ↦ let w = are.worked j q (omega (arith, before, long)) h in omega (arith, w, less)
-            | inr behind ↦ subst (λ (x : Running). next ≤ x.work) (same q j (last j within behind) h) work
+            | inr following ↦ subst (λ (x : Running). next ≤ x.work) (same q j (last j within following) h) work
           ];
       fit = All-push IsSoundPlan plans p are.fit fit;
     }

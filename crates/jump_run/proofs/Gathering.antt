@@ -40,8 +40,8 @@ gathered_push d ticks next i lefts rates r left rate less at here there are = re
               lasted = fewer (get_or rates j 0) ticks next (get_or lefts j 0) less was.lasted;
             } in
             rw (get_or-set_other lefts i j left 0 other, get_or-set_other rates i j rate 0 other) now
-        | inr behind ↦
-            let same : i ≡ j = omega (arith, within, behind) in
+        | inr following ↦
+            let same : i ≡ j = omega (arith, within, following) in
             let task : r ≡ q = same_Some r q (sym at.is ∙ ap (running d) same ∙ is) in
             let now : IsGathered d next r (get_or (set lefts i left) i 0) (get_or (set rates i rate) i 0) = rw (get_or-set_same lefts i left 0 here, get_or-set_same rates i rate 0 there) at.gathered in
             subst (λ (x : Running). IsGathered d next x (get_or (set lefts i left) j 0) (get_or (set rates i rate) j 0)) task (subst (λ (k : ℕ). IsGathered d next r (get_or (set lefts i left) k 0) (get_or (set rates i rate) k 0)) same now)
@@ -49,12 +49,12 @@ gathered_push d ticks next i lefts rates r left rate less at here there are = re
   slow = λ j within.
       elim (cases_lt j i) [
         | inl before ↦ rw (get_or-set_other rates i j rate 0 (λ e. absurd (omega (arith, e, before)))) (are.slow j before)
-        | inr behind ↦ let same : j ≡ i = omega (arith, within, behind) in rw (same, get_or-set_same rates i rate 0 there) at.slow
+        | inr following ↦ let same : j ≡ i = omega (arith, within, following) in rw (same, get_or-set_same rates i rate 0 there) at.slow
       ];
   high = λ j within.
       elim (cases_lt j i) [
         | inl before ↦ rw (get_or-set_other lefts i j left 0 (λ e. absurd (omega (arith, e, before)))) (are.high j before)
-        | inr behind ↦ let same : j ≡ i = omega (arith, within, behind) in rw (same, get_or-set_same lefts i left 0 here) at.high
+        | inr following ↦ let same : j ≡ i = omega (arith, within, following) in rw (same, get_or-set_same lefts i left 0 here) at.high
       ];
 }
 
@@ -65,12 +65,12 @@ pub left_push : (lefts rates : List ℕ) (ticks i : ℕ) (budgets : List ℤ) (z
 left_push lefts rates ticks i budgets z here is before j within =
     elim (cases_lt j i) [
       | inl less ↦ get_or-set_other budgets i j z (pos 0) (λ e. absurd (omega (arith, e, less))) ∙ before j less
-      | inr behind ↦
-          let same : i ≡ j = omega (arith, within, behind) in
+      | inr following ↦
+          let same : i ≡ j = omega (arith, within, following) in
           subst (λ (k : ℕ). get_or (set budgets i z) k (pos 0) ≡ pos (slice_index lefts k) -ℤ pos (slice_index rates k * ticks)) same (get_or-set_same budgets i z (pos 0) here ∙ is)
     ]
 
--- a running task is one of those that stand
+-- a running task is one of those that run
 pub running_within : (d : Domain) (i : ℕ) (r : Running) → running d i ≡ Some r → i < length (running_numbers d.curr)
 running_within d i r e =
     elim (cases_lt i (length (running_numbers d.curr))) [

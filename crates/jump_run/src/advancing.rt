@@ -1,11 +1,12 @@
 //! From event to event.
 
-ghost use Rattle.std.specs.Prelude.{◌≡◌, [], true, false, ◌<◌, ◌≤◌, ◌^◌, ◌+◌, ◌⊎◌, IfOk, OnErr, vec_capacity};
+ghost use Rattle.std.specs.Prelude.{◌≡◌, [], true, false, ◌<◌, ◌≤◌, ◌+◌, ◌⊎◌, IfOk, OnErr, vec_capacity};
 ghost use Rattle.domain_run.specs.Tick.{ticks as ticks_of};
-ghost use Rattle.domain_run.specs.Happened.{told_by_ticks};
+ghost use Rattle.domain_run.specs.Happened.{logged_by_ticks};
 ghost use Rattle.domain_run.specs.Keys.{AreKept};
-ghost use Rattle.domain_run.specs.Log.{Tells};
+ghost use Rattle.domain_run.specs.Log.{HasLogged};
 ghost use Rattle.jump_run.specs.Pieces as piece;
+ghost use Rattle.limits.specs.Limits.{clock_end};
 
 use crate::alone;
 use crate::crew::{self, Crew, Lists};
@@ -36,8 +37,8 @@ fn made_by(piece: Piece) -> Done
     Done { ticks: piece.ticks }
 }
 
-/// One event and the ticks up to the next, which the log is told: how many they were. `Err` where
-/// room for the event's switches, or in the log, was refused.
+/// One event and the ticks up to the next, which the log records: how many they were. `Err`
+/// where room for the event's switches, or in the log, was refused.
 fn jump<G: Turn>(
     state: &mut State,
     most: u64,
@@ -46,19 +47,20 @@ fn jump<G: Turn>(
     log: &mut Log,
 ) -> Result<u64, NoMemory>
     requires some { 0 < most }
-    requires early { state.old.time + most ≤ 2 ^ 42 }
+    requires early { state.old.time + most ≤ clock_end }
     ensures some { IfOk result (λ made. 0 < made) }
     ensures most { IfOk result (λ made. made ≤ most) }
     ensures ok { IfOk result (λ made. state.new ≡ ticks_of made state.old) }
     ensures err { OnErr result (state.new ≡ state.old) }
     ensures keys { AreKept state.old.tasks state.new.tasks }
-    ensures told { IfOk result (λ made. Tells log.old (told_by_ticks made state.old) log.new) }
-    ensures untold { OnErr result (Tells log.old [] log.new) }
+    ensures logged { IfOk result (λ made. HasLogged log.old
+        (logged_by_ticks made state.old) log.new) }
+    ensures unlogged { OnErr result (HasLogged log.old [] log.new) }
     ensures event { IfOk result (λ _. piece.AddsAnEvent state.old log.old state.new log.new) }
 {
-    state.begin_told(log)?;
+    state.begin_logged(log)?;
     let span = alone::make(state, most, room, turn);
-    state.finish_told(span.ticks, &room.budgets[..span.count], log);
+    state.finish_logged(span.ticks, &room.budgets[..span.count], log);
     Ok(span.ticks)
 }
 
@@ -72,7 +74,7 @@ fn jump_with<R: Threads + Wait, G: Turn>(
     log: &mut Log,
 ) -> Result<u64, NoMemory>
     requires some { 0 < most }
-    requires early { state.old.time + most ≤ 2 ^ 42 }
+    requires early { state.old.time + most ≤ clock_end }
     requires plans { vec_capacity lists.old.plans ≡ 64 }
     requires slices { vec_capacity lists.old.slices ≡ 64 }
     ensures some { IfOk result (λ made. 0 < made) }
@@ -80,18 +82,19 @@ fn jump_with<R: Threads + Wait, G: Turn>(
     ensures ok { IfOk result (λ made. state.new ≡ ticks_of made state.old) }
     ensures err { OnErr result (state.new ≡ state.old) }
     ensures keys { AreKept state.old.tasks state.new.tasks }
-    ensures told { IfOk result (λ made. Tells log.old (told_by_ticks made state.old) log.new) }
-    ensures untold { OnErr result (Tells log.old [] log.new) }
+    ensures logged { IfOk result (λ made. HasLogged log.old
+        (logged_by_ticks made state.old) log.new) }
+    ensures unlogged { OnErr result (HasLogged log.old [] log.new) }
     ensures plans { vec_capacity lists.new.plans ≡ 64 }
     ensures slices { vec_capacity lists.new.slices ≡ 64 }
 {
-    state.begin_told(log)?;
+    state.begin_logged(log)?;
     let span = crew::make(crew, state, most, lists, room);
-    state.finish_told(span.ticks, &room.budgets[..span.count], log);
+    state.finish_logged(span.ticks, &room.budgets[..span.count], log);
     Ok(span.ticks)
 }
 
-/// Whether the switches of a state, or what a log was told, are so many by now.
+/// Whether the switches of a state, or what a log was logged, are so many by now.
 fn has_enough(state: &State, log: &Log, enough: usize) -> bool
     ensures { result ≡ piece.has_enough enough state.now log.now }
 {
@@ -106,11 +109,11 @@ fn advance_alone<G: Turn>(
     enough: usize,
     log: &mut Log,
 ) -> Piece
-    requires { state.old.time + n ≤ 2 ^ 42 }
+    requires { state.old.time + n ≤ clock_end }
     ensures state { state.new ≡ ticks_of result.ticks state.old }
     ensures most { result.ticks ≤ n }
     ensures keys { AreKept state.old.tasks state.new.tasks }
-    ensures told { Tells log.old (told_by_ticks result.ticks state.old) log.new }
+    ensures logged { HasLogged log.old (logged_by_ticks result.ticks state.old) log.new }
     ensures ended { result.is_refused ≡ false
         → (result.ticks ≡ n) ⊎ (piece.has_enough enough state.new log.new ≡ true) }
     ensures bounded { 0 < result.ticks → piece.IsBounded enough state.new log.new }
@@ -134,18 +137,18 @@ fn advance_alone<G: Turn>(
 
 /// As [`advance_piece`].
 fn leap_piece(state: &mut State, n: u64, enough: usize, log: &mut Log) -> Piece
-    requires { state.old.time + n ≤ 2 ^ 42 }
+    requires { state.old.time + n ≤ clock_end }
     ensures state { state.new ≡ ticks_of result.ticks state.old }
     ensures most { result.ticks ≤ n }
     ensures keys { AreKept state.old.tasks state.new.tasks }
-    ensures told { Tells log.old (told_by_ticks result.ticks state.old) log.new }
+    ensures logged { HasLogged log.old (logged_by_ticks result.ticks state.old) log.new }
     ensures ended { result.is_refused ≡ false
         → (result.ticks ≡ n) ⊎ (piece.has_enough enough state.new log.new ≡ true) }
     ensures bounded { 0 < result.ticks → piece.IsBounded enough state.new log.new }
 {
     let mut ticks = 0;
     'leaps: while ticks < n && !has_enough(state, log, enough) {
-        let Ok(made) = state.leap_told(n - ticks, enough, log) else {
+        let Ok(made) = state.leap_logged(n - ticks, enough, log) else {
             return Piece {
                 ticks,
                 is_refused: true,
@@ -159,7 +162,7 @@ fn leap_piece(state: &mut State, n: u64, enough: usize, log: &mut Log) -> Piece
     }
 }
 
-/// As [`advance_told`], by several workers.
+/// As [`advance_logged`], by several workers.
 fn advance_by<R: Threads + Wait, G: Turn>(
     crew: &Crew<'_, R, G>,
     state: &mut State,
@@ -167,13 +170,13 @@ fn advance_by<R: Threads + Wait, G: Turn>(
     mut lists: Lists,
     log: &mut Log,
 ) -> Done
-    requires early { state.old.time + n ≤ 2 ^ 42 }
+    requires early { state.old.time + n ≤ clock_end }
     requires plans { vec_capacity lists.plans ≡ 64 }
     requires slices { vec_capacity lists.slices ≡ 64 }
     ensures state { state.new ≡ ticks_of result.ticks state.old }
     ensures most { result.ticks ≤ n }
     ensures keys { AreKept state.old.tasks state.new.tasks }
-    ensures told { Tells log.old (told_by_ticks result.ticks state.old) log.new }
+    ensures logged { HasLogged log.old (logged_by_ticks result.ticks state.old) log.new }
 {
     let mut room = Room::new();
     let mut ticks = 0;
@@ -188,11 +191,11 @@ fn advance_by<R: Threads + Wait, G: Turn>(
 
 /// Goes on by so many ticks, from event to event: the state and its switches are exactly those of
 /// so many single ticks. Room for the switches of an event is made before the event; where it is
-/// refused, the ticks made so far stand, and only then are they fewer than asked. Time stays within
+/// refused, the ticks made so far run, and only then are they fewer than asked. Time stays within
 /// 2^42 us. Tasks that have left may go off the list; nobody comes, and the others keep number,
 /// bandwidth and order.
 pub fn advance(state: &mut State, n: u64) -> Done
-    requires { state.old.time + n ≤ 2 ^ 42 }
+    requires { state.old.time + n ≤ clock_end }
     ensures state { state.new ≡ ticks_of result.ticks state.old }
     ensures most { result.ticks ≤ n }
     ensures keys { AreKept state.old.tasks state.new.tasks }
@@ -207,15 +210,15 @@ pub fn advance(state: &mut State, n: u64) -> Done
     Done { ticks }
 }
 
-/// As [`advance`], and the log is told what happens in these ticks, in the order of "Happened".
-/// Room for what an event tells is made before the event, as for its switches: where it is refused,
-/// the ticks made so far stand, and the log has what they tell.
-pub fn advance_told(state: &mut State, n: u64, log: &mut Log) -> Done
-    requires { state.old.time + n ≤ 2 ^ 42 }
+/// As [`advance`], and the log records what happens in these ticks, in the order of "Happened".
+/// Room for what an event logs is made before the event, as for its switches: where it is refused,
+/// the ticks made so far run, and the log has what they log.
+pub fn advance_logged(state: &mut State, n: u64, log: &mut Log) -> Done
+    requires { state.old.time + n ≤ clock_end }
     ensures state { state.new ≡ ticks_of result.ticks state.old }
     ensures most { result.ticks ≤ n }
     ensures keys { AreKept state.old.tasks state.new.tasks }
-    ensures told { Tells log.old (told_by_ticks result.ticks state.old) log.new }
+    ensures logged { HasLogged log.old (logged_by_ticks result.ticks state.old) log.new }
 {
     if !log.is_wanted() {
         return advance(state, n);
@@ -223,16 +226,16 @@ pub fn advance_told(state: &mut State, n: u64, log: &mut Log) -> Done
     made_by(advance_piece(state, n, usize::MAX, log))
 }
 
-/// As [`advance_told`], but no event more is made once the state has `enough` switches or the log
-/// was told of `enough`, what it was told before among them: so what both hold stays bounded,
+/// As [`advance_logged`], but no event more is made once the state has `enough` switches or the log
+/// was logged of `enough`, what it has logged before among them: so what both hold stays bounded,
 /// however much happens. Unless a growth was refused, it ends there or with all ticks made. Where
 /// both have fewer at first, at least one tick is made then.
 pub fn advance_piece(state: &mut State, n: u64, enough: usize, log: &mut Log) -> Piece
-    requires { state.old.time + n ≤ 2 ^ 42 }
+    requires { state.old.time + n ≤ clock_end }
     ensures state { state.new ≡ ticks_of result.ticks state.old }
     ensures most { result.ticks ≤ n }
     ensures keys { AreKept state.old.tasks state.new.tasks }
-    ensures told { Tells log.old (told_by_ticks result.ticks state.old) log.new }
+    ensures logged { HasLogged log.old (logged_by_ticks result.ticks state.old) log.new }
     ensures ended { result.is_refused ≡ false
         → (result.ticks ≡ n) ⊎ (piece.has_enough enough state.new log.new ≡ true) }
     ensures progress { result.is_refused ≡ false → 0 < n
@@ -258,18 +261,18 @@ pub fn advance_with<R: Threads + Wait, G: Turn>(
     turn: &G,
 ) -> Done
     requires workers { 0 < workers }
-    requires early { state.old.time + n ≤ 2 ^ 42 }
+    requires early { state.old.time + n ≤ clock_end }
     ensures state { state.new ≡ ticks_of result.ticks state.old }
     ensures most { result.ticks ≤ n }
     ensures keys { AreKept state.old.tasks state.new.tasks }
 {
     let mut log = state.silent();
-    advance_with_told(rt, alloc, state, n, workers, turn, &mut log)
+    advance_with_logged(rt, alloc, state, n, workers, turn, &mut log)
 }
 
-/// As [`advance_with`], and the log is told as by [`advance_told`]: the number of workers changes
-/// nothing that it is told.
-pub fn advance_with_told<R: Threads + Wait, G: Turn>(
+/// As [`advance_with`], and the log records it as by [`advance_logged`]: the number of workers
+/// changes nothing that it is logged.
+pub fn advance_with_logged<R: Threads + Wait, G: Turn>(
     rt: &R,
     alloc: Global,
     state: &mut State,
@@ -279,11 +282,11 @@ pub fn advance_with_told<R: Threads + Wait, G: Turn>(
     log: &mut Log,
 ) -> Done
     requires workers { 0 < workers }
-    requires early { state.old.time + n ≤ 2 ^ 42 }
+    requires early { state.old.time + n ≤ clock_end }
     ensures state { state.new ≡ ticks_of result.ticks state.old }
     ensures most { result.ticks ≤ n }
     ensures keys { AreKept state.old.tasks state.new.tasks }
-    ensures told { Tells log.old (told_by_ticks result.ticks state.old) log.new }
+    ensures logged { HasLogged log.old (logged_by_ticks result.ticks state.old) log.new }
 {
     let Some(crew) = Crew::of(rt, alloc, workers, turn) else {
         return made_by(advance_alone(state, n, turn, usize::MAX, log));

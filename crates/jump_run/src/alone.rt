@@ -3,6 +3,7 @@
 ghost use Rattle.std.specs.Prelude.{◌≡◌, ◌<◌, ◌≤◌, ◌^◌, ◌*◌, ◌-◌, ◌-ℤ◌, ◌<ℤ◌, ◌≤ℤ◌, pos, length, take};
 ghost use Rattle.domain_run.specs.Jump as jump;
 ghost use Rattle.jump_run.specs.Plan.{AreGathered};
+ghost use Rattle.limits.specs.Limits.{clock_end};
 
 use crate::plan::{Room, Span};
 use domain_run::{Running, State};
@@ -26,7 +27,7 @@ fn lasting(left: u64, rate: u64, most: u64) -> u64
     requires slow { rate ≤ 2 ^ 27 }
     requires turns { 0 < rate }
     requires some { 0 < most }
-    requires short { most ≤ 2 ^ 42 }
+    requires short { most ≤ clock_end }
     ensures some { 0 < result }
     ensures most { result ≤ most }
     ensures lasted { rate * (result - 1) < left }
@@ -42,7 +43,7 @@ fn lasting(left: u64, rate: u64, most: u64) -> u64
 fn left_after(left: u64, rate: u64, ticks: u64) -> i128
     requires high { left ≤ 2 ^ 52 }
     requires slow { rate ≤ 2 ^ 27 }
-    requires short { ticks ≤ 2 ^ 42 }
+    requires short { ticks ≤ clock_end }
     ensures { result ≡ pos left -ℤ pos (rate * ticks) }
 {
     let mut slice = Slice {
@@ -74,7 +75,7 @@ fn gather<G: Turn>(state: &State, most: u64, room: &mut Room, turn: &G) -> Span
     ensures some { 0 < result.ticks }
     ensures most { result.ticks ≤ most }
     ensures quiet { result.ticks ≤ jump.ticks_to_event state.now }
-    ensures short { result.ticks ≤ 2 ^ 42 }
+    ensures short { result.ticks ≤ clock_end }
     ensures many { result.count ≡ length (jump.running_numbers state.now.curr) }
     ensures few { result.count ≤ 64 }
     ensures len { length room.new.budgets ≡ 64 }

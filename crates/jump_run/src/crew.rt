@@ -1,11 +1,12 @@
 //! The running tasks planned and charged by several workers.
 
-ghost use Rattle.std.specs.Prelude.{◌≡◌, ◌<◌, ◌≤◌, ◌^◌, IfOk, IfSome, IsNone, IsSome, All, map, take, length, vec_capacity};
+ghost use Rattle.std.specs.Prelude.{◌≡◌, ◌<◌, ◌≤◌, IfOk, IfSome, IsNone, IsSome, All, map, take, length, vec_capacity};
 ghost use Rattle.std.specs.List.{AllZip};
 ghost use Rattle.domain_run.specs.Jump as jump;
 ghost use Rattle.tick_split.specs.Planning.{IsPlannable, IsPlanned};
 ghost use Rattle.tick_split.specs.Charging.{IsChargeable, charged_slice};
 ghost use Rattle.jump_run.specs.Plans.{ArePlans, IsSoundPlan, IsSmall, slice_of};
+ghost use Rattle.limits.specs.Limits.{clock_end};
 
 use crate::plan::{Room, Span, plan_of};
 use domain_run::{NoMemory, State};
@@ -14,7 +15,7 @@ use std::sync::Wait;
 use std::thread::Threads;
 use tick_split::{Plan, Slice, Turn, charge_all, plan_all};
 
-/// So many workers, more than one, who are told their turns, and what they are started with. One
+/// So many workers, more than one, who are logged their turns, and what they are started with. One
 /// worker has no such value at hand, so an advance by one starts no thread and takes no memory
 /// here.
 #[derive(Drop)]
@@ -69,7 +70,7 @@ pub(crate) struct Lists {
     pub(crate) slices: Vec<Slice>,
 }
 
-/// Lists the running tasks by CPU, and tells for how many ticks, at most `most`, nothing comes due
+/// Lists the running tasks by CPU, and finds for how many ticks, at most `most`, nothing comes due
 /// and each has work.
 fn gather(state: &State, most: u64, plans: &mut Vec<Plan>) -> u64
     requires begun { jump.IsUnderWay state.now }
@@ -78,7 +79,7 @@ fn gather(state: &State, most: u64, plans: &mut Vec<Plan>) -> u64
     ensures some { 0 < result }
     ensures most { result ≤ most }
     ensures quiet { result ≤ jump.ticks_to_event state.now }
-    ensures short { result ≤ 2 ^ 42 }
+    ensures short { result ≤ clock_end }
     ensures room { vec_capacity plans.new ≡ 64 }
     ensures many { length plans.new.items ≡ length (jump.running_numbers state.now.curr) }
     ensures few { length plans.new.items ≤ 64 }

@@ -13,7 +13,7 @@ mod plan;
 mod silent;
 
 pub use advancing::{
-    Done, Piece, advance, advance_piece, advance_told, advance_with, advance_with_told,
+    Done, Piece, advance, advance_logged, advance_piece, advance_with, advance_with_logged,
 };
 pub use silent::Silent;
 pub use tick_split::Turn;

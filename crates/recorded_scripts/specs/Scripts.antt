@@ -7,10 +7,11 @@ use Rattle.task_script.specs.declared.phase.Event.TheVariants.{Run, Sleep, Timer
 use Rattle.task_script.specs.script.ScriptView.{PhaseView, ScriptView}
 use Rattle.recorded_jobs.specs.declared.job.Job.{Job}
 use Rattle.recorded_jobs.specs.declared.job.Release.{Release}
+use Rattle.limits.specs.Limits.{max_script_number}
 
 -- a job without an end works on, for 1000 seconds
 abbrev pub work_until : Option ℕ → ℕ → ℕ
-work_until None work = 1000000000
+work_until None work = max_script_number
 work_until (Some t) work = work
 
 abbrev pub work_written : Job → ℕ
@@ -65,12 +66,12 @@ script_of_jobs releases =
 
 -- a time that a script may have: 1 to 10^9 us
 abbrev pub is_script_time : ℕ → Bool
-is_script_time n = nat_le 1 n && nat_le n 1000000000
+is_script_time n = nat_le 1 n && nat_le n max_script_number
 
 -- neither the work of a job nor the time to its release is longer than a script may have it
 abbrev pub is_short_release : ℕ → Release → Bool
 is_short_release before r =
-    nat_le (r.time - before) 1000000000 && is_script_time (work_written r.job)
+    nat_le (r.time - before) max_script_number && is_script_time (work_written r.job)
 
 unfoldable pub are_short_after : ℕ → List Release → Bool
 are_short_after before [] = true

@@ -9,12 +9,14 @@ use Rattle.recorded_workload.specs.declared.shape.Shape.{Shape}
 use Rattle.recorded_workload.specs.declared.fault.WorkloadFault.{WorkloadFault}
 use Rattle.recorded_workload.specs.declared.fault.WorkloadFault.TheVariants.{NoTask, ManyJobs, LongSleep, ManyCpus, LongRecording, Memory}
 use Rattle.recorded_workload.specs.Workload.{jobs_of_all, earliest, time_zero, workload_ticks, workload_cpus}
+use Rattle.limits.specs.Limits as limits
+use Rattle.limits.specs.Limits.{unit, max_script_number}
 
 -- a domain has 1 to 64 CPUs, and a limit of 1 % to all of a CPU
 pub record IsWorkloadShape (shape : Shape) : Type 0 where
   pub some_cpus : IfSome shape.cpus (λ cpus. 0 < cpus)
-  pub least_limit : 10485 ≤ shape.limit
-  pub most_limit : shape.limit ≤ 1048576
+  pub least_limit : limits.least_limit ≤ shape.limit
+  pub most_limit : shape.limit ≤ unit
 
 -- no task has a job
 abbrev pub none_found : Option ℕ → Option WorkloadFault
@@ -29,7 +31,7 @@ many_from n (js ∷ jobs) =
 
 -- a task starts within 10^9 us, and neither works nor waits longer
 abbrev pub fits_script : ℕ → List Release → Bool
-fits_script start js = nat_le (first_release js - start) 1000000000 && are_short js
+fits_script start js = nat_le (first_release js - start) max_script_number && are_short js
 
 -- the first task that does not
 unfoldable pub long_from : ℕ → ℕ → List (List Release) → Option WorkloadFault

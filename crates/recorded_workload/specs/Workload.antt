@@ -13,6 +13,7 @@ use Rattle.recorded_jobs.specs.CpusUsed.{cpus_used}
 use Rattle.recorded_scripts.specs.Scripts.{first_release, script_of_jobs}
 use Rattle.tasks_text.specs.declared.task.Task.{Task}
 use Rattle.recorded_workload.specs.declared.shape.Shape.{Shape}
+use Rattle.limits.specs.Limits.{max_advance}
 
 -- ---- time 0 and the end
 
@@ -58,13 +59,13 @@ admits_from start n (t ∷ tasks) (js ∷ jobs) =
 -- an advance goes on by 60000000 us at most
 unfoldable pub full_advances : ℕ → List Call
 full_advances zero = []
-full_advances (suc n) = Advance 60000000 ∷ full_advances n
+full_advances (suc n) = Advance max_advance ∷ full_advances n
 
 abbrev pub last_advance : ℕ → List Call
 last_advance ticks = if ticks == 0 then [] else Advance ticks ∷ []
 
 abbrev pub advances : ℕ → List Call
-advances ticks = full_advances (ticks / 60000000) ++ last_advance (ticks % 60000000)
+advances ticks = full_advances (ticks / max_advance) ++ last_advance (ticks % max_advance)
 
 -- ---- the section
 

@@ -130,7 +130,7 @@ kept_on c time least h =
 pub next_is_on : (c : CursorView) (time : ℕ) → IsOn c.place c (next_segment c time).cursor
 next_is_on c time = kept_on c time c.place (segment_on c time)
 
--- so what is left of the rounds behind is left before
+-- so what is left of the rounds after is left before
 pub rounds_left : (r least : ℕ) (c e : CursorView) → IsOn least c e → HasRounds r e → IfSome c.script.rounds (λ n. least + r * round_len c.script ≤ n * round_len c.script)
 rounds_left r least c e is left =
     go c.script.rounds is.on (subst (λ s. IfSome s.rounds (λ n. e.place + r * round_len s ≤ n * round_len s)) (sym is.script) left)
@@ -145,8 +145,8 @@ module _ (r : ℕ) (c : CursorView) (time : ℕ) (left : 0 < r → HasRounds r (
   here : event_at c.script (place_on c.script.rounds (r * round_len c.script) c.place) ≡ event_at c.script c.place
   here = event_on c.script r c.place (λ is some. rounds_left r (c.place + 1) c (next_segment c time).cursor (kept_on c time (c.place + 1) (segment_some c time is)) (left some))
 
-  behind : passes_late_timer c time ≡ true → event_at c.script (place_on c.script.rounds (r * round_len c.script) (c.place + 1)) ≡ event_at c.script (c.place + 1)
-  behind late = event_on c.script r (c.place + 1) (λ is some. rounds_left r (c.place + 1 + 1) c (next_segment c time).cursor (kept_on c time (c.place + 1 + 1) (segment_late c time late is)) (left some))
+  following : passes_late_timer c time ≡ true → event_at c.script (place_on c.script.rounds (r * round_len c.script) (c.place + 1)) ≡ event_at c.script (c.place + 1)
+  following late = event_on c.script r (c.place + 1) (λ is some. rounds_left r (c.place + 1 + 1) c (next_segment c time).cursor (kept_on c time (c.place + 1 + 1) (segment_late c time late is)) (left some))
 
 -- ---- what an event gives
 
@@ -209,7 +209,7 @@ module _ (k places : ℕ) (c : CursorView) (time : ℕ) where
   abbrev timed_at : Bool → Type 0
   timed_at b = (place : ℕ) → is_timed (event_at c.script place) ≡ true → b ≡ true
 
-  -- behind a late timer
+  -- after a late timer
   after_timer : timed_at true → same_at (c.place + 1) → given_at (at_next_event (cursor_by true k places c) (time + k)) (time + k) ≡ ask_by true k places (given_at (at_next_event c time) time)
   after_timer timed same =
       let next = at_next_event c time in
@@ -249,12 +249,12 @@ kept_later k places b c = let p = go c.script.rounds in λ i. record { script = 
     go None = refl
     go (Some n) = refl
 
--- a script that is asked gives the same, later, if the place behind is within its rounds
+-- a script that is asked gives the same, later, if the place after is within its rounds
 pub next_later : (k r : ℕ) (c : CursorView) (time : ℕ) → (0 < r → HasRounds r (next_segment c time).cursor) → next_segment (later_cursor k r c) (time + k) ≡ later_ask k r (next_segment c time)
 next_later k r c time left =
     let b = has_timer c.script in
     let places = r * round_len c.script in
-    let e = segment_later k places c time b (timed_there c.script) (here r c time left) (behind r c time left) in
+    let e = segment_later k places c time b (timed_there c.script) (here r c time left) (following r c time left) in
     let s = segment_script c time in
     let a = segment_at c time in
     let kept = kept_later k places b a.cursor in

@@ -3,7 +3,7 @@ use Rattle.std.proofs.Common.{◌≡◌, ℕ, zero, suc, ◌+◌, cond, ◌||◌
 use Rattle.std.specs.Prelude.{option_map}
 use Rattle.edf_pick.specs.declared.candidate.Candidate.{Candidate}
 use Rattle.edf_pick.specs.Choice.{is_before, rank, is_chosen, candidate_at_rank}
-use Rattle.edf_pick.specs.Places.{Places, is_chosen_number, kept_if_chosen, seated_if, seated_upto, placed}
+use Rattle.edf_pick.specs.Places.{Places, is_chosen_number, kept_if_chosen, assigned_if, assigned_upto, placed}
 use Rattle.repeat_law.proofs.Lists.{map_same, find_over, any_over, count_over, lt_later, eq_later}
 
 abbrev pub later_candidate : ℕ → Candidate → Candidate
@@ -38,19 +38,19 @@ kept_later : (k cpus : ℕ) (ready : List Candidate) (o : Option ℕ) → kept_i
 kept_later k cpus ready None = refl
 kept_later k cpus ready (Some n) = let e = number_later k cpus ready n in λ i. cond {A = Option ℕ} (e i) (Some n) None
 
-seated_if_later : (k : ℕ) (places : Places) (o : Option Candidate) → seated_if places (option_map (later_candidate k) o) ≡ seated_if places o
+seated_if_later : (k : ℕ) (places : Places) (o : Option Candidate) → assigned_if places (option_map (later_candidate k) o) ≡ assigned_if places o
 seated_if_later k places None = refl
 seated_if_later k places (Some c) = refl
 
-seated_upto_later : (k : ℕ) (ready : List Candidate) (places : Places) (r : ℕ) → seated_upto (all_later k ready) places r ≡ seated_upto ready places r
+seated_upto_later : (k : ℕ) (ready : List Candidate) (places : Places) (r : ℕ) → assigned_upto (all_later k ready) places r ≡ assigned_upto ready places r
 seated_upto_later k ready places zero = refl
 seated_upto_later k ready places (suc r) =
     let before = seated_upto_later k ready places r in
     let next = at_rank_later k ready r in
-    (λ i. seated_if (before i) (next i)) ∙ seated_if_later k (seated_upto ready places r) (candidate_at_rank ready r)
+    (λ i. assigned_if (before i) (next i)) ∙ seated_if_later k (assigned_upto ready places r) (candidate_at_rank ready r)
 
 pub placed_later : (k cpus : ℕ) (ready : List Candidate) (before : Places) → placed cpus (map (later_candidate k) ready) before ≡ placed cpus ready before
 placed_later k cpus ready before =
     let kept = map_same (kept_if_chosen cpus (all_later k ready)) (kept_if_chosen cpus ready) (kept_later k cpus ready) before in
-    (λ i. seated_upto (all_later k ready) (kept i) cpus)
+    (λ i. assigned_upto (all_later k ready) (kept i) cpus)
     ∙ seated_upto_later k ready (map (kept_if_chosen cpus ready) before) cpus

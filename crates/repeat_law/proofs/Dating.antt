@@ -9,7 +9,7 @@ use Rattle.attr_check.specs.ParamsView.{ParamsView}
 use Rattle.cbs_rules.specs.declared.server.Server.{Server}
 use Rattle.cbs_rules.specs.Budget.{below_zero}
 use Rattle.cbs_rules.specs.Serving.{renewed, overflows, woken_at, woken, charged, is_spent, postponed, replenished_while, replenished}
-use Rattle.edf_pick.specs.Places.{Places, is_task, stands, placed}
+use Rattle.edf_pick.specs.Places.{Places, is_task, is_on_cpu, placed}
 use Rattle.task_script.specs.declared.script.Segment.{Segment}
 use Rattle.task_script.specs.declared.script.Segment.TheVariants.{Run as RunFor, Until, Wait as WaitFor, End}
 use Rattle.task_script.specs.script.Segments.{next_segment}
@@ -21,7 +21,7 @@ use Rattle.domain_run.specs.Parts.{replenish_due, settled, is_listed, enqueued, 
 use Rattle.domain_run.specs.Domain.{Domain}
 use Rattle.domain_run.specs.Tick.{candidates, prepared, with_tick_begun, rate_of, ran_if, ticked, ticks}
 use Rattle.domain_run.specs.Sound.{HasNoTaskTwice, IsDomain, IsSound}
-use Rattle.domain_run.proofs.CallerLemmas.{AreNumbered, AreCandidates, placed_is, ready_in, stands_at, one_index, ticked_numbered, prepared_apart}
+use Rattle.domain_run.proofs.CallerLemmas.{AreNumbered, AreCandidates, placed_is, ready_in, runs_at, one_index, ticked_numbered, prepared_apart}
 
 -- a task that contends has a deadline; every domain keeps that of its tasks
 abbrev pub IsDated : Task → Type 0
@@ -133,15 +133,15 @@ after_charge_deadline time t =
 pub ran_dated : (time rate : ℕ) (t : Task) → IsSome t.server.deadline → IsDated (ran time rate t)
 ran_dated time rate t h is = ap (λ o. is_some o) (after_charge_deadline (time + 1) (record t { server = charged rate 1 t.server; work = t.work - 1 })) ∙ h
 
-ran_if_dated : (e : Domain) (t : Task) → IsDated t → (IsTrue (stands t.number e.curr) → IsTrue (is_ready t.condition)) → IsDated (ran_if e t)
+ran_if_dated : (e : Domain) (t : Task) → IsDated t → (IsTrue (is_on_cpu t.number e.curr) → IsTrue (is_ready t.condition)) → IsDated (ran_if e t)
 ran_if_dated e t h ready =
-    let b = stands t.number e.curr in
+    let b = is_on_cpu t.number e.curr in
     elim b as (λ x. b ≡ x → IsDated (cond x (ran e.time (rate_of e t) t) t)) [
       | true ↦ λ s. ran_dated e.time (rate_of e t) t (h (ready_contends t.condition (ready s)))
       | false ↦ λ s. h
     ] refl
 
-homed_dated : (e : Domain) (o : Option ℕ) (t : Task) → IsDated t → (IsTrue (stands t.number e.curr) → IsTrue (is_ready t.condition)) → IsDated (ran_if e (with_cpu o t))
+homed_dated : (e : Domain) (o : Option ℕ) (t : Task) → IsDated t → (IsTrue (is_on_cpu t.number e.curr) → IsTrue (is_ready t.condition)) → IsDated (ran_if e (with_cpu o t))
 homed_dated e None t h ready = ran_if_dated e t h ready
 homed_dated e (Some cpu) t h ready = ran_if_dated e (record t { cpu = cpu }) h ready
 
@@ -156,38 +156,38 @@ ready_one ts i n t numbered h e (j, u, within, same, test) =
     let i_is : i ≡ j = one_index ts i j t u numbered h within (e ∙ sym (ap (λ (x : Task). x.number) there_is ∙ eqb-true u.number n facts.0)) in
     ap (λ (x : Task). is_ready x.condition) (ap (λ k. get_or ts k t) i_is ∙ there_is) ∙ facts.1
 
-standing_ready : (ts : List Task) (places : Places) → AreNumbered ts → AreCandidates (candidates ts) places → All (λ t. IsTrue (stands t.number places) → IsTrue (is_ready t.condition)) ts
-standing_ready ts places numbered is i x within h =
+running_ready : (ts : List Task) (places : Places) → AreNumbered ts → AreCandidates (candidates ts) places → All (λ t. IsTrue (is_on_cpu t.number places) → IsTrue (is_ready t.condition)) ts
+running_ready ts places numbered is i x within h =
     let n = (get_or ts i x).number in
-    let at = stands_at n places (Any-from_list_any (is_task n) places h) in
+    let at = runs_at n places (Any-from_list_any (is_task n) places h) in
     ready_one ts i n x numbered within refl (Any-from_list_any (λ u. eqb u.number n && is_ready u.condition) ts (ready_in n ts (is.each at.0 n at.1)))
 
-homed_standing : (places : Places) (o : Option ℕ) (t : Task) → IsDated t → (IsTrue (stands t.number places) → IsTrue (is_ready t.condition)) → IsTrue (stands (with_cpu o t).number places) → IsSome (with_cpu o t).server.deadline
-homed_standing places None t h ready s = h (ready_contends t.condition (ready s))
-homed_standing places (Some cpu) t h ready s = h (ready_contends t.condition (ready s))
+homed_running : (places : Places) (o : Option ℕ) (t : Task) → IsDated t → (IsTrue (is_on_cpu t.number places) → IsTrue (is_ready t.condition)) → IsTrue (is_on_cpu (with_cpu o t).number places) → IsSome (with_cpu o t).server.deadline
+homed_running places None t h ready s = h (ready_contends t.condition (ready s))
+homed_running places (Some cpu) t h ready s = h (ready_contends t.condition (ready s))
 
--- who stands on a CPU in a tick that begins has a deadline
-pub standing_dated : (d : Domain) → IsShiftable d → All (λ t. IsTrue (stands t.number (with_tick_begun d).curr) → IsSome t.server.deadline) (with_tick_begun d).tasks
-standing_dated d is =
+-- the task that runs on a CPU in a tick that begins has a deadline
+pub running_dated : (d : Domain) → IsShiftable d → All (λ t. IsTrue (is_on_cpu t.number (with_tick_begun d).curr) → IsSome t.server.deadline) (with_tick_begun d).tasks
+running_dated d is =
     let ts = prepared d.time d.tasks in
     let places = placed d.cpus (candidates ts) d.curr in
     let seats = placed_is d.cpus (candidates ts) d.curr is.wide is.apart in
     let dated = prepared_dated d.time d.tasks is.dated in
-    let ready = standing_ready ts places (prepared_apart d.time d.tasks is.numbered) seats.candidates in
-    All-map (λ t. IsTrue (stands t.number places) → IsSome t.server.deadline) (with_last_cpu places) ts (λ k x within. let t = get_or ts k x in homed_standing places (position (is_task t.number) places) t (dated k x within) (ready k x within))
+    let ready = running_ready ts places (prepared_apart d.time d.tasks is.numbered) seats.candidates in
+    All-map (λ t. IsTrue (is_on_cpu t.number places) → IsSome t.server.deadline) (with_last_cpu places) ts (λ k x within. let t = get_or ts k x in homed_running places (position (is_task t.number) places) t (dated k x within) (ready k x within))
 
-homed_ready : (places : Places) (o : Option ℕ) (t : Task) → (IsTrue (stands t.number places) → IsTrue (is_ready t.condition)) → IsTrue (stands (with_cpu o t).number places) → IsTrue (is_ready (with_cpu o t).condition)
+homed_ready : (places : Places) (o : Option ℕ) (t : Task) → (IsTrue (is_on_cpu t.number places) → IsTrue (is_ready t.condition)) → IsTrue (is_on_cpu (with_cpu o t).number places) → IsTrue (is_ready (with_cpu o t).condition)
 homed_ready places None t ready = ready
 homed_ready places (Some cpu) t ready = ready
 
 -- and is ready
-pub standing_all : (d : Domain) → IsShiftable d → All (λ t. IsTrue (stands t.number (with_tick_begun d).curr) → IsTrue (is_ready t.condition)) (with_tick_begun d).tasks
-standing_all d is =
+pub running_all : (d : Domain) → IsShiftable d → All (λ t. IsTrue (is_on_cpu t.number (with_tick_begun d).curr) → IsTrue (is_ready t.condition)) (with_tick_begun d).tasks
+running_all d is =
     let ts = prepared d.time d.tasks in
     let places = placed d.cpus (candidates ts) d.curr in
     let seats = placed_is d.cpus (candidates ts) d.curr is.wide is.apart in
-    let ready = standing_ready ts places (prepared_apart d.time d.tasks is.numbered) seats.candidates in
-    All-map (λ t. IsTrue (stands t.number places) → IsTrue (is_ready t.condition)) (with_last_cpu places) ts (λ k x within. let t = get_or ts k x in homed_ready places (position (is_task t.number) places) t (ready k x within))
+    let ready = running_ready ts places (prepared_apart d.time d.tasks is.numbered) seats.candidates in
+    All-map (λ t. IsTrue (is_on_cpu t.number places) → IsTrue (is_ready t.condition)) (with_last_cpu places) ts (λ k x within. let t = get_or ts k x in homed_ready places (position (is_task t.number) places) t (ready k x within))
 
 -- who may ask a script
 pub left_dated : (time : ℕ) (ts : List Task) → AreDated ts → AreDated (filter is_listed (map (settled time) (map (replenish_due time) ts)))
@@ -205,7 +205,7 @@ ticked_shiftable d is =
     let e = with_tick_begun d in
     let seats = placed_is d.cpus (candidates ts) d.curr is.wide is.apart in
     let dated = prepared_dated d.time d.tasks is.dated in
-    let ready = standing_ready ts places (prepared_apart d.time d.tasks is.numbered) seats.candidates in
+    let ready = running_ready ts places (prepared_apart d.time d.tasks is.numbered) seats.candidates in
     record {
       dated = All-map IsDated (ran_if e) (map (with_last_cpu places) ts) (All-map (λ t. IsDated (ran_if e t)) (with_last_cpu places) ts (λ k x within. let t = get_or ts k x in homed_dated e (position (is_task t.number) places) t (dated k x within) (ready k x within)));
       numbered = ticked_numbered d is.numbered;

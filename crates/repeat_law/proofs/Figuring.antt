@@ -9,18 +9,18 @@ use Rattle.domain_run.specs.Later.{later_switch, later_happened}
 use Rattle.repeat_law.specs.Repeats.{switches_again, happened_again}
 use Rattle.repeat_law.proofs.Lists.{count_over}
 
-pub count_again : (counts : Happened → Bool) (k m : ℕ) (told : List Happened) → ((j : ℕ) (h : Happened) → counts (later_happened j h) ≡ counts h) → count_by counts (happened_again k m told) ≡ m * count_by counts told
-count_again counts k zero told same = omega arith
-count_again counts k (suc m) told same =
-    let both = sum_by-append (λ h. cond (counts h) 1 0) (happened_again k m told) (map (later_happened (m * k)) told) in
-    let before = count_again counts k m told same in
-    let last = count_over (later_happened (m * k)) counts counts (same (m * k)) told in
-    omega (arith, both, before, last, suc-mul m (count_by counts told))
+pub count_again : (counts : Happened → Bool) (k m : ℕ) (logged : List Happened) → ((j : ℕ) (h : Happened) → counts (later_happened j h) ≡ counts h) → count_by counts (happened_again k m logged) ≡ m * count_by counts logged
+count_again counts k zero logged same = omega arith
+count_again counts k (suc m) logged same =
+    let both = sum_by-append (λ h. cond (counts h) 1 0) (happened_again k m logged) (map (later_happened (m * k)) logged) in
+    let before = count_again counts k m logged same in
+    let last = count_over (later_happened (m * k)) counts counts (same (m * k)) logged in
+    omega (arith, both, before, last, suc-mul m (count_by counts logged))
 
-pub count_switches : (counts : Switch → Bool) (k m : ℕ) (told : List Switch) → ((j : ℕ) (s : Switch) → counts (later_switch j s) ≡ counts s) → count_by counts (switches_again k m told) ≡ m * count_by counts told
-count_switches counts k zero told same = omega arith
-count_switches counts k (suc m) told same =
-    let both = sum_by-append (λ s. cond (counts s) 1 0) (switches_again k m told) (map (later_switch (m * k)) told) in
-    let before = count_switches counts k m told same in
-    let last = count_over (later_switch (m * k)) counts counts (same (m * k)) told in
-    omega (arith, both, before, last, suc-mul m (count_by counts told))
+pub count_switches : (counts : Switch → Bool) (k m : ℕ) (logged : List Switch) → ((j : ℕ) (s : Switch) → counts (later_switch j s) ≡ counts s) → count_by counts (switches_again k m logged) ≡ m * count_by counts logged
+count_switches counts k zero logged same = omega arith
+count_switches counts k (suc m) logged same =
+    let both = sum_by-append (λ s. cond (counts s) 1 0) (switches_again k m logged) (map (later_switch (m * k)) logged) in
+    let before = count_switches counts k m logged same in
+    let last = count_over (later_switch (m * k)) counts counts (same (m * k)) logged in
+    omega (arith, both, before, last, suc-mul m (count_by counts logged))

@@ -3,7 +3,7 @@ use Rattle.std.proofs.Common.{◌≡◌, ℕ, zero, suc, ◌+◌, ◌≤◌, tru
 use Rattle.std.specs.Prelude.{position}
 use Rattle.cbs_rules.specs.declared.server.Server.{Server}
 use Rattle.cbs_rules.specs.Serving.{replenished, woken, is_spent}
-use Rattle.edf_pick.specs.Places.{is_task, stands}
+use Rattle.edf_pick.specs.Places.{is_task, is_on_cpu}
 use Rattle.task_script.specs.declared.script.Segment.{Segment}
 use Rattle.task_script.specs.declared.script.Segment.TheVariants.{Run as RunFor, Until, Wait as WaitFor, End}
 use Rattle.task_script.specs.script.ScriptView.{ScriptView, CursorView}
@@ -88,7 +88,7 @@ module _ (m : TaskMark) where
       ]
 
   marked_ran_if : (d : Domain) (t : Task) → marked m (ran_if d t) ≡ marked m t
-  marked_ran_if d t = elim (stands t.number d.curr) as (λ b. marked m (cond b (ran d.time (rate_of d t) t) t) ≡ marked m t) [ true ↦ marked_ran d.time (rate_of d t) t | false ↦ refl ]
+  marked_ran_if d t = elim (is_on_cpu t.number d.curr) as (λ b. marked m (cond b (ran d.time (rate_of d t) t) t) ≡ marked m t) [ true ↦ marked_ran d.time (rate_of d t) t | false ↦ refl ]
 
 marked_map : (ms : List TaskMark) (f : Task → Task) → ((m : TaskMark) (t : Task) → marked m (f t) ≡ marked m t) → (ts : List Task) → all_marked ms (map f ts) ≡ all_marked ms ts
 marked_map [] f same ts = refl

@@ -57,6 +57,6 @@ module _ (s : Shift) where
         traced = record {
           switches = All-map (IsSwitch d.cpus (d.time + k) d.used) (later_switch k) d.switches (All-weaker (IsSwitch d.cpus d.time d.used) (λ x. IsSwitch d.cpus (d.time + k) d.used (later_switch k x)) (λ x h. switch_later d.cpus d.time k d.used x h) d.switches is.traced.switches);
           rising = AllPairs-map (λ a b. IsTrue (is_switch_before a b)) (later_switch k) (λ a b h. before_later k a b h) d.switches is.traced.rising;
-          standing = is.traced.standing;
+          on_cpu = is.traced.on_cpu;
         };
       }

@@ -6,7 +6,7 @@ use Rattle.std.proofs.Math.Nat.{suc-mul, add-mul}
 use Rattle.std.proofs.lemmas.List.{length-map}
 use Rattle.std.proofs.lemmas.List.Elements.{All-map}
 use Rattle.cbs_rules.specs.Serving.{replenished, is_spent}
-use Rattle.edf_pick.specs.Places.{is_task, stands}
+use Rattle.edf_pick.specs.Places.{is_task, is_on_cpu}
 use Rattle.task_script.specs.script.ScriptView.{round_len}
 use Rattle.domain_run.specs.declared.task.Task.{Task}
 use Rattle.domain_run.specs.declared.task.Condition.TheVariants.{Ready, Throttled}
@@ -24,7 +24,7 @@ use Rattle.repeat_law.specs.Repeats.{Outlasts, Repeats, many_paces, many, LastsF
 use Rattle.repeat_law.proofs.Lists.{All-unmap, filter_all}
 use Rattle.repeat_law.proofs.Parts.{contending_later, unblocked_contending, some_work}
 use Rattle.repeat_law.proofs.Paces.{number_paced, never_ready, nothing_left, charged_task, unblocked_alone, ran_on_work, unblocked_is_on, ran_is_on, rounds_before, go_homed}
-use Rattle.repeat_law.proofs.Dating.{IsShiftable, standing_all, ticks_shiftable}
+use Rattle.repeat_law.proofs.Dating.{IsShiftable, running_all, ticks_shiftable}
 use Rattle.repeat_law.proofs.Ticking.{left, one_go, left_go, go_over, ran_if_number, homed_number}
 
 -- ---- work that is longer than what is left of the period goes on, tick after tick
@@ -64,9 +64,9 @@ steady_less q Rests t h = h
 steady_less q (Plays r) t h = h
 steady_less q (Works w) t h = let work = h.1 in (h.0, omega (arith, work))
 
-steady_ran_if : (d : Domain) (q : ℕ) (p : Pace) (t : Task) → (IsTrue (stands t.number d.curr) → IsTrue (is_ready t.condition)) → MayGo (steady (suc q) p) t → MayGo (steady q p) (ran_if d t)
+steady_ran_if : (d : Domain) (q : ℕ) (p : Pace) (t : Task) → (IsTrue (is_on_cpu t.number d.curr) → IsTrue (is_ready t.condition)) → MayGo (steady (suc q) p) t → MayGo (steady q p) (ran_if d t)
 steady_ran_if d q p t ready h =
-    elim (stands t.number d.curr) as (λ b. stands t.number d.curr ≡ b → MayGo (steady q p) (cond b (ran d.time (rate_of d t) t) t)) [
+    elim (is_on_cpu t.number d.curr) as (λ b. is_on_cpu t.number d.curr ≡ b → MayGo (steady q p) (cond b (ran d.time (rate_of d t) t) t)) [
       | true ↦ λ there. steady_ran d.time (rate_of d t) q p t (ready there) h
       | false ↦ λ there. steady_less q p t h
     ] refl
@@ -88,7 +88,7 @@ module _ (s : Shift) where
   steady_ticked : (q : ℕ) (d : Domain) → IsShiftable d → MayShift (steadily (suc q) s) d.tasks → MayShift (steadily q s) (ticked d).tasks
   steady_ticked q d is h =
       let e = with_tick_begun d in
-      let ready = standing_all d is in
+      let ready = running_all d is in
       let may = steady_begun (suc q) d h in
       go_over (steadily q s) (ran_if e) (ran_if_number e) e.tasks (λ i x w. let t = get_or e.tasks i x in steady_ran_if e q (s.pace t.number) t (ready i x w) (may i x w))
 
@@ -107,9 +107,9 @@ before_ran time rate m q (Works w) t h after ready =
     let less : m * w < t.work - 1 = subst (λ n. m * w < n) (ap (λ (u : Task). u.work) (ran_steady time rate q t h.1)) after.1 in
     (h.0, omega (arith, less))
 
-before_ran_if : (d : Domain) (m q : ℕ) (p : Pace) (t : Task) → (IsTrue (stands t.number d.curr) → IsTrue (is_ready t.condition)) → MayGo (steady (suc q) p) t → MayGo (many_paces m p) (ran_if d t) → MayGo (many_paces m p) t
+before_ran_if : (d : Domain) (m q : ℕ) (p : Pace) (t : Task) → (IsTrue (is_on_cpu t.number d.curr) → IsTrue (is_ready t.condition)) → MayGo (steady (suc q) p) t → MayGo (many_paces m p) (ran_if d t) → MayGo (many_paces m p) t
 before_ran_if d m q p t ready h after =
-    elim (stands t.number d.curr) as (λ b. stands t.number d.curr ≡ b → MayGo (many_paces m p) (cond b (ran d.time (rate_of d t) t) t) → MayGo (many_paces m p) t) [
+    elim (is_on_cpu t.number d.curr) as (λ b. is_on_cpu t.number d.curr ≡ b → MayGo (many_paces m p) (cond b (ran d.time (rate_of d t) t) t) → MayGo (many_paces m p) t) [
       | true ↦ λ there a. before_ran d.time (rate_of d t) m q p t h a (ready there)
       | false ↦ λ there a. a
     ] refl after
@@ -189,7 +189,7 @@ module _ (s : Shift) (m : ℕ) where
       let may_one = one_go S time d.tasks h in
       let may_left = left_go S time d.tasks h in
       let may_begun = steady_begun s (suc q) d h in
-      let ready = standing_all d is in
+      let ready = running_all d is in
       let begun = back_over (ran_if e) (ran_if_number e) e.tasks (λ i x w. let t = get_or e.tasks i x in before_ran_if e m q (s.pace t.number) t (ready i x w) (may_begun i x w)) after in
       let placed = back_over (with_last_cpu e.curr) (λ t. homed_number (position (is_task t.number) e.curr) t) ps (λ i x w. let t = get_or ps i x in before_homed (position (is_task t.number) e.curr) ((many m s).pace t.number) t) begun in
       let awake = back_over (unblocked time) (λ t. (same_unblocked time t).number) ls (λ i x w. let t = get_or ls i x in before_unblocked time m (suc q) (s.pace t.number) t (may_left i x w)) placed in

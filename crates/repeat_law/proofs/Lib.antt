@@ -7,7 +7,7 @@ mod Paces
 mod Choosing
 mod Dating
 mod Ticking
-mod Telling
+mod Logging
 mod Lasting
 mod Repeating
 mod Keeping

@@ -10,8 +10,8 @@ use Rattle.domain_run.specs.Switch.{Switch}
 use Rattle.domain_run.specs.Domain.{Domain}
 use Rattle.domain_run.specs.Passing.{without_switches, with_past}
 use Rattle.domain_run.specs.Tick.{ticked, ticks}
-use Rattle.domain_run.specs.Happened.{told_by_tick, told_by_ticks}
-use Rattle.domain_run.proofs.CallerLemmas.{ticks_behind, told_by_ticks_behind}
+use Rattle.domain_run.specs.Happened.{logged_by_tick, logged_by_ticks}
+use Rattle.domain_run.proofs.CallerLemmas.{ticks_after, logged_by_ticks_after}
 use Rattle.task_script.specs.script.Later.{has_timer, place_on, later_reference}
 use Rattle.domain_run.specs.Later.{later, later_condition, later_task, later_switch, later_happened}
 use Rattle.domain_run.specs.declared.pace.Pace.{Pace}
@@ -22,7 +22,7 @@ use Rattle.repeat_law.specs.Repeats.{Repeats, many_paces, many, LastsFor, switch
 use Rattle.repeat_law.proofs.Paces.{number_paced}
 use Rattle.repeat_law.proofs.Dating.{IsShiftable}
 use Rattle.repeat_law.proofs.Ticking.{ticks_over}
-use Rattle.repeat_law.proofs.Telling.{ticks_tell}
+use Rattle.repeat_law.proofs.Logging.{ticks_log}
 use Rattle.repeat_law.proofs.Lasting.{lasts_through}
 
 -- ---- two shifts are one
@@ -149,7 +149,7 @@ whole d = ap (λ s. record d { switches = s }) (append-nil d.switches)
 
 -- ticks go on from what is there without the switches
 ticks_bare : (n : ℕ) (d : Domain) → ticks n d ≡ with_past d.switches (ticks n (without_switches d))
-ticks_bare n d = sym (ap (λ e. ticks n e) (whole d)) ∙ ticks_behind n d.switches (without_switches d)
+ticks_bare n d = sym (ap (λ e. ticks n e) (whole d)) ∙ ticks_after n d.switches (without_switches d)
 
 bare_ticks : (n : ℕ) (d : Domain) → without_switches (ticks n d) ≡ without_switches (ticks n (without_switches d))
 bare_ticks n d = ap (λ (e : Domain). without_switches e) (ticks_bare n d)
@@ -164,18 +164,18 @@ shiftable_bare d is = record { dated = is.dated; numbered = is.numbered; wide = 
 may_bare : (s : Shift) (n : ℕ) (d : Domain) → MayShiftFor s n d → MayShiftFor s n (without_switches d)
 may_bare s n d h = λ i within. subst (λ (e : Domain). MayShift s e.tasks) (ticks_bare i d) (h i within)
 
-told_bare : (n : ℕ) (d : Domain) → told_by_ticks n d ≡ told_by_ticks n (without_switches d)
-told_bare n d = sym (ap (λ e. told_by_ticks n e) (whole d)) ∙ told_by_ticks_behind n d.switches (without_switches d)
+logged_bare : (n : ℕ) (d : Domain) → logged_by_ticks n d ≡ logged_by_ticks n (without_switches d)
+logged_bare n d = sym (ap (λ e. logged_by_ticks n e) (whole d)) ∙ logged_by_ticks_after n d.switches (without_switches d)
 
-told_add : (a b : ℕ) (d : Domain) → told_by_ticks a d ++ told_by_ticks b (ticks a d) ≡ told_by_ticks (a + b) d
-told_add a zero d = let e : a ≡ a + 0 = omega arith in append-nil (told_by_ticks a d) ∙ ap (λ n. told_by_ticks n d) e
-told_add a (suc b) d =
+logged_add : (a b : ℕ) (d : Domain) → logged_by_ticks a d ++ logged_by_ticks b (ticks a d) ≡ logged_by_ticks (a + b) d
+logged_add a zero d = let e : a ≡ a + 0 = omega arith in append-nil (logged_by_ticks a d) ∙ ap (λ n. logged_by_ticks n d) e
+logged_add a (suc b) d =
     let e : suc (a + b) ≡ a + suc b = omega arith in
-    let more = told_add a b d in
+    let more = logged_add a b d in
     let there = ticks_add a b d in
-    sym (append_assoc (told_by_ticks a d) (told_by_ticks b (ticks a d)) (told_by_tick (ticks b (ticks a d))))
-    ∙ (λ i. more i ++ told_by_tick (there i))
-    ∙ ap (λ n. told_by_ticks n d) e
+    sym (append_assoc (logged_by_ticks a d) (logged_by_ticks b (ticks a d)) (logged_by_tick (ticks b (ticks a d))))
+    ∙ (λ i. more i ++ logged_by_tick (there i))
+    ∙ ap (λ n. logged_by_ticks n d) e
 
 -- ---- from a state that has come again, shifted
 
@@ -186,12 +186,12 @@ module _ (s : Shift) (n : ℕ) (d e : Domain) (is : IsShiftable d) (may : MayShi
       ∙ ap (λ x. with_past e.switches (ticks n x)) same
       ∙ ap (with_past e.switches) (ticks_over s n (without_switches d) (shiftable_bare d is) (may_bare s n d may))
 
-  pub told_there : told_by_ticks n e ≡ map (later_happened s.micros) (told_by_ticks n d)
-  told_there =
-      told_bare n e
-      ∙ ap (λ x. told_by_ticks n x) same
-      ∙ ticks_tell s n (without_switches d) (shiftable_bare d is) (may_bare s n d may)
-      ∙ ap (map (later_happened s.micros)) (sym (told_bare n d))
+  pub logged_there : logged_by_ticks n e ≡ map (later_happened s.micros) (logged_by_ticks n d)
+  logged_there =
+      logged_bare n e
+      ∙ ap (λ x. logged_by_ticks n x) same
+      ∙ ticks_log s n (without_switches d) (shiftable_bare d is) (may_bare s n d may)
+      ∙ ap (map (later_happened s.micros)) (sym (logged_bare n d))
 
 -- ---- period by period
 
@@ -217,8 +217,8 @@ module _ (s : Shift) (d : Domain) (is : IsShiftable d) (once : Repeats s d) wher
   pub after : (m n : ℕ) → LastsFor m s d → MayShiftFor (many m s) n d → ticks n (ticks (m * s.micros) d) ≡ with_past (ticks (m * s.micros) d).switches (shifted (many m s) (ticks n (without_switches d)))
   after m n lasts may = from_there (many m s) n d (ticks (m * s.micros) d) is may (repeats m lasts)
 
-  pub after_tells : (m n : ℕ) → LastsFor m s d → MayShiftFor (many m s) n d → told_by_ticks n (ticks (m * s.micros) d) ≡ map (later_happened (m * s.micros)) (told_by_ticks n d)
-  after_tells m n lasts may = told_there (many m s) n d (ticks (m * s.micros) d) is may (repeats m lasts)
+  pub after_logs : (m n : ℕ) → LastsFor m s d → MayShiftFor (many m s) n d → logged_by_ticks n (ticks (m * s.micros) d) ≡ map (later_happened (m * s.micros)) (logged_by_ticks n d)
+  after_logs m n lasts may = logged_there (many m s) n d (ticks (m * s.micros) d) is may (repeats m lasts)
 
   pub gives_again : (m : ℕ) → LastsFor m s d → (ticks (m * s.micros) d).switches ≡ d.switches ++ switches_again s.micros m (switches_of s.micros d)
   gives_again zero lasts = let e : zero * s.micros ≡ 0 = omega arith in ap (λ n. (ticks n d).switches) e ∙ sym (append-nil d.switches)
@@ -232,14 +232,14 @@ module _ (s : Shift) (d : Domain) (is : IsShiftable d) (once : Repeats s d) wher
       ∙ ap (λ ss. ss ++ new) (gives_again m before)
       ∙ append_assoc d.switches (switches_again k m (switches_of k d)) new
 
-  pub tells_again : (m : ℕ) → LastsFor m s d → told_by_ticks (m * s.micros) d ≡ happened_again s.micros m (told_by_ticks s.micros d)
-  tells_again zero lasts = let e : zero * s.micros ≡ 0 = omega arith in ap (λ n. told_by_ticks n d) e
-  tells_again (suc m) lasts =
+  pub logs_again : (m : ℕ) → LastsFor m s d → logged_by_ticks (m * s.micros) d ≡ happened_again s.micros m (logged_by_ticks s.micros d)
+  logs_again zero lasts = let e : zero * s.micros ≡ 0 = omega arith in ap (λ n. logged_by_ticks n d) e
+  logs_again (suc m) lasts =
       let k = s.micros in
       let e : m * k + k ≡ suc m * k = omega (arith, suc-mul m k) in
       let so_far = fewer m lasts in
-      let before = tells_again m so_far in
-      let next = after_tells m k so_far (through m k lasts (omega arith)) in
-      ap (λ n. told_by_ticks n d) (sym e)
-      ∙ sym (told_add (m * k) k d)
+      let before = logs_again m so_far in
+      let next = after_logs m k so_far (through m k lasts (omega arith)) in
+      ap (λ n. logged_by_ticks n d) (sym e)
+      ∙ sym (logged_add (m * k) k d)
       ∙ (λ i. before i ++ next i)

@@ -82,7 +82,7 @@ event_on s r place fits = go s.rounds s.phases fits where
       let round = round_of phases in
       subst (λ l. (IsSome (slice_get (repeat n round) place) → 0 < r → place + 1 + r * l ≤ n * l) → slice_get (repeat n round) (place + r * l) ≡ slice_get (repeat n round) place) (length_round phases) (finite_on n round r place) fits
 
--- behind a place comes the next, some rounds further on too
+-- after a place comes the next, some rounds further on too
 pub next_on : (rounds : Option ℕ) (places place : ℕ) → place_on rounds places place + 1 ≡ place_on rounds places (place + 1)
 next_on None places place = refl
 next_on (Some n) places place = omega arith

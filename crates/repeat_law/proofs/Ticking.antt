@@ -6,7 +6,7 @@ use Rattle.std.proofs.lemmas.List.{map-append}
 use Rattle.std.proofs.lemmas.List.Elements.{All-head, All-tail, All-map, All-filter}
 use Rattle.grub_rules.specs.Sums.{total_bw, uinact}
 use Rattle.grub_rules.specs.Rate as reclaiming
-use Rattle.edf_pick.specs.Places.{Places, is_task, placed, stands}
+use Rattle.edf_pick.specs.Places.{Places, is_task, placed, is_on_cpu}
 use Rattle.edf_pick.specs.Moves.{same_occupant}
 use Rattle.domain_run.specs.declared.task.Task.{Task}
 use Rattle.domain_run.specs.declared.switch.PrevState.{PrevState}
@@ -28,7 +28,7 @@ use Rattle.repeat_law.proofs.Asking.{IsOn}
 use Rattle.repeat_law.proofs.Parts.{ready_later, contending_later, left_in_later, some_later}
 use Rattle.repeat_law.proofs.Paces.{by_pace, number_paced, never_ready, ran_is_on, go_replenished, go_settled, go_unblocked, go_homed, homed_on, replenish_due_paced, settled_paced, listed_paced, unblocked_paced, with_last_cpu_paced, ran_paced, is_on_itself}
 use Rattle.repeat_law.proofs.Choosing.{later_candidate, placed_later}
-use Rattle.repeat_law.proofs.Dating.{IsDated, AreDated, IsShiftable, ready_contends, prepared_dated, standing_all, ticks_shiftable}
+use Rattle.repeat_law.proofs.Dating.{IsDated, AreDated, IsShiftable, ready_contends, prepared_dated, running_all, ticks_shiftable}
 
 -- ---- one task at a pace
 
@@ -58,10 +58,10 @@ abbrev pub left : ℕ → List Task → List Task
 left time ts = filter is_listed (map (settled time) (map (replenish_due time) ts))
 
 pub ran_if_number : (d : Domain) (t : Task) → (ran_if d t).number ≡ t.number
-ran_if_number d t = elim (stands t.number d.curr) as (λ b. (cond b (ran d.time (rate_of d t) t) t).number ≡ t.number) [ true ↦ (same_ran d.time (rate_of d t) t).number | false ↦ refl ]
+ran_if_number d t = elim (is_on_cpu t.number d.curr) as (λ b. (cond b (ran d.time (rate_of d t) t) t).number ≡ t.number) [ true ↦ (same_ran d.time (rate_of d t) t).number | false ↦ refl ]
 
 pub ran_if_is_on : (d : Domain) (t : Task) → IsOn t.cursor.place t.cursor (ran_if d t).cursor
-ran_if_is_on d t = elim (stands t.number d.curr) as (λ b. IsOn t.cursor.place t.cursor (cond b (ran d.time (rate_of d t) t) t).cursor) [ true ↦ ran_is_on d.time (rate_of d t) t | false ↦ is_on_itself t.cursor t.cursor refl ]
+ran_if_is_on d t = elim (is_on_cpu t.number d.curr) as (λ b. IsOn t.cursor.place t.cursor (cond b (ran d.time (rate_of d t) t) t).cursor) [ true ↦ ran_is_on d.time (rate_of d t) t | false ↦ is_on_itself t.cursor t.cursor refl ]
 
 pub homed_number : (o : Option ℕ) (t : Task) → (with_cpu o t).number ≡ t.number
 homed_number None t = refl
@@ -152,10 +152,10 @@ module _ (s : Shift) where
   with_places_over d ts places =
       let tasks = map_over (shifted_task s) (with_last_cpu places) (with_last_cpu places) ts (λ i x w. let t = get_or ts i x in part_over (with_last_cpu places) (with_last_cpu places) t (homed_number (position (is_task t.number) places) t) (with_last_cpu_paced s.micros (s.pace t.number) places t)) in
       let new = switches_over d.time ts 0 d.curr places in
-      let told : map (later_switch s.micros) d.switches ++ switches_from (d.time + s.micros) (map (shifted_task s) ts) 0 d.curr places ≡ map (later_switch s.micros) (d.switches ++ switches_from d.time ts 0 d.curr places) = (λ i. map (later_switch s.micros) d.switches ++ new i) ∙ sym (map-append (later_switch s.micros) d.switches (switches_from d.time ts 0 d.curr places)) in
-      λ i. record (shifted s d) { tasks = tasks i; curr = places; switches = told i }
+      let logged : map (later_switch s.micros) d.switches ++ switches_from (d.time + s.micros) (map (shifted_task s) ts) 0 d.curr places ≡ map (later_switch s.micros) (d.switches ++ switches_from d.time ts 0 d.curr places) = (λ i. map (later_switch s.micros) d.switches ++ new i) ∙ sym (map-append (later_switch s.micros) d.switches (switches_from d.time ts 0 d.curr places)) in
+      λ i. record (shifted s d) { tasks = tasks i; curr = places; switches = logged i }
 
-  -- ---- what the tasks that a tick leaves tell of those before
+  -- ---- what the tasks that a tick leaves log of those before
 
   pub begun_after : (d : Domain) → MayShift s (ticked d).tasks → All (λ t. MayGo (s.pace t.number) (ran_if (with_tick_begun d) t)) (with_tick_begun d).tasks
   begun_after d after =
@@ -219,7 +219,7 @@ module _ (s : Shift) where
       let cpu = by_pace (λ u. u.cpu ≡ t.cpu) s.micros p t refl (λ r w. refl) in
       λ i. reclaiming.rate (params i) (uinact (cpu i) (e i)) (total_bw (e i)) d.cpus d.limit
 
-  ran_if_over : (d : Domain) (t : Task) → (IsTrue (stands t.number d.curr) → IsTrue (is_ready t.condition)) → MayGo (s.pace t.number) t → MayGo (s.pace t.number) (ran_if d t) → ran_if (shifted s d) (shifted_task s t) ≡ paced_task s.micros (s.pace t.number) (ran_if d t)
+  ran_if_over : (d : Domain) (t : Task) → (IsTrue (is_on_cpu t.number d.curr) → IsTrue (is_ready t.condition)) → MayGo (s.pace t.number) t → MayGo (s.pace t.number) (ran_if d t) → ran_if (shifted s d) (shifted_task s t) ≡ paced_task s.micros (s.pace t.number) (ran_if d t)
   ran_if_over d t ready h after =
       let k = s.micros in
       let p = s.pace t.number in
@@ -227,13 +227,13 @@ module _ (s : Shift) where
       let n = number_paced k p t in
       let rate = rate_over d t in
       let r = rate_of d t in
-      (λ i. cond (stands (n i) d.curr) (ran (d.time + k) (rate i) u) u)
-      ∙ (elim (stands t.number d.curr) as (λ b. stands t.number d.curr ≡ b → MayGo p (cond b (ran d.time r t) t) → cond b (ran (d.time + k) r u) u ≡ paced_task k p (cond b (ran d.time r t) t)) [
+      (λ i. cond (is_on_cpu (n i) d.curr) (ran (d.time + k) (rate i) u) u)
+      ∙ (elim (is_on_cpu t.number d.curr) as (λ b. is_on_cpu t.number d.curr ≡ b → MayGo p (cond b (ran d.time r t) t) → cond b (ran (d.time + k) r u) u ≡ paced_task k p (cond b (ran d.time r t) t)) [
         | true ↦ λ there a. ran_paced k d.time r p t (ready there) h a
         | false ↦ λ there a. refl
       ] refl after)
 
-  finished_over : (d : Domain) → All (λ t. IsTrue (stands t.number d.curr) → IsTrue (is_ready t.condition)) d.tasks → MayShift s d.tasks → All (λ t. MayGo (s.pace t.number) (ran_if d t)) d.tasks → finished (shifted s d) ≡ shifted s (finished d)
+  finished_over : (d : Domain) → All (λ t. IsTrue (is_on_cpu t.number d.curr) → IsTrue (is_ready t.condition)) d.tasks → MayShift s d.tasks → All (λ t. MayGo (s.pace t.number) (ran_if d t)) d.tasks → finished (shifted s d) ≡ shifted s (finished d)
   finished_over d ready h after =
       let time = swap_add d.time 1 s.micros in
       let tasks = map_over (shifted_task s) (ran_if d) (ran_if (shifted s d)) d.tasks (λ i x w. let t = get_or d.tasks i x in part_over (ran_if d) (ran_if (shifted s d)) t (ran_if_number d t) (ran_if_over d t (ready i x w) (h i x w) (after i x w))) in
@@ -244,7 +244,7 @@ module _ (s : Shift) where
   pub ticked_over : (d : Domain) → IsShiftable d → MayShift s d.tasks → MayShift s (ticked d).tasks → ticked (shifted s d) ≡ shifted s (ticked d)
   ticked_over d is h after =
       let e = begun_over d is.dated h after in
-      (λ i. finished (e i)) ∙ finished_over (with_tick_begun d) (standing_all d is) (begun_go d h after) (begun_after d after)
+      (λ i. finished (e i)) ∙ finished_over (with_tick_begun d) (running_all d is) (begun_go d h after) (begun_after d after)
 
   pub ticks_over : (n : ℕ) (d : Domain) → IsShiftable d → MayShiftFor s n d → ticks n (shifted s d) ≡ shifted s (ticks n d)
   ticks_over zero d is h = refl

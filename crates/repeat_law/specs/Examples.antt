@@ -13,7 +13,7 @@ use Rattle.domain_run.specs.Switch.{Switch}
 use Rattle.domain_run.specs.Passing.{without_switches}
 use Rattle.domain_run.specs.Tick.{ticked, ticks}
 use Rattle.domain_run.specs.Run.{run_of}
-use Rattle.domain_run.specs.Happened.{told_by_ticks}
+use Rattle.domain_run.specs.Happened.{logged_by_ticks}
 use Rattle.domain_run.specs.examples.Calling.{plain, reclaiming, admit, switch}
 use Rattle.task_script.specs.Examples.{rounds, once, forever}
 use Rattle.domain_run.specs.declared.pace.Pace.TheVariants.{Rests, Plays, Works}
@@ -112,13 +112,13 @@ sleeping time =
       name = codes "T";
     }
 
-abbrev dozing : ℕ → Domain
-dozing n = run_of 1 1048576 (admit 1 (reclaiming 4 8 8) sleepy ∷ Advance n ∷ [])
+abbrev deferring_timers : ℕ → Domain
+deferring_timers n = run_of 1 1048576 (admit 1 (reclaiming 4 8 8) sleepy ∷ Advance n ∷ [])
 
-sleepy_at_8 : (dozing 8).tasks ≡ sleeping 8 ∷ []
+sleepy_at_8 : (deferring_timers 8).tasks ≡ sleeping 8 ∷ []
 sleepy_at_8 = refl
 
-sleepy_at_16 : (dozing 16).tasks ≡ sleeping 16 ∷ []
+sleepy_at_16 : (deferring_timers 16).tasks ≡ sleeping 16 ∷ []
 sleepy_at_16 = refl
 
 sleepy_again : paced_task 8 (Plays 1) (sleeping 8) ≡ sleeping 16
@@ -273,8 +273,8 @@ job_at time =
     record { time = time; what = Released (time + 5); number = 1; cpu = 0 }
     ∷ record { time = time + 2; what = JobEnds; number = 1; cpu = 0 } ∷ []
 
-first_told : told_by_ticks 5 (playing endless 10) ≡ job_at 10
-first_told = refl
+first_logged : logged_by_ticks 5 (playing endless 10) ≡ job_at 10
+first_logged = refl
 
-two_told : told_by_ticks 10 (playing endless 10) ≡ happened_again 5 2 (job_at 10)
-two_told = refl
+two_logged : logged_by_ticks 10 (playing endless 10) ≡ happened_again 5 2 (job_at 10)
+two_logged = refl

@@ -7,7 +7,7 @@ use Rattle.domain_run.specs.Switch.{Switch}
 use Rattle.domain_run.specs.Domain.{Domain}
 use Rattle.domain_run.specs.Passing.{without_switches, with_past}
 use Rattle.domain_run.specs.Sound.{IsDomain}
-use Rattle.domain_run.specs.Happened.{told_by_ticks}
+use Rattle.domain_run.specs.Happened.{logged_by_ticks}
 use Rattle.domain_run.specs.Tick.{ticks}
 use Rattle.domain_run.specs.Later.{later_switch, later_happened}
 use Rattle.domain_run.specs.declared.pace.Pace.{Pace}
@@ -46,13 +46,13 @@ switches_of n d = (ticks n (without_switches d)).switches
 
 -- the switches of a period, m times, each time a period later
 abbrev pub switches_again : ℕ → ℕ → List Switch → List Switch
-switches_again k zero told = []
-switches_again k (suc m) told = switches_again k m told ++ map (later_switch (m * k)) told
+switches_again k zero logged = []
+switches_again k (suc m) logged = switches_again k m logged ++ map (later_switch (m * k)) logged
 
 -- and what happened in it
 abbrev pub happened_again : ℕ → ℕ → List Happened → List Happened
-happened_again k zero told = []
-happened_again k (suc m) told = happened_again k m told ++ map (later_happened (m * k)) told
+happened_again k zero logged = []
+happened_again k (suc m) logged = happened_again k m logged ++ map (later_happened (m * k)) logged
 
 -- THE LAWS. After m periods the domain is what it was, shifted m times
 abbrev pub RepeatsLaw : Type 0
@@ -66,9 +66,9 @@ SwitchesLaw = (s : Shift) (m : ℕ) (d : Domain) → IsDomain d → Repeats s d 
     ≡ d.switches ++ switches_again s.micros m (switches_of s.micros d)
 
 -- and so is what happens
-abbrev pub TellsLaw : Type 0
-TellsLaw = (s : Shift) (m : ℕ) (d : Domain) → IsDomain d → Repeats s d → LastsFor m s d
-    → told_by_ticks (m * s.micros) d ≡ happened_again s.micros m (told_by_ticks s.micros d)
+abbrev pub LogsLaw : Type 0
+LogsLaw = (s : Shift) (m : ℕ) (d : Domain) → IsDomain d → Repeats s d → LastsFor m s d
+    → logged_by_ticks (m * s.micros) d ≡ happened_again s.micros m (logged_by_ticks s.micros d)
 
 -- n more ticks do what the first n ticks did, as long as rounds and work last
 abbrev pub AfterLaw : Type 0
@@ -78,11 +78,11 @@ AfterLaw = (s : Shift) (m n : ℕ) (d : Domain) → IsDomain d → Repeats s d �
     ≡ with_past (ticks (m * s.micros) d).switches
     (shifted (many m s) (ticks n (without_switches d)))
 
-abbrev pub AfterTellsLaw : Type 0
-AfterTellsLaw = (s : Shift) (m n : ℕ) (d : Domain) → IsDomain d → Repeats s d → LastsFor m s d
+abbrev pub AfterLogsLaw : Type 0
+AfterLogsLaw = (s : Shift) (m n : ℕ) (d : Domain) → IsDomain d → Repeats s d → LastsFor m s d
     → MayShiftFor (many m s) n d
-    → told_by_ticks n (ticks (m * s.micros) d)
-    ≡ map (later_happened (m * s.micros)) (told_by_ticks n d)
+    → logged_by_ticks n (ticks (m * s.micros) d)
+    ≡ map (later_happened (m * s.micros)) (logged_by_ticks n d)
 
 -- they do last through a part of the next period, if they last for all of it
 abbrev pub LastsLaw : Type 0
@@ -96,11 +96,11 @@ AlwaysLaw = (s : Shift) (m n : ℕ) (d : Domain) → IsDomain d
 
 -- FIGURES. What is counted of a period, whenever it is, is m times as much of m periods
 abbrev pub CountLaw : Type 0
-CountLaw = (counts : Happened → Bool) (k m : ℕ) (told : List Happened)
+CountLaw = (counts : Happened → Bool) (k m : ℕ) (logged : List Happened)
     → ((later_by : ℕ) (h : Happened) → counts (later_happened later_by h) ≡ counts h)
-    → count_by counts (happened_again k m told) ≡ m * count_by counts told
+    → count_by counts (happened_again k m logged) ≡ m * count_by counts logged
 
 abbrev pub CountSwitchesLaw : Type 0
-CountSwitchesLaw = (counts : Switch → Bool) (k m : ℕ) (told : List Switch)
+CountSwitchesLaw = (counts : Switch → Bool) (k m : ℕ) (logged : List Switch)
     → ((later_by : ℕ) (s : Switch) → counts (later_switch later_by s) ≡ counts s)
-    → count_by counts (switches_again k m told) ≡ m * count_by counts told
+    → count_by counts (switches_again k m logged) ≡ m * count_by counts logged

@@ -4,7 +4,7 @@ use Rattle.domain_run.specs.declared.pace.Pace.{Pace}
 use Rattle.domain_run.specs.declared.pace.Pace.TheVariants.{Rests, Plays, Works}
 use Rattle.domain_run.specs.Bounds.{IsEarly}
 use Rattle.domain_run.specs.Domain.{Domain}
-use Rattle.domain_run.specs.Happened.{told_by_ticks}
+use Rattle.domain_run.specs.Happened.{logged_by_ticks}
 use Rattle.domain_run.specs.Later.{later_happened}
 use Rattle.domain_run.specs.Shift.{Shift, shifted, just_later, MayShift, IsSoonAfter}
 use Rattle.domain_run.specs.Sound.{IsDomain}
@@ -25,9 +25,9 @@ ShiftLaw = (s : Shift) (n : ℕ) (d : Domain) → IsDomain d → MayShiftFor s n
     → ticks n (shifted s d) ≡ shifted s (ticks n d)
 
 -- and the same happens to its tasks
-abbrev pub ShiftTellsLaw : Type 0
-ShiftTellsLaw = (s : Shift) (n : ℕ) (d : Domain) → IsDomain d → MayShiftFor s n d
-    → told_by_ticks n (shifted s d) ≡ map (later_happened s.micros) (told_by_ticks n d)
+abbrev pub ShiftLogsLaw : Type 0
+ShiftLogsLaw = (s : Shift) (n : ℕ) (d : Domain) → IsDomain d → MayShiftFor s n d
+    → logged_by_ticks n (shifted s d) ≡ map (later_happened s.micros) (logged_by_ticks n d)
 
 -- a pace that needs no rounds and no work
 abbrev pub NeedsNothing : Pace → Type 0

@@ -18,7 +18,7 @@ use Rattle.domain_run.specs.Sound.{IsDomain}
 use Rattle.domain_run.specs.Tick.{ticks}
 use Rattle.domain_run.proofs.CallerLemmas.{ticks_then}
 use Rattle.repeat_law.specs.Marks.{FoundLaw, HasPeriodsLaw}
-use Rattle.repeat_law.specs.Repeats.{AfterLaw, LastsLaw, SwitchesLaw, TellsLaw, many_paces, many}
+use Rattle.repeat_law.specs.Repeats.{AfterLaw, LastsLaw, SwitchesLaw, LogsLaw, many_paces, many}
 use Rattle.repeat_run.specs.Gives.{IsFoundAgain}
 use Rattle.repeat_run.specs.Sight.{GoesOnAlike, after_period}
 use Rattle.repeat_run.proofs.Comparing.{IsRepeating, shift_of, found_repeats}
@@ -110,14 +110,14 @@ module _ (after_law : AfterLaw) (lasts_law : LastsLaw) (k most : ℕ) (paces : L
     there = shifted_far ∙ ap (λ (ts : List Task). record after { time = after.time + p * k; tasks = ts; switches = [] }) same_tasks;
   }
 
-  pub alike : TellsLaw → SwitchesLaw → GoesOnAlike k p far_paces d
-  alike tells_law switches_law = record {
+  pub alike : LogsLaw → SwitchesLaw → GoesOnAlike k p far_paces d
+  alike logs_law switches_law = record {
     goes = goes;
-    told = tells_law (shift_of k r.pace) (suc p) d is r.once (r.lasts (suc p) more);
+    logged = logs_law (shift_of k r.pace) (suc p) d is r.once (r.lasts (suc p) more);
     switches = switches_law (shift_of k r.pace) (suc p) d is r.once (r.lasts (suc p) more);
   }
 
-module _ (after_law : AfterLaw) (lasts_law : LastsLaw) (tells_law : TellsLaw) (switches_law : SwitchesLaw) (found_law : FoundLaw) (periods_law : HasPeriodsLaw) where
+module _ (after_law : AfterLaw) (lasts_law : LastsLaw) (logs_law : LogsLaw) (switches_law : SwitchesLaw) (found_law : FoundLaw) (periods_law : HasPeriodsLaw) where
   pub found_alike : (k most p : ℕ) (seen : List TaskSeen) (paces : List Pace) (d : Domain) → IsFoundAgain k most seen paces d → suc p ≤ most → GoesOnAlike k p (map (many_paces p) paces) d
   found_alike k most p seen paces d f more =
-      alike after_law lasts_law k most paces d f.domain (found_repeats found_law periods_law k most seen paces d f) p more tells_law switches_law
+      alike after_law lasts_law k most paces d f.domain (found_repeats found_law periods_law k most seen paces d f) p more logs_law switches_law

@@ -9,7 +9,7 @@ use Rattle.domain_run.specs.Coming.{switches_to_come}
 use Rattle.domain_run.specs.Passing.{without_switches, with_past}
 use Rattle.domain_run.specs.Sound.{IsDomain, IsSwitch}
 use Rattle.domain_run.specs.Tick.{ticks}
-use Rattle.domain_run.proofs.CallerLemmas.{ticks_behind, ticks_then}
+use Rattle.domain_run.proofs.CallerLemmas.{ticks_after, ticks_then}
 use Rattle.domain_run.specs.Later.{later_switch}
 use Rattle.domain_run.specs.declared.pace.Pace.{Pace}
 use Rattle.repeat_law.specs.Shift.{MayShiftFor, ShiftLaw}
@@ -25,7 +25,7 @@ use Rattle.repeat_run.proofs.Going.{goes_again}
 pub ticks_bare : (n : ℕ) (d : Domain) → ticks n d ≡ with_past d.switches (ticks n (without_switches d))
 ticks_bare n d =
     let past : with_past d.switches (without_switches d) ≡ d = ap (λ (ss : List Switch). record d { switches = ss }) (append-nil d.switches) in
-    sym (ap (λ (e : Domain). ticks n e) past) ∙ ticks_behind n d.switches (without_switches d)
+    sym (ap (λ (e : Domain). ticks n e) past) ∙ ticks_after n d.switches (without_switches d)
 
 pub bare_ticks : (n : ℕ) (d : Domain) → without_switches (ticks n d) ≡ without_switches (ticks n (without_switches d))
 bare_ticks n d = ap (λ (e : Domain). without_switches e) (ticks_bare n d)
@@ -50,7 +50,7 @@ domain_bare d is =
       traced = record {
         switches = All-nil (IsSwitch d.cpus d.time d.used);
         rising = λ i j x less within. absurd (omega (arith, within));
-        standing = is.traced.standing;
+        on_cpu = is.traced.on_cpu;
       };
     }
 

@@ -5,7 +5,7 @@ use Rattle.domain_run.specs.declared.pace.Pace.{Pace}
 use Rattle.domain_run.specs.Coming.{switches_to_come}
 use Rattle.domain_run.specs.Domain.{Domain}
 use Rattle.domain_run.specs.GoneOn.{MayGoOn}
-use Rattle.domain_run.specs.Happened.{told_by_ticks}
+use Rattle.domain_run.specs.Happened.{logged_by_ticks}
 use Rattle.domain_run.specs.Passing.{without_switches}
 use Rattle.domain_run.specs.Tick.{ticks}
 use Rattle.repeat_law.specs.Repeats.{many_paces, happened_again, switches_again}
@@ -31,8 +31,8 @@ after_period micros d = without_switches (ticks micros d)
 -- pace, and what happens and the switches are those of the period, each time a period later
 pub record GoesOnAlike (micros periods : ℕ) (paces : List Pace) (d : Domain) : Type 0 where
   pub goes : MayGoOn (periods * micros) paces (after_period micros d)
-  pub told : told_by_ticks (suc periods * micros) d
-      ≡ happened_again micros (suc periods) (told_by_ticks micros d)
+  pub logged : logged_by_ticks (suc periods * micros) d
+      ≡ happened_again micros (suc periods) (logged_by_ticks micros d)
   pub switches : (ticks (suc periods * micros) d).switches
       ≡ d.switches ++ switches_again micros (suc periods) (switches_to_come micros d)
 

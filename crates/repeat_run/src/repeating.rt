@@ -1,6 +1,6 @@
 //! A domain that goes on without memory, and gives a period of its run again where it repeats.
 
-ghost use Rattle.std.specs.Prelude.{◌≡◌, [], ◌<◌, ◌≤◌, ◌^◌, ◌+◌, ◌-◌, ◌++◌, All, length, IfOk, IfErr, IfNone, OnOk, IsTrue};
+ghost use Rattle.std.specs.Prelude.{◌≡◌, [], ◌<◌, ◌≤◌, ◌+◌, ◌-◌, ◌++◌, All, length, IfOk, IfErr, IfNone, OnOk, IsTrue};
 ghost use Rattle.domain_run.specs.declared.call.Call.TheVariants as Call;
 ghost use Rattle.domain_run.specs.declared.call.Reply.TheVariants as Reply;
 ghost use Rattle.domain_run.specs.Calls as calls;
@@ -11,6 +11,7 @@ ghost use Rattle.domain_run.specs.Keys.{AreKept};
 ghost use Rattle.domain_run.specs.Passing.{without_front, without_switches};
 ghost use Rattle.domain_run.specs.Sound.{IsDomain};
 ghost use Rattle.domain_run.specs.Tick as tick;
+ghost use Rattle.limits.specs.Limits.{clock_end, max_script_number, task_number_end};
 
 use crate::phase::{Kept, Phase};
 use crate::stepping::go_on;
@@ -132,7 +133,7 @@ impl Repeating {
     /// stays within 2^42 us. Tasks that have left may go off the list; nobody comes, and the others
     /// keep number, bandwidth and order.
     pub fn fill(&mut self, n: u64) -> u64
-        requires { self.old.time + n ≤ 2 ^ 42 }
+        requires { self.old.time + n ≤ clock_end }
         ensures made { self.new ≡ tick.ticks (n - result) self.old }
         ensures most { result ≤ n }
         ensures full { 0 < result → 0 < length self.new.switches }
@@ -156,7 +157,7 @@ impl Repeating {
 
     fn go(&mut self, left: u64) -> u64
         requires some { 0 < left }
-        requires early { self.old.time + left ≤ 2 ^ 42 }
+        requires early { self.old.time + left ≤ clock_end }
         ensures made { self.new ≡ tick.ticks result self.old }
         ensures most { result ≤ left }
         ensures full { result ≡ 0 → 0 < length self.new.switches }
@@ -172,7 +173,7 @@ impl Repeating {
     /// least one tick. Time stays within 2^42 us. Tasks that have left may go off the list; no task
     /// is added, and the others keep number, bandwidth and order.
     pub fn advance(&mut self, n: u64) -> u64
-        requires { self.old.time + n ≤ 2 ^ 42 }
+        requires { self.old.time + n ≤ clock_end }
         ensures ticks { self.new ≡ tick.ticks result self.old }
         ensures most { result ≤ n }
         ensures some { self.old.switches ≡ [] → 0 < n → 0 < result }
@@ -193,8 +194,8 @@ impl Repeating {
         delay: u64,
         script: Script,
     ) -> Result<(), Refused>
-        requires number { (0 < number) × (number < 65536) }
-        requires delay { delay ≤ 1000000000 }
+        requires number { (0 < number) × (number < task_number_end) }
+        requires delay { delay ≤ max_script_number }
         ensures domain { self.new
             ≡ calls.after_call self.old (Call.Admit number name params delay script) }
         ensures admitted { OnOk result

@@ -1,8 +1,9 @@
 //! Some ticks of a run, in each phase.
 
-ghost use Rattle.std.specs.Prelude.{◌≡◌, ◌<◌, ◌≤◌, ◌+◌, ◌^◌, ◌++◌, drop, length, IsTrue};
+ghost use Rattle.std.specs.Prelude.{◌≡◌, ◌<◌, ◌≤◌, ◌+◌, ◌++◌, drop, length, IsTrue};
 ghost use Rattle.domain_run.specs.Tick as tick;
 ghost use Rattle.repeat_run.specs.private.Knows.{IsGiving, IsRecorded, KnowsInPhase};
+ghost use Rattle.limits.specs.Limits.{clock_end};
 
 use crate::closing::close;
 use crate::looking::{begin_watch, look_around, passed};
@@ -27,7 +28,7 @@ pub(crate) struct Made {
 
 // Makes at most `n` ticks; at least one, or switches wait.
 fn simulate(buffered: &mut Buffered, n: u64) -> u64
-    requires { buffered.old.time + n ≤ 2 ^ 42 }
+    requires { buffered.old.time + n ≤ clock_end }
     ensures made { buffered.new ≡ tick.ticks result buffered.old }
     ensures most { result ≤ n }
     ensures full { 0 < n → result ≡ 0 → 0 < length buffered.new.switches }
@@ -64,7 +65,7 @@ fn add_from(period: &mut Vec<Switch>, switches: &[Switch], from: usize) -> bool
 // Goes on up to the next look, and looks.
 fn look(buffered: &mut Buffered, kept: &mut Kept, watch: Watch, left: u64) -> Made
     requires some { 0 < left }
-    requires early { buffered.old.time + left ≤ 2 ^ 42 }
+    requires early { buffered.old.time + left ≤ clock_end }
     ensures made { buffered.new ≡ tick.ticks result.ticks buffered.old }
     ensures most { result.ticks ≤ left }
     ensures full { result.ticks ≡ 0 → 0 < length buffered.new.switches }
@@ -89,7 +90,7 @@ fn look(buffered: &mut Buffered, kept: &mut Kept, watch: Watch, left: u64) -> Ma
 // Begins to look, if the run is long enough.
 fn begin(buffered: &mut Buffered, kept: &mut Kept, left: u64) -> Made
     requires some { 0 < left }
-    requires early { buffered.old.time + left ≤ 2 ^ 42 }
+    requires early { buffered.old.time + left ≤ clock_end }
     ensures made { buffered.new ≡ tick.ticks result.ticks buffered.old }
     ensures most { result.ticks ≤ left }
     ensures full { result.ticks ≡ 0 → 0 < length buffered.new.switches }
@@ -109,7 +110,7 @@ fn begin(buffered: &mut Buffered, kept: &mut Kept, left: u64) -> Made
 // Writes the next ticks of a period down.
 fn record(buffered: &mut Buffered, kept: &mut Kept, recording: Recording, left: u64) -> Made
     requires some { 0 < left }
-    requires early { buffered.old.time + left ≤ 2 ^ 42 }
+    requires early { buffered.old.time + left ≤ clock_end }
     requires inside { recording.made < recording.micros }
     requires knows { IsRecorded recording.made kept.old buffered.old }
     ensures made { buffered.new ≡ tick.ticks result.ticks buffered.old }
@@ -140,7 +141,7 @@ fn record(buffered: &mut Buffered, kept: &mut Kept, recording: Recording, left: 
 // Gives the next period.
 fn give(buffered: &mut Buffered, kept: &mut Kept, giving: Giving, left: u64) -> Made
     requires some { 0 < left }
-    requires early { buffered.old.time + left ≤ 2 ^ 42 }
+    requires early { buffered.old.time + left ≤ clock_end }
     requires knows { IsGiving giving.micros giving.later_by giving.left kept.old buffered.old }
     ensures made { buffered.new ≡ tick.ticks result.ticks buffered.old }
     ensures most { result.ticks ≤ left }
@@ -175,7 +176,7 @@ fn give(buffered: &mut Buffered, kept: &mut Kept, giving: Giving, left: u64) -> 
 /// Goes on by at most `left` ticks; at least one, or switches wait.
 pub(crate) fn go_on(buffered: &mut Buffered, kept: &mut Kept, phase: Phase, left: u64) -> Made
     requires some { 0 < left }
-    requires early { buffered.old.time + left ≤ 2 ^ 42 }
+    requires early { buffered.old.time + left ≤ clock_end }
     requires knows { KnowsInPhase phase kept.old buffered.old }
     ensures made { buffered.new ≡ tick.ticks result.ticks buffered.old }
     ensures most { result.ticks ≤ left }

@@ -1,11 +1,12 @@
 //! A call that is made, and its reply. The switches of an advance are forgotten while it is made.
 
-ghost use Rattle.std.specs.Prelude.{◌≡◌, ◌<◌, ◌≤◌, ◌+◌, ◌^◌};
+ghost use Rattle.std.specs.Prelude.{◌≡◌, ◌<◌, ◌≤◌, ◌+◌};
 ghost use Rattle.domain_run.specs.declared.call.Call.TheVariants as Call;
 ghost use Rattle.domain_run.specs.Calls.{reply_to, after_call};
 ghost use Rattle.domain_run.specs.Passing.{without_switches};
 ghost use Rattle.domain_run.specs.Tick.{ticks as ticked_by};
 ghost use Rattle.calls_text.specs.Limits.{IsCall};
+ghost use Rattle.limits.specs.Limits.{clock_end, max_advance, max_script_number, task_number_end};
 
 use attr_check::Params;
 use calls_text::{Call, Reply};
@@ -21,8 +22,8 @@ fn admit(
     delay: u64,
     mut script: Script,
 ) -> Reply
-    requires number { (0 < number) × (number < 65536) }
-    requires delay { delay ≤ 1000000000 }
+    requires number { (0 < number) × (number < task_number_end) }
+    requires delay { delay ≤ max_script_number }
     ensures reply { result
         ≡ reply_to domain.old (Call.Admit number name params delay script) }
     ensures domain { domain.new
@@ -41,7 +42,7 @@ fn admit(
 /// Makes `ticks` ticks, piece by piece. The switches of each piece are forgotten, so they take the
 /// room of one piece, however many ticks are made.
 fn advance(domain: &mut Repeating, ticks: u64) -> Reply
-    requires early { domain.old.time + ticks ≤ 2 ^ 42 }
+    requires early { domain.old.time + ticks ≤ clock_end }
     ensures reply { result ≡ reply_to domain.old (Call.Advance ticks) }
     ensures domain { domain.new ≡ without_switches (ticked_by ticks domain.old) }
     ensures time { domain.new.time ≡ domain.old.time + ticks }
@@ -59,11 +60,11 @@ fn advance(domain: &mut Repeating, ticks: u64) -> Reply
 /// depends on them.
 pub(crate) fn make(domain: &mut Repeating, call: Call) -> Reply
     requires call { IsCall call }
-    requires early { domain.old.time + 60000000 ≤ 2 ^ 42 }
+    requires early { domain.old.time + max_advance ≤ clock_end }
     ensures reply { result ≡ reply_to domain.old call }
     ensures domain { without_switches domain.new
         ≡ without_switches (after_call domain.old call) }
-    ensures time { domain.new.time ≤ domain.old.time + 60000000 }
+    ensures time { domain.new.time ≤ domain.old.time + max_advance }
 {
     match call {
         Call::Admit {

@@ -1,12 +1,13 @@
 //! The replies of calls that are made.
 
-ghost use Rattle.std.specs.Prelude.{◌≡◌, ◌≤◌, ◌*◌, ◌+◌, ◌^◌, ◌++◌, All, IfOk, OnOk, length, codes};
+ghost use Rattle.std.specs.Prelude.{◌≡◌, ◌≤◌, ◌*◌, ◌+◌, ◌++◌, All, IfOk, OnOk, length, codes};
 ghost use Rattle.draft.specs.Draft.{Adds};
 ghost use Rattle.calls_text.specs.Limits.{IsEntry, IsSection};
 ghost use Rattle.calls_text.specs.Spelling.{text_of};
 ghost use Rattle.domain_run.specs.Calls.{reply_to, after_call};
 ghost use Rattle.domain_run.specs.Passing.{without_switches};
 ghost use Rattle.reply_text.specs.Replies.{answered_line, answered_lines, section_replies, replies_of};
+ghost use Rattle.limits.specs.Limits.{clock_end, max_advance};
 
 use crate::making::make;
 use crate::text::{put_answer, put_asked};
@@ -20,12 +21,12 @@ use std::collections::VecDeque;
 /// Makes the call of an entry, and puts down its line. The switches may be forgotten.
 fn put_made(out: &mut Draft, domain: &mut Repeating, entry: Entry)
     requires entry { IsEntry entry }
-    requires early { domain.old.time + 60000000 ≤ 2 ^ 42 }
+    requires early { domain.old.time + max_advance ≤ clock_end }
     ensures text { Adds out.old out.new
         (answered_line entry (reply_to domain.old entry.call) ++ codes "\n") }
     ensures domain { without_switches domain.new
         ≡ without_switches (after_call domain.old entry.call) }
-    ensures time { domain.new.time ≤ domain.old.time + 60000000 }
+    ensures time { domain.new.time ≤ domain.old.time + max_advance }
 {
     put_asked(out, &entry);
     let reply = make(domain, entry.call);
@@ -35,7 +36,7 @@ fn put_made(out: &mut Draft, domain: &mut Repeating, entry: Entry)
 /// Makes the calls of entries, and puts down their lines.
 fn put_all_made(out: &mut Draft, domain: &mut Repeating, entries: Vec<Entry>)
     requires entries { All IsEntry entries.items }
-    requires early { domain.old.time + length entries.items * 60000000 ≤ 2 ^ 42 }
+    requires early { domain.old.time + length entries.items * max_advance ≤ clock_end }
     ensures { Adds out.old out.new (text_of (answered_lines domain.old entries.items)) }
 {
     let mut left = VecDeque::from_vec(entries);

@@ -9,6 +9,7 @@ use Rattle.rtapp_scenario.specs.declared.key.EventKind.{EventKind}
 use Rattle.rtapp_scenario.specs.declared.key.EventKind.TheVariants.{Run, Sleep, Timer}
 use Rattle.rtapp_scenario.specs.Values.{Member, numeral_of, list_of, text_value, natural_within, has}
 use Rattle.rtapp_scenario.specs.Faults.{Fault, unsupported, value, policy, unless, first}
+use Rattle.limits.specs.Limits.{max_script_number}
 
 -- ---- what may stand at a key
 
@@ -29,7 +30,7 @@ pub data KeyTakes : Type 0 where
 -- the number at a key that takes one; -1 is none
 abbrev pub natural_taken : KeyTakes → Json → Option ℕ
 natural_taken (whole least most) v = natural_within least most v
-natural_taken loops v = natural_within 1 1000000000 v
+natural_taken loops v = natural_within 1 max_script_number v
 natural_taken (this_text text) v = None
 natural_taken any_text v = None
 natural_taken cpu_list v = None
@@ -56,7 +57,8 @@ are_cpus items = nat_lt 0 (length items) && cpus_after [] items
 
 unfoldable pub takes : KeyTakes → Json → Bool
 takes (whole least most) v = is_some (natural_within least most v)
-takes loops v = is_text (codes "-1") (numeral_of v) || is_some (natural_within 1 1000000000 v)
+takes loops v =
+    is_text (codes "-1") (numeral_of v) || is_some (natural_within 1 max_script_number v)
 takes (this_text text) v = is_text text (text_value v)
 takes any_text v = is_some (text_value v)
 takes cpu_list v = option_map_or are_cpus (list_of v) false
@@ -87,7 +89,7 @@ abbrev pub thread_keys : List Row
 thread_keys =
     optional (codes "instance") (whole 1 256)
     ∷ optional (codes "loop") loops
-    ∷ optional (codes "delay") (whole 0 1000000000)
+    ∷ optional (codes "delay") (whole 0 max_script_number)
     ∷ record {
       key = codes "policy";
       takes = this_text (codes "SCHED_DEADLINE");
@@ -103,13 +105,13 @@ thread_keys =
 
 -- a phase's, beside the keys of events
 abbrev pub phase_keys : List Row
-phase_keys = optional (codes "loop") (whole 1 1000000000) ∷ []
+phase_keys = optional (codes "loop") (whole 1 max_script_number) ∷ []
 
 -- a timer's
 abbrev pub timer_keys : List Row
 timer_keys =
     required_key (codes "ref") any_text
-    ∷ required_key (codes "period") (whole 1 1000000000)
+    ∷ required_key (codes "period") (whole 1 max_script_number)
     ∷ record {
       key = codes "mode";
       takes = this_text (codes "relative");

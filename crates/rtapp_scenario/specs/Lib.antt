@@ -5,6 +5,6 @@ pub mod Threads
 pub mod Tests
 pub mod ScenarioView
 pub mod Scenario
-pub mod Told
+pub mod FaultText
 pub mod Examples
 pub mod private

@@ -3,6 +3,7 @@ use Rattle.std.specs.Prelude.{ℕ, ◌≤◌, ◌<◌, List, Option, IfSome, All
 use Rattle.attr_check.specs.declared.attr.SchedAttr.{SchedAttr}
 use Rattle.task_script.specs.NameView.{IsName}
 use Rattle.task_script.specs.script.ScriptView.{ScriptView, IsScript}
+use Rattle.limits.specs.Limits.{max_script_number}
 
 -- a task: its number, name, attributes, CPUs (none where the text names none, which means domain
 -- 0), microseconds to its start, and script
@@ -25,7 +26,7 @@ pub record IsTaskSpec (t : TaskSpecView) : Type 0 where
   pub most : t.number ≤ 65535
   pub named : IsName t.name
   pub placed : AreCpus t.cpus
-  pub soon : t.delay ≤ 1000000000
+  pub soon : t.delay ≤ max_script_number
   pub scripted : IsScript t.script
 
 -- a duration in microseconds, and the tasks

@@ -9,6 +9,7 @@ use Rattle.rtapp_scenario.specs.Values.{Member, object_of, text_value, natural_w
 use Rattle.rtapp_scenario.specs.Faults.{Fault, no_tasks, duration, unsupported, value, name, too_many, idle, unless, first, first_fault_in}
 use Rattle.rtapp_scenario.specs.Keys.{is_text, thread_keys, phase_keys, timer_keys, key_fault, missing_fault, kind_of, is_event}
 use Rattle.rtapp_scenario.specs.Threads.{thread_ref, has_event, phases_in, instances}
+use Rattle.limits.specs.Limits.{max_script_number}
 
 -- ---- events
 
@@ -32,9 +33,9 @@ timer_fault ref (Some ms) m =
 unfoldable pub event_value_fault : Option (List ℕ) → Option EventKind → Member → Option Fault
 event_value_fault ref None m = None
 event_value_fault ref (Some Run) m =
-    unless (is_some (natural_within 0 1000000000 m.value)) (value m.key)
+    unless (is_some (natural_within 0 max_script_number m.value)) (value m.key)
 event_value_fault ref (Some Sleep) m =
-    unless (is_some (natural_within 0 1000000000 m.value)) (value m.key)
+    unless (is_some (natural_within 0 max_script_number m.value)) (value m.key)
 event_value_fault ref (Some Timer) m = timer_fault ref (object_of m.value) m
 
 -- the 65th event is refused before its value is read; all are counted, those of 0 us too

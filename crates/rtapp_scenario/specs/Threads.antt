@@ -10,6 +10,7 @@ use Rattle.rtapp_scenario.specs.declared.key.EventKind.TheVariants.{Run, Sleep, 
 use Rattle.rtapp_scenario.specs.Values.{Member, text_value, natural_within, list_of, at, has, members, members_at, is_at}
 use Rattle.rtapp_scenario.specs.Faults.{first}
 use Rattle.rtapp_scenario.specs.Keys.{kind_of, numbers_in}
+use Rattle.limits.specs.Limits.{max_script_number}
 
 -- ---- numbers, with what a key that is left out stands for
 
@@ -24,7 +25,7 @@ instances ms = number_at (codes "instance") 1 256 1 ms
 
 -- microseconds from the admission to the start
 abbrev pub delay : List Member → ℕ
-delay ms = number_at (codes "delay") 0 1000000000 0 ms
+delay ms = number_at (codes "delay") 0 max_script_number 0 ms
 
 -- microseconds
 abbrev pub runtime : List Member → ℕ
@@ -38,11 +39,11 @@ deadline ms = number_at (codes "dl-deadline") 0 9000000000000000 (period ms) ms
 
 -- rounds over the phases; none for -1, which is the default: no end
 abbrev pub rounds : List Member → Option ℕ
-rounds ms = option_and_then (natural_within 1 1000000000) (at (codes "loop") ms)
+rounds ms = option_and_then (natural_within 1 max_script_number) (at (codes "loop") ms)
 
 -- repetitions of a phase
 abbrev pub count : List Member → ℕ
-count ms = number_at (codes "loop") 1 1000000000 1 ms
+count ms = number_at (codes "loop") 1 max_script_number 1 ms
 
 -- none where the text names none, which means domain 0
 abbrev pub cpus : List Member → Option (List ℕ)
@@ -53,11 +54,11 @@ cpus ms = option_map (λ items. numbers_in items) (option_and_then list_of (at (
 -- microseconds of an event, by its kind
 abbrev pub event_of : Option EventKind → Json → Option Event
 event_of None v = None
-event_of (Some Run) v = option_map events.Run (natural_within 1 1000000000 v)
-event_of (Some Sleep) v = option_map events.Sleep (natural_within 1 1000000000 v)
+event_of (Some Run) v = option_map events.Run (natural_within 1 max_script_number v)
+event_of (Some Sleep) v = option_map events.Sleep (natural_within 1 max_script_number v)
 event_of (Some Timer) v =
     option_map events.Timer
-    (option_and_then (natural_within 1 1000000000) (at (codes "period") (members v)))
+    (option_and_then (natural_within 1 max_script_number) (at (codes "period") (members v)))
 
 -- the event of a member; an event of 0 us is dropped
 unfoldable pub event_of_member : Member → Option Event

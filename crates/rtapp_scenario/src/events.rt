@@ -3,7 +3,7 @@ ghost use Rattle.rtapp_scenario.specs.Values.{Member, member_of, members_of, obj
 ghost use Rattle.rtapp_scenario.specs.Faults.{first_fault_in};
 ghost use Rattle.rtapp_scenario.specs.Keys.{kind_of, is_event};
 ghost use Rattle.rtapp_scenario.specs.Tests.{other_ref, timer_member_fault, timer_fault, event_value_fault, event_fault};
-ghost use Rattle.rtapp_scenario.specs.Told.{flaw_of, ref_seen};
+ghost use Rattle.rtapp_scenario.specs.FaultText.{flaw_of, ref_seen};
 
 use crate::flaw::Flaw;
 use crate::key::{

@@ -1,5 +1,5 @@
 ghost use Rattle.std.specs.Prelude.{◌≡◌, Some};
-ghost use Rattle.rtapp_scenario.specs.Told.{IsFaultTold, flaw_seen, fault_number};
+ghost use Rattle.rtapp_scenario.specs.FaultText.{IsFaultTold, flaw_seen, fault_number};
 
 use crate::flaw::Flaw;
 use std::alloc::{AllocError, AllocFailed, Global};
@@ -51,7 +51,7 @@ impl ScenarioFault {
 
 impl fmt::Display for ScenarioFault {
     ghost use Rattle.std.specs.Prelude.{Some};
-    ghost use Rattle.rtapp_scenario.specs.Told.{scenario_fault_text};
+    ghost use Rattle.rtapp_scenario.specs.FaultText.{scenario_fault_text};
 
     ghost output = { λ fault. Some (scenario_fault_text fault) };
 

@@ -5,7 +5,7 @@ ghost use Rattle.rtapp_scenario.specs.Keys.{takes, whole, loops, this_text, any_
 ghost use Rattle.rtapp_scenario.specs.Threads.{is_timer};
 ghost use Rattle.rtapp_scenario.specs.Keys.{cpus_after};
 ghost use Rattle.rtapp_scenario.specs.private.Marks.{AreMarks};
-ghost use Rattle.rtapp_scenario.specs.Told.{flaw_of, flaw_seen};
+ghost use Rattle.rtapp_scenario.specs.FaultText.{flaw_of, flaw_seen};
 ghost use Rattle.rtapp_scenario.specs.Faults.{unless};
 
 use crate::flaw::Flaw;

@@ -2,6 +2,7 @@ ghost use Rattle.std.specs.Prelude.{◌≡◌, ◌≤◌, IfSome};
 ghost use Rattle.rtapp_scenario.specs.Values.{members_of};
 ghost use Rattle.rtapp_scenario.specs.Threads.{number_at, instances, delay, runtime, rounds, count};
 ghost use Rattle.rtapp_scenario.specs.Threads as of;
+ghost use Rattle.limits.specs.Limits.{max_script_number};
 
 use crate::key::{MOST, MOST_TASKS, MOST_TIME};
 use crate::value::{at, natural_within};
@@ -37,7 +38,7 @@ pub(crate) fn instances(members: &[LentMember<'_>]) -> u64
 /// Microseconds from the admission to the start.
 pub(crate) fn delay(members: &[LentMember<'_>]) -> u64
     ensures value { result ≡ delay (members_of members.now) }
-    ensures most { result ≤ 1000000000 }
+    ensures most { result ≤ max_script_number }
 {
     number_at("delay", 0, MOST, 0, members)
 }
@@ -73,7 +74,7 @@ pub(crate) fn deadline(period: u64, members: &[LentMember<'_>]) -> u64
 /// Rounds over the phases; none for no end.
 pub(crate) fn rounds(members: &[LentMember<'_>]) -> Option<u64>
     ensures value { result ≡ rounds (members_of members.now) }
-    ensures within { IfSome result (λ n. (1 ≤ n) × (n ≤ 1000000000)) }
+    ensures within { IfSome result (λ n. (1 ≤ n) × (n ≤ max_script_number)) }
 {
     natural_within(at("loop", members)?, 1, MOST)
 }
@@ -82,7 +83,7 @@ pub(crate) fn rounds(members: &[LentMember<'_>]) -> Option<u64>
 pub(crate) fn count(members: &[LentMember<'_>]) -> u64
     ensures value { result ≡ count (members_of members.now) }
     ensures some { 1 ≤ result }
-    ensures most { result ≤ 1000000000 }
+    ensures most { result ≤ max_script_number }
 {
     number_at("loop", 1, MOST, 1, members)
 }

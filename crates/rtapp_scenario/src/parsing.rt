@@ -7,7 +7,8 @@ ghost use Rattle.rtapp_scenario.specs.Faults.{first};
 ghost use Rattle.rtapp_scenario.specs.Tests.{duration_of, root_member_fault};
 ghost use Rattle.rtapp_scenario.specs.Scenario.{parsed};
 ghost use Rattle.rtapp_scenario.specs.ScenarioView.{IsTaskSpec};
-ghost use Rattle.rtapp_scenario.specs.Told.{flaw_of, IsScenarioFault};
+ghost use Rattle.rtapp_scenario.specs.FaultText.{flaw_of, IsScenarioFault};
+ghost use Rattle.limits.specs.Limits.{max_advance};
 
 use crate::fault::{ScenarioFault, fault_of};
 use crate::flaw::Flaw;
@@ -77,7 +78,7 @@ pub fn parse_lent(alloc: Global, tree: &LentTree<'_>) -> Result<Scenario, Scenar
         map (λ t. t.number) scenario.tasks ≡ range_with_len 1 (length scenario.tasks)) }
     ensures few { IfOk result (λ scenario. length scenario.tasks ≤ 256) }
     ensures limits { IfOk result (λ scenario. All IsTaskSpec scenario.tasks) }
-    ensures short { IfOk result (λ scenario. scenario.duration_us ≤ 60000000) }
+    ensures short { IfOk result (λ scenario. scenario.duration_us ≤ max_advance) }
 {
     let threads = members_at("tasks", members(tree));
     if threads.is_empty() {
@@ -117,7 +118,7 @@ pub fn parse(alloc: Global, tree: &Tree) -> Result<Scenario, ScenarioFault>
         map (λ t. t.number) scenario.tasks ≡ range_with_len 1 (length scenario.tasks)) }
     ensures few { IfOk result (λ scenario. length scenario.tasks ≤ 256) }
     ensures limits { IfOk result (λ scenario. All IsTaskSpec scenario.tasks) }
-    ensures short { IfOk result (λ scenario. scenario.duration_us ≤ 60000000) }
+    ensures short { IfOk result (λ scenario. scenario.duration_us ≤ max_advance) }
 {
     let lent = lend(alloc, tree)?;
     parse_lent(alloc, &lent)

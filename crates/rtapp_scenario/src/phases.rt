@@ -3,7 +3,7 @@ ghost use Rattle.rtapp_scenario.specs.Values.{Member, member_of, members_of};
 ghost use Rattle.rtapp_scenario.specs.Faults.{first_fault_in, first};
 ghost use Rattle.rtapp_scenario.specs.Keys.{is_event};
 ghost use Rattle.rtapp_scenario.specs.Tests.{phase_member_fault, phase_fault, phases_fault};
-ghost use Rattle.rtapp_scenario.specs.Told.{flaw_of, ref_seen};
+ghost use Rattle.rtapp_scenario.specs.FaultText.{flaw_of, ref_seen};
 
 use crate::events::{MOST_ITEMS, check_event};
 use crate::flaw::Flaw;

@@ -6,6 +6,7 @@ ghost use Rattle.rtapp_scenario.specs.Values.{members_of};
 ghost use Rattle.rtapp_scenario.specs.Threads.{event_of_member};
 ghost use Rattle.rtapp_scenario.specs.Tests.{members_fault};
 ghost use Rattle.rtapp_scenario.specs.Scenario.{phase_of, member_phase, phases, script};
+ghost use Rattle.limits.specs.Limits.{max_script_number};
 
 use crate::numbers::{count, rounds};
 use crate::threads::event_at;
@@ -58,7 +59,7 @@ fn phases_of(alloc: Global, members: &[LentMember<'_>]) -> Result<Vec<Phase>, Al
 
 /// The number of rounds as a script takes it: -1 for no end.
 fn loops(rounds: Option<u64>) -> i64
-    requires { IfSome rounds (λ n. (1 ≤ n) × (n ≤ 1000000000)) }
+    requires { IfSome rounds (λ n. (1 ≤ n) × (n ≤ max_script_number)) }
     ensures value { rounds_of result ≡ rounds }
     ensures within { IsLoops result }
 {

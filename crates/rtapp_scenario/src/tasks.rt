@@ -11,7 +11,7 @@ ghost use Rattle.rtapp_scenario.specs.private.Shapes.{IsShape, FitsTask};
 ghost use Rattle.rtapp_scenario.specs.Tests.{is_name, own_fault, members_fault, thread_fault};
 ghost use Rattle.rtapp_scenario.specs.Scenario.{task_name, attr, task_at, thread_tasks, tasks_from};
 ghost use Rattle.rtapp_scenario.specs.ScenarioView.{IsTaskSpec, AreCpus};
-ghost use Rattle.rtapp_scenario.specs.Told.{IsFaultTold};
+ghost use Rattle.rtapp_scenario.specs.FaultText.{IsFaultTold};
 
 use crate::fault::{ScenarioFault, fault_of};
 use crate::numbers::{deadline, delay, instances, period, runtime};

@@ -8,7 +8,7 @@ ghost use Rattle.rtapp_scenario.specs.Threads.{timer_at, first_timer_in, timer_o
 ghost use Rattle.rtapp_scenario.specs.Threads as of;
 ghost use Rattle.rtapp_scenario.specs.private.Before.{IsBefore};
 ghost use Rattle.rtapp_scenario.specs.Tests.{thread_member_fault, is_idle, is_name, is_shared, beside_fault, members_fault, own_fault};
-ghost use Rattle.rtapp_scenario.specs.Told.{flaw_of, ref_seen, tree_seen};
+ghost use Rattle.rtapp_scenario.specs.FaultText.{flaw_of, ref_seen, tree_seen};
 
 use crate::events::check_event;
 use crate::flaw::Flaw;

@@ -1,4 +1,5 @@
--- Throttles and replenishments of a task come in turn: at most one of them where a tick begins, and one where it ends.
+-- Throttles and replenishments of a task come in turn: at most one of them where a tick begins, and
+-- one where it ends.
 use Rattle.std.proofs.Common.{◌≡◌, ◌≢◌, ℕ, zero, suc, ◌+◌, ◌-◌, ◌≤◌, Bool, true, false, cond, eqb, leb, ◌&&◌, ◌||◌, not, None, List, [], ◌∷◌, ◌++◌, map, refl, sym, ap, ◌∙◌, subst, arith}
 use Rattle.std.specs.Prelude.{All, filter, fold, sum_by}
 use Rattle.std.specs.List.{flat_map}
@@ -15,12 +16,12 @@ use Rattle.domain_run.specs.declared.happened.What.{What}
 use Rattle.domain_run.specs.declared.happened.Happened.{Happened}
 use Rattle.domain_run.specs.declared.happened.What.TheVariants.{JobEnds, NextReleased, Spent, Cut, Replenished, Released, WokenSpent}
 use Rattle.task_script.specs.script.Segments.{next_segment}
-use Rattle.edf_pick.specs.Places.{stands}
+use Rattle.edf_pick.specs.Places.{is_on_cpu}
 use Rattle.domain_run.specs.Conditions.{is_throttled, has_come}
 use Rattle.domain_run.specs.Parts.{replenish_due, settled, is_listed, starts, running_on, went_on, goes_on, ran}
 use Rattle.domain_run.specs.Domain.{Domain}
 use Rattle.domain_run.specs.Tick.{with_tick_begun, rate_of}
-use Rattle.domain_run.specs.Happened.{happened_to, due, job_due, told_by_work, told_by_budget, told_by_run, told_if_ran, told_by_replenishment, told_by_wake, told_by_unblocking, with_its_cpu, told_by_beginning, told_by_end}
+use Rattle.domain_run.specs.Happened.{happened_to, due, job_due, logged_by_work, logged_by_budget, logged_by_run, logged_if_ran, logged_by_replenishment, logged_by_wake, logged_by_unblocking, with_its_cpu, logged_by_beginning, logged_by_end}
 use Rattle.domain_run.proofs.CallerLemmas.{AreNumbered}
 use Rattle.run_figures.specs.Jobs.{of_task}
 use Rattle.run_figures.specs.Throttling.{throttles, throttled_of}
@@ -38,7 +39,7 @@ Steps b own after = (come_in_turn b own ≡ true) × (is_left_throttled b own �
 abbrev then_left : Bool → Happened → Bool
 then_left b h = throttles h.what || (not (replenishes h.what) && b)
 
--- where at most one of them is told, what is open before and after says the turn
+-- where at most one of them is logged, what is open before and after says the turn
 turn_head : (p q b after : Bool) (hs : List Happened) → ((a z : Bool) → bit a + throttled_of hs ≡ replenished_of hs + bit z → throttled_of hs + replenished_of hs ≤ 1 → Steps a hs z)
     → bit b + (bit p + throttled_of hs) ≡ (bit q + replenished_of hs) + bit after → (bit p + throttled_of hs) + (bit q + replenished_of hs) ≤ 1
     → (cond p (not b && come_in_turn true hs) (cond q (b && come_in_turn false hs) (come_in_turn b hs)) ≡ true) × (fold then_left (p || (not q && b)) hs ≡ after)
@@ -157,7 +158,7 @@ one_numbered n (t ∷ tasks) numbered =
           omega (arith, sum, here, one_numbered n tasks rest)
     ] refl
 
--- ---- so little is told of it
+-- ---- so little is logged of it
 
 -- of a list
 few_all : (n : ℕ) (f : Task → List Happened) (m : Task → ℕ) (tasks : List Task) → ((t : Task) → sum_by (throttled_by n) (f t) + sum_by (replenished_by n) (f t) ≤ m t)
@@ -190,13 +191,13 @@ and_least true true = omega arith
 and_least true false = omega arith
 and_least false b = omega arith
 
-replenish_few : (n time : ℕ) (t : Task) → sum_by (throttled_by n) (told_by_replenishment time t) + sum_by (replenished_by n) (told_by_replenishment time t) + blocked_by n (replenish_due time t) ≤ numbered_by n t
+replenish_few : (n time : ℕ) (t : Task) → sum_by (throttled_by n) (logged_by_replenishment time t) + sum_by (replenished_by n) (logged_by_replenishment time t) + blocked_by n (replenish_due time t) ≤ numbered_by n t
 replenish_few n time t = by_condition t.condition
   where
     with_it : Condition → Task
     with_it c = record t { condition = c }
 
-    by_condition : (c : Condition) → sum_by (throttled_by n) (told_by_replenishment time (with_it c)) + sum_by (replenished_by n) (told_by_replenishment time (with_it c)) + blocked_by n (replenish_due time (with_it c)) ≤ numbered_by n t
+    by_condition : (c : Condition) → sum_by (throttled_by n) (logged_by_replenishment time (with_it c)) + sum_by (replenished_by n) (logged_by_replenishment time (with_it c)) + blocked_by n (replenish_due time (with_it c)) ≤ numbered_by n t
     by_condition Throttled =
         let x = with_it Throttled in
         let u : Task = record x { server = replenished t.params t.server; condition = Ready } in
@@ -210,7 +211,7 @@ replenish_few n time t = by_condition t.condition
     by_condition Leaving = omega (arith, and_least (eqb t.number n) false)
 
 -- a wake tells of at most one throttle
-wake_few : (n time : ℕ) (t u : Task) (s : Segment) → sum_by (throttled_by n) (told_by_wake time t u s) + sum_by (replenished_by n) (told_by_wake time t u s) ≤ numbered_by n t
+wake_few : (n time : ℕ) (t u : Task) (s : Segment) → sum_by (throttled_by n) (logged_by_wake time t u s) + sum_by (replenished_by n) (logged_by_wake time t u s) ≤ numbered_by n t
 wake_few n time t u (RunFor k) =
     elim (is_throttled u.condition) as (λ b. sum_by (throttled_by n) (happened_to time t (Released (job_due time t)) ∷ cond b (happened_to time t (WokenSpent (due u)) ∷ []) []) + sum_by (replenished_by n) (happened_to time t (Released (job_due time t)) ∷ cond b (happened_to time t (WokenSpent (due u)) ∷ []) []) ≤ numbered_by n t) [
       | true ↦ elim (eqb t.number n) as (λ e. sum_by (λ (h : Happened). cond (e && throttles h.what) 1 0) (happened_to time t (Released (job_due time t)) ∷ happened_to time t (WokenSpent (due u)) ∷ []) + sum_by (λ (h : Happened). cond (e && replenishes h.what) 1 0) (happened_to time t (Released (job_due time t)) ∷ happened_to time t (WokenSpent (due u)) ∷ []) ≤ cond e 1 0) [ true ↦ omega arith | false ↦ omega arith ]
@@ -220,7 +221,7 @@ wake_few n time t u (Until w) = omega arith
 wake_few n time t u WaitFor = omega arith
 wake_few n time t u EndNow = omega arith
 
-unblock_few : (n time : ℕ) (t : Task) → sum_by (throttled_by n) (told_by_unblocking time t) + sum_by (replenished_by n) (told_by_unblocking time t) ≤ blocked_by n t
+unblock_few : (n time : ℕ) (t : Task) → sum_by (throttled_by n) (logged_by_unblocking time t) + sum_by (replenished_by n) (logged_by_unblocking time t) ≤ blocked_by n t
 unblock_few n time t = by_condition t.condition
   where
     with_it : Condition → Task
@@ -230,11 +231,11 @@ unblock_few n time t = by_condition t.condition
     whole true = omega arith
     whole false = omega arith
 
-    by_condition : (c : Condition) → sum_by (throttled_by n) (told_by_unblocking time (with_it c)) + sum_by (replenished_by n) (told_by_unblocking time (with_it c)) ≤ blocked_by n (with_it c)
+    by_condition : (c : Condition) → sum_by (throttled_by n) (logged_by_unblocking time (with_it c)) + sum_by (replenished_by n) (logged_by_unblocking time (with_it c)) ≤ blocked_by n (with_it c)
     by_condition (Blocked k) =
         let x = with_it (Blocked k) in
         let a = next_segment t.cursor time in
-        elim (leb k time) as (λ b. sum_by (throttled_by n) (cond b (told_by_wake time x (cond b (starts time x a) x) a.segment) []) + sum_by (replenished_by n) (cond b (told_by_wake time x (cond b (starts time x a) x) a.segment) []) ≤ blocked_by n x) [
+        elim (leb k time) as (λ b. sum_by (throttled_by n) (cond b (logged_by_wake time x (cond b (starts time x a) x) a.segment) []) + sum_by (replenished_by n) (cond b (logged_by_wake time x (cond b (starts time x a) x) a.segment) []) ≤ blocked_by n x) [
           | true ↦ omega (arith, wake_few n time x (starts time x a) a.segment, whole (eqb t.number n))
           | false ↦ omega arith
         ]
@@ -257,20 +258,20 @@ listed_blocked n (t ∷ tasks) =
       | false ↦ omega (arith, listed_blocked n tasks, sum_by-cons (blocked_by n) t tasks)
     ]
 
--- at most so much is told of a number
+-- at most so much is logged of a number
 abbrev pub Few : ℕ → List Happened → Type 0
 Few n hs = sum_by (throttled_by n) hs + sum_by (replenished_by n) hs ≤ 1
 
-pub beginning_few : (n : ℕ) (d : Domain) → AreNumbered d.tasks → Few n (told_by_beginning d)
+pub beginning_few : (n : ℕ) (d : Domain) → AreNumbered d.tasks → Few n (logged_by_beginning d)
 beginning_few n d numbered =
     let first = map (replenish_due d.time) d.tasks in
     let second = map (settled d.time) first in
     let third = filter is_listed second in
-    let A = flat_map (told_by_replenishment d.time) d.tasks in
-    let B = flat_map (told_by_unblocking d.time) third in
+    let A = flat_map (logged_by_replenishment d.time) d.tasks in
+    let B = flat_map (logged_by_unblocking d.time) third in
     let home = with_its_cpu (with_tick_begun d).curr in
-    let one = few_and n (told_by_replenishment d.time) (replenish_due d.time) (numbered_by n) (blocked_by n) d.tasks (replenish_few n d.time) in
-    let two = few_all n (told_by_unblocking d.time) (blocked_by n) third (unblock_few n d.time) in
+    let one = few_and n (logged_by_replenishment d.time) (replenish_due d.time) (numbered_by n) (blocked_by n) d.tasks (replenish_few n d.time) in
+    let two = few_all n (logged_by_unblocking d.time) (blocked_by n) third (unblock_few n d.time) in
     let t = sum_order (throttled_by n) (map home (A ++ B)) ∙ sum_home (throttled_by n) home (A ++ B) (λ h. refl) ∙ sum_by-append (throttled_by n) A B in
     let r = sum_order (replenished_by n) (map home (A ++ B)) ∙ sum_home (replenished_by n) home (A ++ B) (λ h. refl) ∙ sum_by-append (replenished_by n) A B in
     omega (arith, one, two, settled_blocked n d.time first, listed_blocked n second, one_numbered n d.tasks numbered, t, r)
@@ -289,32 +290,32 @@ number_ran time rate t =
     let a = next_segment x.cursor (time + 1) in
     elim (eqb x.work 0) as (λ b. (cond b (goes_on (time + 1) x a) (running_on x)).number ≡ t.number) [ true ↦ number_went_on (time + 1) a.segment (record x { cursor = a.cursor }) | false ↦ refl ]
 
-budget_few : (n time : ℕ) (u : Task) → sum_by (throttled_by n) (told_by_budget time u) + sum_by (replenished_by n) (told_by_budget time u) ≤ numbered_by n u
+budget_few : (n time : ℕ) (u : Task) → sum_by (throttled_by n) (logged_by_budget time u) + sum_by (replenished_by n) (logged_by_budget time u) ≤ numbered_by n u
 budget_few n time u =
     elim (is_throttled u.condition) as (λ b. sum_by (throttled_by n) (cond b (happened_to time u (Spent (due u)) ∷ []) []) + sum_by (replenished_by n) (cond b (happened_to time u (Spent (due u)) ∷ []) []) ≤ numbered_by n u) [
       | true ↦ elim (eqb u.number n) as (λ e. sum_by (λ (h : Happened). cond (e && throttles h.what) 1 0) (happened_to time u (Spent (due u)) ∷ []) + sum_by (λ (h : Happened). cond (e && replenishes h.what) 1 0) (happened_to time u (Spent (due u)) ∷ []) ≤ cond e 1 0) [ true ↦ omega arith | false ↦ omega arith ]
       | false ↦ omega arith
     ]
 
-run_few : (n time rate : ℕ) (t : Task) → sum_by (throttled_by n) (told_by_run time rate t) + sum_by (replenished_by n) (told_by_run time rate t) ≤ numbered_by n t
+run_few : (n time rate : ℕ) (t : Task) → sum_by (throttled_by n) (logged_by_run time rate t) + sum_by (replenished_by n) (logged_by_run time rate t) ≤ numbered_by n t
 run_few n time rate t =
     let x : Task = record t { server = charged rate 1 t.server; work = t.work - 1 } in
     let u = ran time rate t in
-    let a = sum_by-append (throttled_by n) (told_by_work (time + 1) x) (told_by_budget (time + 1) u) in
-    let b = sum_by-append (replenished_by n) (told_by_work (time + 1) x) (told_by_budget (time + 1) u) in
+    let a = sum_by-append (throttled_by n) (logged_by_work (time + 1) x) (logged_by_budget (time + 1) u) in
+    let b = sum_by-append (replenished_by n) (logged_by_work (time + 1) x) (logged_by_budget (time + 1) u) in
     let c = work_none (throttled_by n) (time + 1) x (closed n t.number) (closed n t.number) in
     let e = work_none (replenished_by n) (time + 1) x (closed n t.number) (closed n t.number) in
     let same : numbered_by n u ≡ numbered_by n t = ap (λ m. cond {A = ℕ} (eqb m n) 1 0) (number_ran time rate t) in
     omega (arith, a, b, c, e, budget_few n (time + 1) u, same)
 
-ran_few : (n : ℕ) (d : Domain) (t : Task) → sum_by (throttled_by n) (told_if_ran d t) + sum_by (replenished_by n) (told_if_ran d t) ≤ numbered_by n t
+ran_few : (n : ℕ) (d : Domain) (t : Task) → sum_by (throttled_by n) (logged_if_ran d t) + sum_by (replenished_by n) (logged_if_ran d t) ≤ numbered_by n t
 ran_few n d t =
-    elim (stands t.number d.curr) as (λ b. sum_by (throttled_by n) (cond b (told_by_run d.time (rate_of d t) t) []) + sum_by (replenished_by n) (cond b (told_by_run d.time (rate_of d t) t) []) ≤ numbered_by n t) [
+    elim (is_on_cpu t.number d.curr) as (λ b. sum_by (throttled_by n) (cond b (logged_by_run d.time (rate_of d t) t) []) + sum_by (replenished_by n) (cond b (logged_by_run d.time (rate_of d t) t) []) ≤ numbered_by n t) [
       | true ↦ run_few n d.time (rate_of d t) t
       | false ↦ omega arith
     ]
 
-pub end_few : (n : ℕ) (d : Domain) → AreNumbered d.tasks → Few n (told_by_end d)
+pub end_few : (n : ℕ) (d : Domain) → AreNumbered d.tasks → Few n (logged_by_end d)
 end_few n d numbered =
-    let hs = flat_map (told_if_ran d) d.tasks in
-    omega (arith, few_all n (told_if_ran d) (numbered_by n) d.tasks (ran_few n d), one_numbered n d.tasks numbered, sum_order (throttled_by n) hs, sum_order (replenished_by n) hs)
+    let hs = flat_map (logged_if_ran d) d.tasks in
+    omega (arith, few_all n (logged_if_ran d) (numbered_by n) d.tasks (ran_few n d), one_numbered n d.tasks numbered, sum_order (throttled_by n) hs, sum_order (replenished_by n) hs)

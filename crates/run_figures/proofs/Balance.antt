@@ -9,7 +9,7 @@ use Rattle.std.proofs.lemmas.List.Elements.{All-head, All-tail, All-map}
 use Rattle.std.proofs.lemmas.List.Kept.{AllPairs-filter}
 use Rattle.cbs_rules.specs.Serving.{replenished, woken, charged, is_spent}
 use Rattle.cbs_rules.specs.declared.server.Server.{Server}
-use Rattle.edf_pick.specs.Places.{Places, is_task, stands, is_chosen_number, kept_if_chosen, seat_of, put, seated, seated_if, seated_upto, placed}
+use Rattle.edf_pick.specs.Places.{Places, is_task, is_on_cpu, is_chosen_number, kept_if_chosen, cpu_for, put, assigned, assigned_if, assigned_upto, placed}
 use Rattle.edf_pick.specs.Choice.{is_chosen, rank, candidate_at_rank}
 use Rattle.edf_pick.specs.declared.candidate.Candidate.{Candidate}
 use Rattle.domain_run.specs.declared.task.Task.{Task}
@@ -24,7 +24,7 @@ use Rattle.domain_run.specs.Conditions.{is_ready, is_throttled, is_leaving, is_o
 use Rattle.domain_run.specs.Parts.{replenish_due, settled, is_listed, unblocked, enqueued, started, starts, with_cpu, with_last_cpu, ran}
 use Rattle.domain_run.specs.Domain.{Domain}
 use Rattle.domain_run.specs.Tick.{candidate_of, candidates, with_tick_begun, prepared, rate_of, ran_if, finished, ticked, ticks}
-use Rattle.domain_run.specs.Happened.{happened_to, due, job_due, told_by_segment, told_by_work, told_by_budget, told_by_run, told_if_ran, told_by_replenishment, told_by_wake, told_by_unblocking, is_first, with_happened, in_order, with_its_cpu, told_by_beginning, told_by_end, told_by_tick, told_by_ticks}
+use Rattle.domain_run.specs.Happened.{happened_to, due, job_due, logged_by_segment, logged_by_work, logged_by_budget, logged_by_run, logged_if_ran, logged_by_replenishment, logged_by_wake, logged_by_unblocking, is_first, with_happened, in_order, with_its_cpu, logged_by_beginning, logged_by_end, logged_by_tick, logged_by_ticks}
 use Rattle.domain_run.proofs.CallerLemmas.{AreNumbered, ticks_numbered}
 use Rattle.run_figures.specs.Jobs.{of_task}
 use Rattle.run_figures.specs.Throttling.{throttles}
@@ -67,7 +67,7 @@ pub sum_home : (f : Happened → ℕ) (g : Happened → Happened) (hs : List Hap
 sum_home f g [] same = refl
 sum_home f g (h ∷ hs) same = sum_by-cons f (g h) (map g hs) ∙ (λ i. same h i + sum_home f g hs same i) ∙ sym (sum_by-cons f h hs)
 
--- what is told of a task, from it to what it is then
+-- what is logged of a task, from it to what it is then
 abbrev Balances : ℕ → Task → List Happened → Task → Type 0
 Balances n t happened_to u = opened_by n t + sum_by (throttled_by n) happened_to ≡ sum_by (replenished_by n) happened_to + opened_by n u
 
@@ -94,13 +94,13 @@ closed n k = elim (eqb k n) as (λ b. cond {A = ℕ} (b && false) 1 0 ≡ 0) [ t
 
 -- ---- PARTS 1 to 3
 
-replenish_balances : (n time : ℕ) (t : Task) → Balances n t (told_by_replenishment time t) (replenish_due time t)
+replenish_balances : (n time : ℕ) (t : Task) → Balances n t (logged_by_replenishment time t) (replenish_due time t)
 replenish_balances n time t = by_condition t.condition
   where
     with_it : Condition → Task
     with_it c = record t { condition = c }
 
-    by_condition : (c : Condition) → Balances n (with_it c) (told_by_replenishment time (with_it c)) (replenish_due time (with_it c))
+    by_condition : (c : Condition) → Balances n (with_it c) (logged_by_replenishment time (with_it c)) (replenish_due time (with_it c))
     by_condition Throttled =
         let x = with_it Throttled in
         let u : Task = record x { server = replenished t.params t.server; condition = Ready } in
@@ -133,8 +133,8 @@ listed_open n (t ∷ tasks) =
     gone Waiting z e = absurd cc
 
 -- a wake tells of a throttle where it leaves one open
-wake_balances : (n time k : ℕ) (t u : Task) → u.number ≡ t.number → sum_by (throttled_by n) (told_by_wake time t u (RunFor k)) ≡ sum_by (replenished_by n) (told_by_wake time t u (RunFor k)) + opened_by n u
-wake_balances n time k t u same = subst (λ m. sum_by (throttled_by n) (told_by_wake time t u (RunFor k)) ≡ sum_by (replenished_by n) (told_by_wake time t u (RunFor k)) + cond (eqb m n && is_throttled u.condition) 1 0) (sym same)
+wake_balances : (n time k : ℕ) (t u : Task) → u.number ≡ t.number → sum_by (throttled_by n) (logged_by_wake time t u (RunFor k)) ≡ sum_by (replenished_by n) (logged_by_wake time t u (RunFor k)) + opened_by n u
+wake_balances n time k t u same = subst (λ m. sum_by (throttled_by n) (logged_by_wake time t u (RunFor k)) ≡ sum_by (replenished_by n) (logged_by_wake time t u (RunFor k)) + cond (eqb m n && is_throttled u.condition) 1 0) (sym same)
     (elim (is_throttled u.condition) as (λ b. sum_by (throttled_by n) (happened_to time t (Released (job_due time t)) ∷ cond b (happened_to time t (WokenSpent (due u)) ∷ []) []) ≡ sum_by (replenished_by n) (happened_to time t (Released (job_due time t)) ∷ cond b (happened_to time t (WokenSpent (due u)) ∷ []) []) + cond (eqb t.number n && b) 1 0) [
       | true ↦ elim (eqb t.number n) as (λ e. sum_by (λ (h : Happened). cond (e && throttles h.what) 1 0) (happened_to time t (Released (job_due time t)) ∷ happened_to time t (WokenSpent (due u)) ∷ []) ≡ sum_by (λ (h : Happened). cond (e && replenishes h.what) 1 0) (happened_to time t (Released (job_due time t)) ∷ happened_to time t (WokenSpent (due u)) ∷ []) + cond (e && true) 1 0) [ true ↦ refl | false ↦ refl ]
       | false ↦ elim (eqb t.number n) as (λ e. sum_by (λ (h : Happened). cond (e && throttles h.what) 1 0) (happened_to time t (Released (job_due time t)) ∷ []) ≡ sum_by (λ (h : Happened). cond (e && replenishes h.what) 1 0) (happened_to time t (Released (job_due time t)) ∷ []) + cond (e && false) 1 0) [ true ↦ refl | false ↦ refl ]
@@ -147,14 +147,14 @@ number_enqueued time s x = elim (is_spent s) as (λ a. (cond a (cond (has_come t
 ]
 
 -- a task that asked its script in part 3
-unblock_balances : (n time : ℕ) (t : Task) → Balances n t (told_by_unblocking time t) (unblocked time t)
+unblock_balances : (n time : ℕ) (t : Task) → Balances n t (logged_by_unblocking time t) (unblocked time t)
 unblock_balances n time t = by_condition t.condition
   where
     with_it : Condition → Task
     with_it c = record t { condition = c }
 
     asks : (s : Segment) (x t' : Task) → x.number ≡ t'.number → is_throttled t'.condition ≡ false → is_throttled x.condition ≡ false
-        → opened_by n t' + sum_by (throttled_by n) (told_by_wake time t' (started time s x) s) ≡ sum_by (replenished_by n) (told_by_wake time t' (started time s x) s) + opened_by n (started time s x)
+        → opened_by n t' + sum_by (throttled_by n) (logged_by_wake time t' (started time s x) s) ≡ sum_by (replenished_by n) (logged_by_wake time t' (started time s x) s) + opened_by n (started time s x)
     asks (RunFor k) x t' same quiet also =
         let u = enqueued time (woken x.params time x.server) (record x { zero_lag = None; work = k }) in
         let nothing : opened_by n t' ≡ 0 = ap (λ b. cond (eqb t'.number n && b) 1 0) quiet ∙ closed n t'.number in
@@ -163,11 +163,11 @@ unblock_balances n time t = by_condition t.condition
     asks WaitFor x t' same quiet also = let nothing : opened_by n t' ≡ 0 = ap (λ b. cond (eqb t'.number n && b) 1 0) quiet ∙ closed n t'.number in omega (arith, nothing, closed n x.number)
     asks EndNow x t' same quiet also = let nothing : opened_by n t' ≡ 0 = ap (λ b. cond (eqb t'.number n && b) 1 0) quiet ∙ closed n t'.number in omega (arith, nothing, closed n x.number)
 
-    by_condition : (c : Condition) → Balances n (with_it c) (told_by_unblocking time (with_it c)) (unblocked time (with_it c))
+    by_condition : (c : Condition) → Balances n (with_it c) (logged_by_unblocking time (with_it c)) (unblocked time (with_it c))
     by_condition (Blocked k) =
         let x = with_it (Blocked k) in
         let a = next_segment t.cursor time in
-        elim (leb k time) as (λ b. Balances n x (cond b (told_by_wake time x (cond b (starts time x a) x) a.segment) []) (cond b (starts time x a) x)) [
+        elim (leb k time) as (λ b. Balances n x (cond b (logged_by_wake time x (cond b (starts time x a) x) a.segment) []) (cond b (starts time x a) x)) [
           | true ↦ asks a.segment (record x { cursor = a.cursor }) x refl refl refl
           | false ↦ omega arith
         ]
@@ -191,18 +191,18 @@ homed_open n places t = by_place (position (is_task t.number) places)
 abbrev pub AreEven : List Task → List Happened → List Task → Type 0
 AreEven before happened_to after = (n : ℕ) → sum_by (opened_by n) before + sum_by (throttled_by n) happened_to ≡ sum_by (replenished_by n) happened_to + sum_by (opened_by n) after
 
-pub beginning_even : (d : Domain) → AreEven d.tasks (told_by_beginning d) (with_tick_begun d).tasks
+pub beginning_even : (d : Domain) → AreEven d.tasks (logged_by_beginning d) (with_tick_begun d).tasks
 beginning_even d n =
     let first = map (replenish_due d.time) d.tasks in
     let second = map (settled d.time) first in
     let third = filter is_listed second in
-    let A = flat_map (told_by_replenishment d.time) d.tasks in
-    let B = flat_map (told_by_unblocking d.time) third in
+    let A = flat_map (logged_by_replenishment d.time) d.tasks in
+    let B = flat_map (logged_by_unblocking d.time) third in
     let home = with_its_cpu (with_tick_begun d).curr in
-    let one = balance_all n (told_by_replenishment d.time) (replenish_due d.time) d.tasks (λ k e h. replenish_balances n d.time (get_or d.tasks k e)) in
+    let one = balance_all n (logged_by_replenishment d.time) (replenish_due d.time) d.tasks (λ k e h. replenish_balances n d.time (get_or d.tasks k e)) in
     let two = same_open n (settled d.time) first (settled_open n d.time) in
     let three = listed_open n second in
-    let four = balance_all n (told_by_unblocking d.time) (unblocked d.time) third (λ k e h. unblock_balances n d.time (get_or third k e)) in
+    let four = balance_all n (logged_by_unblocking d.time) (unblocked d.time) third (λ k e h. unblock_balances n d.time (get_or third k e)) in
     let five = same_open n (with_last_cpu (with_tick_begun d).curr) (prepared d.time d.tasks) (homed_open n (with_tick_begun d).curr) in
     let t = sum_order (throttled_by n) (map home (A ++ B)) ∙ sum_home (throttled_by n) home (A ++ B) (λ h. refl) ∙ sum_by-append (throttled_by n) A B in
     let r = sum_order (replenished_by n) (map home (A ++ B)) ∙ sum_home (replenished_by n) home (A ++ B) (λ h. refl) ∙ sum_by-append (replenished_by n) A B in
@@ -217,40 +217,40 @@ none_of f x nothing = sum_by-cons f x [] ∙ ap (λ k. k + 0) nothing
 none_of_two : (f : Happened → ℕ) (x y : Happened) → f x ≡ 0 → f y ≡ 0 → sum_by f (x ∷ y ∷ []) ≡ 0
 none_of_two f x y one two = sum_by-cons f x (y ∷ []) ∙ (λ i. one i + none_of f y two i)
 
-segment_none : (f : Happened → ℕ) (time : ℕ) (t : Task) (late : Bool) (s : Segment) → f (happened_to time t JobEnds) ≡ 0 → f (happened_to time t (NextReleased (job_due time t))) ≡ 0 → sum_by f (told_by_segment time t late s) ≡ 0
+segment_none : (f : Happened → ℕ) (time : ℕ) (t : Task) (late : Bool) (s : Segment) → f (happened_to time t JobEnds) ≡ 0 → f (happened_to time t (NextReleased (job_due time t))) ≡ 0 → sum_by f (logged_by_segment time t late s) ≡ 0
 segment_none f time t true (RunFor k) one two = none_of_two f (happened_to time t JobEnds) (happened_to time t (NextReleased (job_due time t))) one two
 segment_none f time t false (RunFor k) one two = refl
 segment_none f time t late (Until u) one two = none_of f (happened_to time t JobEnds) one
 segment_none f time t late WaitFor one two = none_of f (happened_to time t JobEnds) one
 segment_none f time t late EndNow one two = none_of f (happened_to time t JobEnds) one
 
-pub work_none : (f : Happened → ℕ) (time : ℕ) (t : Task) → f (happened_to time t JobEnds) ≡ 0 → f (happened_to time t (NextReleased (job_due time t))) ≡ 0 → sum_by f (told_by_work time t) ≡ 0
+pub work_none : (f : Happened → ℕ) (time : ℕ) (t : Task) → f (happened_to time t JobEnds) ≡ 0 → f (happened_to time t (NextReleased (job_due time t))) ≡ 0 → sum_by f (logged_by_work time t) ≡ 0
 work_none f time t one two =
     let late = passes_late_timer t.cursor time in
     let s = (next_segment t.cursor time).segment in
-    elim (eqb t.work 0) as (λ b. sum_by f (cond b (told_by_segment time t late s) []) ≡ 0) [ true ↦ segment_none f time t late s one two | false ↦ refl ]
+    elim (eqb t.work 0) as (λ b. sum_by f (cond b (logged_by_segment time t late s) []) ≡ 0) [ true ↦ segment_none f time t late s one two | false ↦ refl ]
 
-budget_balances : (n time : ℕ) (u : Task) → sum_by (throttled_by n) (told_by_budget time u) ≡ sum_by (replenished_by n) (told_by_budget time u) + opened_by n u
+budget_balances : (n time : ℕ) (u : Task) → sum_by (throttled_by n) (logged_by_budget time u) ≡ sum_by (replenished_by n) (logged_by_budget time u) + opened_by n u
 budget_balances n time u =
     elim (is_throttled u.condition) as (λ b. sum_by (throttled_by n) (cond b (happened_to time u (Spent (due u)) ∷ []) []) ≡ sum_by (replenished_by n) (cond b (happened_to time u (Spent (due u)) ∷ []) []) + cond (eqb u.number n && b) 1 0) [
       | true ↦ elim (eqb u.number n) as (λ e. sum_by (λ (h : Happened). cond (e && throttles h.what) 1 0) (happened_to time u (Spent (due u)) ∷ []) ≡ sum_by (λ (h : Happened). cond (e && replenishes h.what) 1 0) (happened_to time u (Spent (due u)) ∷ []) + cond (e && true) 1 0) [ true ↦ refl | false ↦ refl ]
       | false ↦ sym (ap (λ k. 0 + k) (closed n u.number))
     ]
 
-run_balances : (n time rate : ℕ) (t : Task) → is_throttled t.condition ≡ false → Balances n t (told_by_run time rate t) (ran time rate t)
+run_balances : (n time rate : ℕ) (t : Task) → is_throttled t.condition ≡ false → Balances n t (logged_by_run time rate t) (ran time rate t)
 run_balances n time rate t quiet =
     let x : Task = record t { server = charged rate 1 t.server; work = t.work - 1 } in
     let u = ran time rate t in
     let nothing : opened_by n t ≡ 0 = ap (λ b. cond (eqb t.number n && b) 1 0) quiet ∙ closed n t.number in
-    let a = sum_by-append (throttled_by n) (told_by_work (time + 1) x) (told_by_budget (time + 1) u) in
-    let b = sum_by-append (replenished_by n) (told_by_work (time + 1) x) (told_by_budget (time + 1) u) in
+    let a = sum_by-append (throttled_by n) (logged_by_work (time + 1) x) (logged_by_budget (time + 1) u) in
+    let b = sum_by-append (replenished_by n) (logged_by_work (time + 1) x) (logged_by_budget (time + 1) u) in
     let c = work_none (throttled_by n) (time + 1) x (closed n t.number) (closed n t.number) in
     let e = work_none (replenished_by n) (time + 1) x (closed n t.number) (closed n t.number) in
     omega (arith, nothing, a, b, c, e, budget_balances n (time + 1) u)
 
 -- who stands on a CPU is ready
 abbrev pub MayRun : Domain → Task → Type 0
-MayRun d t = stands t.number d.curr ≡ true → is_ready t.condition ≡ true
+MayRun d t = is_on_cpu t.number d.curr ≡ true → is_ready t.condition ≡ true
 
 ready_not_throttled : (c : Condition) → is_ready c ≡ true → is_throttled c ≡ false
 ready_not_throttled Ready e = refl
@@ -259,17 +259,17 @@ ready_not_throttled (Blocked u) e = absurd cc
 ready_not_throttled Waiting e = absurd cc
 ready_not_throttled Leaving e = absurd cc
 
-ran_balances : (n : ℕ) (d : Domain) (t : Task) → MayRun d t → Balances n t (told_if_ran d t) (ran_if d t)
+ran_balances : (n : ℕ) (d : Domain) (t : Task) → MayRun d t → Balances n t (logged_if_ran d t) (ran_if d t)
 ran_balances n d t may =
-    elim (stands t.number d.curr) as (λ b. stands t.number d.curr ≡ b → Balances n t (cond b (told_by_run d.time (rate_of d t) t) []) (cond b (ran d.time (rate_of d t) t) t)) [
+    elim (is_on_cpu t.number d.curr) as (λ b. is_on_cpu t.number d.curr ≡ b → Balances n t (cond b (logged_by_run d.time (rate_of d t) t) []) (cond b (ran d.time (rate_of d t) t) t)) [
       | true ↦ λ is. run_balances n d.time (rate_of d t) t (ready_not_throttled t.condition (may is))
       | false ↦ λ is. omega arith
     ] refl
 
-pub end_even : (d : Domain) → All (MayRun d) d.tasks → AreEven d.tasks (told_by_end d) (finished d).tasks
+pub end_even : (d : Domain) → All (MayRun d) d.tasks → AreEven d.tasks (logged_by_end d) (finished d).tasks
 end_even d may n =
-    let hs = flat_map (told_if_ran d) d.tasks in
-    let all = balance_all n (told_if_ran d) (ran_if d) d.tasks (λ k e h. ran_balances n d (get_or d.tasks k e) (may k e h)) in
+    let hs = flat_map (logged_if_ran d) d.tasks in
+    let all = balance_all n (logged_if_ran d) (ran_if d) d.tasks (λ k e h. ran_balances n d (get_or d.tasks k e) (may k e h)) in
     omega (arith, all, sum_order (throttled_by n) hs, sum_order (replenished_by n) hs)
 
 -- ---- WHO STANDS IS READY
@@ -293,33 +293,33 @@ not_chosen cpus n all (c ∷ cs) none =
     let parts = or_false (eqb c.number n) (list_any (is_of n) cs) none in
     both_false (eqb c.number n && is_chosen cpus all c) (list_any (λ c. eqb c.number n && is_chosen cpus all c) cs) (and_none (eqb c.number n) (is_chosen cpus all c) parts.0) (not_chosen cpus n all cs parts.1)
 
-none_stays : (cpus n : ℕ) (ready : List Candidate) (before : Places) → list_any (is_of n) ready ≡ false → stands n (map (kept_if_chosen cpus ready) before) ≡ false
+none_stays : (cpus n : ℕ) (ready : List Candidate) (before : Places) → list_any (is_of n) ready ≡ false → is_on_cpu n (map (kept_if_chosen cpus ready) before) ≡ false
 none_stays cpus n ready [] none = refl
 none_stays cpus n ready (None ∷ before) none = none_stays cpus n ready before none
 none_stays cpus n ready (Some m ∷ before) none =
     let rest = none_stays cpus n ready before none in
-    elim (is_chosen_number cpus ready m) as (λ b. is_chosen_number cpus ready m ≡ b → (is_task n (cond b (Some m) None) || stands n (map (kept_if_chosen cpus ready) before)) ≡ false) [
-      | true ↦ λ is. both_false (eqb m n) (stands n (map (kept_if_chosen cpus ready) before)) (ne_eqb m n (λ same.
+    elim (is_chosen_number cpus ready m) as (λ b. is_chosen_number cpus ready m ≡ b → (is_task n (cond b (Some m) None) || is_on_cpu n (map (kept_if_chosen cpus ready) before)) ≡ false) [
+      | true ↦ λ is. both_false (eqb m n) (is_on_cpu n (map (kept_if_chosen cpus ready) before)) (ne_eqb m n (λ same.
           let no : true ≡ false = sym is ∙ ap (is_chosen_number cpus ready) same ∙ not_chosen cpus n ready ready none in absurd cc)) rest
       | false ↦ λ is. rest
     ] refl
 
-none_set : (n : ℕ) (places : Places) (cpu : ℕ) (o : Option ℕ) → is_task n o ≡ false → stands n places ≡ false → stands n (slice_set places cpu o) ≡ false
+none_set : (n : ℕ) (places : Places) (cpu : ℕ) (o : Option ℕ) → is_task n o ≡ false → is_on_cpu n places ≡ false → is_on_cpu n (slice_set places cpu o) ≡ false
 none_set n [] cpu o other none = none
-none_set n (p ∷ places) zero o other none = both_false (is_task n o) (stands n places) other (or_false (is_task n p) (stands n places) none).1
+none_set n (p ∷ places) zero o other none = both_false (is_task n o) (is_on_cpu n places) other (or_false (is_task n p) (is_on_cpu n places) none).1
 none_set n (p ∷ places) (suc cpu) o other none =
-    let parts = or_false (is_task n p) (stands n places) none in
-    both_false (is_task n p) (stands n (slice_set places cpu o)) parts.0 (none_set n places cpu o other parts.1)
+    let parts = or_false (is_task n p) (is_on_cpu n places) none in
+    both_false (is_task n p) (is_on_cpu n (slice_set places cpu o)) parts.0 (none_set n places cpu o other parts.1)
 
-none_put : (n : ℕ) (places : Places) (m : ℕ) (seat : Option ℕ) → eqb m n ≡ false → stands n places ≡ false → stands n (put places m seat) ≡ false
+none_put : (n : ℕ) (places : Places) (m : ℕ) (seat : Option ℕ) → eqb m n ≡ false → is_on_cpu n places ≡ false → is_on_cpu n (put places m seat) ≡ false
 none_put n places m None other none = none
 none_put n places m (Some cpu) other none = none_set n places cpu (Some m) other none
 
-none_seated : (n : ℕ) (places : Places) (c : Candidate) → eqb c.number n ≡ false → stands n places ≡ false → stands n (seated places c) ≡ false
+none_seated : (n : ℕ) (places : Places) (c : Candidate) → eqb c.number n ≡ false → is_on_cpu n places ≡ false → is_on_cpu n (assigned places c) ≡ false
 none_seated n places c other none =
-    elim (stands c.number places) as (λ b. stands n (cond b places (put places c.number (seat_of places c))) ≡ false) [
+    elim (is_on_cpu c.number places) as (λ b. is_on_cpu n (cond b places (put places c.number (cpu_for places c))) ≡ false) [
       | true ↦ none
-      | false ↦ none_put n places c.number (seat_of places c) other none
+      | false ↦ none_put n places c.number (cpu_for places c) other none
     ]
 
 found_other : (n : ℕ) (p : Candidate → Bool) (ready : List Candidate) (c : Candidate) → list_any (is_of n) ready ≡ false → find p ready ≡ Some c → eqb c.number n ≡ false
@@ -331,16 +331,16 @@ found_other n p (r ∷ rs) c none e =
       | false ↦ λ found. found_other n p rs c parts.1 found
     ] e
 
-none_seated_if : (n : ℕ) (places : Places) (ready : List Candidate) (o : Option Candidate) → ((c : Candidate) → o ≡ Some c → eqb c.number n ≡ false) → stands n places ≡ false → stands n (seated_if places o) ≡ false
+none_seated_if : (n : ℕ) (places : Places) (ready : List Candidate) (o : Option Candidate) → ((c : Candidate) → o ≡ Some c → eqb c.number n ≡ false) → is_on_cpu n places ≡ false → is_on_cpu n (assigned_if places o) ≡ false
 none_seated_if n places ready None other none = none
 none_seated_if n places ready (Some c) other none = none_seated n places c (other c refl) none
 
-none_upto : (n : ℕ) (ready : List Candidate) (places : Places) (r : ℕ) → list_any (is_of n) ready ≡ false → stands n places ≡ false → stands n (seated_upto ready places r) ≡ false
+none_upto : (n : ℕ) (ready : List Candidate) (places : Places) (r : ℕ) → list_any (is_of n) ready ≡ false → is_on_cpu n places ≡ false → is_on_cpu n (assigned_upto ready places r) ≡ false
 none_upto n ready places zero none empty = empty
 none_upto n ready places (suc r) none empty =
-    none_seated_if n (seated_upto ready places r) ready (candidate_at_rank ready r) (λ c e. found_other n (λ x. eqb (rank ready x) r) ready c none e) (none_upto n ready places r none empty)
+    none_seated_if n (assigned_upto ready places r) ready (candidate_at_rank ready r) (λ c e. found_other n (λ x. eqb (rank ready x) r) ready c none e) (none_upto n ready places r none empty)
 
-none_placed : (n cpus : ℕ) (ready : List Candidate) (before : Places) → list_any (is_of n) ready ≡ false → stands n (placed cpus ready before) ≡ false
+none_placed : (n cpus : ℕ) (ready : List Candidate) (before : Places) → list_any (is_of n) ready ≡ false → is_on_cpu n (placed cpus ready before) ≡ false
 none_placed n cpus ready before none = none_upto n ready (map (kept_if_chosen cpus ready) before) cpus none (none_stays cpus n ready before none)
 
 abbrev is_ready_of : ℕ → Task → Bool
@@ -385,11 +385,11 @@ opposite : (a b : Bool) → (b ≡ false → a ≡ false) → a ≡ true → b �
 opposite a true h e = refl
 opposite a false h e = let no : true ≡ false = sym e ∙ h refl in absurd cc
 
-prepared_may_run : (cpus : ℕ) (tasks : List Task) (before : Places) → AreNumbered tasks → All (λ t. stands t.number (placed cpus (candidates tasks) before) ≡ true → is_ready t.condition ≡ true) tasks
-prepared_may_run cpus tasks before numbered i d within standing =
+prepared_may_run : (cpus : ℕ) (tasks : List Task) (before : Places) → AreNumbered tasks → All (λ t. is_on_cpu t.number (placed cpus (candidates tasks) before) ≡ true → is_ready t.condition ≡ true) tasks
+prepared_may_run cpus tasks before numbered i d within on_cpu =
     let t = get_or tasks i d in
-    opposite (stands t.number (placed cpus (candidates tasks) before)) (is_ready t.condition)
-    (λ is. none_placed t.number cpus (candidates tasks) before (no_candidate t.number tasks (alone tasks i d numbered within is))) standing
+    opposite (is_on_cpu t.number (placed cpus (candidates tasks) before)) (is_ready t.condition)
+    (λ is. none_placed t.number cpus (candidates tasks) before (no_candidate t.number tasks (alone tasks i d numbered within is))) on_cpu
 
 pub homed_number : (o : Option ℕ) (t : Task) → (with_cpu o t).number ≡ t.number
 homed_number None t = refl
@@ -404,10 +404,10 @@ begun_may_run d numbered =
     let tasks = prepared d.time d.tasks in
     let places = placed d.cpus (candidates tasks) d.curr in
     All-map (MayRun (with_tick_begun d)) (with_last_cpu places) tasks
-    (λ k e h standing.
+    (λ k e h on_cpu.
     let t = get_or tasks k e in
     let o = position (is_task t.number) places in
-    ap is_ready (homed_condition o t) ∙ prepared_may_run d.cpus tasks d.curr numbered k e h (ap (λ n. stands n places) (sym (homed_number o t)) ∙ standing))
+    ap is_ready (homed_condition o t) ∙ prepared_may_run d.cpus tasks d.curr numbered k e h (ap (λ n. is_on_cpu n places) (sym (homed_number o t)) ∙ on_cpu))
 
 -- ---- NUMBERS
 
@@ -448,20 +448,20 @@ prepared_numbered time tasks numbered =
 even_more : (a b c : List Task) (hs gs : List Happened) → AreEven a hs b → AreEven b gs c → AreEven a (hs ++ gs) c
 even_more a b c hs gs one two n = omega (arith, one n, two n, sum_by-append (throttled_by n) hs gs, sum_by-append (replenished_by n) hs gs)
 
-pub tick_even : (d : Domain) → AreNumbered d.tasks → AreEven d.tasks (told_by_tick d) (ticked d).tasks
+pub tick_even : (d : Domain) → AreNumbered d.tasks → AreEven d.tasks (logged_by_tick d) (ticked d).tasks
 tick_even d numbered =
-    even_more d.tasks (with_tick_begun d).tasks (ticked d).tasks (told_by_beginning d) (told_by_end (with_tick_begun d))
+    even_more d.tasks (with_tick_begun d).tasks (ticked d).tasks (logged_by_beginning d) (logged_by_end (with_tick_begun d))
     (beginning_even d) (end_even (with_tick_begun d) (begun_may_run d (prepared_numbered d.time d.tasks numbered)))
 
-pub ticks_even : (k : ℕ) (d : Domain) → AreNumbered d.tasks → AreEven d.tasks (told_by_ticks k d) (ticks k d).tasks
+pub ticks_even : (k : ℕ) (d : Domain) → AreNumbered d.tasks → AreEven d.tasks (logged_by_ticks k d) (ticks k d).tasks
 ticks_even zero d numbered = λ n. omega arith
 ticks_even (suc k) d numbered =
-    even_more d.tasks (ticks k d).tasks (ticks (suc k) d).tasks (told_by_ticks k d) (told_by_tick (ticks k d))
+    even_more d.tasks (ticks k d).tasks (ticks (suc k) d).tasks (logged_by_ticks k d) (logged_by_tick (ticks k d))
     (ticks_even k d numbered) (tick_even (ticks k d) (ticks_numbered k d numbered))
 
 -- the law, in counts
 pub balanced_by : (before after : List Task) (hs : List Happened) → AreEven before hs after → AreBalanced before hs after
 balanced_by before after hs even n = omega (arith, even n, own_sum n (λ h. throttles h.what) hs, own_sum n (λ h. replenishes h.what) hs)
 
-pub ticks_balanced : (k : ℕ) (d : Domain) → AreNumbered d.tasks → AreBalanced d.tasks (told_by_ticks k d) (ticks k d).tasks
-ticks_balanced k d numbered = balanced_by d.tasks (ticks k d).tasks (told_by_ticks k d) (ticks_even k d numbered)
+pub ticks_balanced : (k : ℕ) (d : Domain) → AreNumbered d.tasks → AreBalanced d.tasks (logged_by_ticks k d) (ticks k d).tasks
+ticks_balanced k d numbered = balanced_by d.tasks (ticks k d).tasks (logged_by_ticks k d) (ticks_even k d numbered)

@@ -64,8 +64,8 @@ among_all tasks numbers is k d l =
     subst (λ (ns : List ℕ). Contains ns n) (sym is) (k, omega (arith, l, length-map tasks (λ (t : Admitted). t.number)), get_or-map (λ (t : Admitted). t.number) tasks k d n l)
 
 -- THE JOBS OF A TABLE
-pub none_told : (tasks : List Admitted) (numbers : List ℕ) (ls : List JobLineView) → numbers ≡ map (λ t. t.number) tasks → ls ≡ map (λ t. no_line t.number) tasks → ls ≡ job_lines_of [] numbers
-none_told tasks numbers ls same are =
+pub none_logged : (tasks : List Admitted) (numbers : List ℕ) (ls : List JobLineView) → numbers ≡ map (λ t. t.number) tasks → ls ≡ map (λ t. no_line t.number) tasks → ls ≡ job_lines_of [] numbers
+none_logged tasks numbers ls same are =
     are ∙ sym (map-map no_line (λ (t : Admitted). t.number) tasks) ∙ ap (map no_line) (sym same)
 
 pub closed_are : {E : Type 0} (happened : List Happened) (tasks : List Admitted) (numbers : List ℕ) (ls : List JobLineView) (made : Result (Vec TaskJobsView) E) → ls ≡ job_lines_of happened numbers → ((f : ℕ → JobLineView) → ls ≡ map f numbers → IfOk made (λ v. v.items ≡ map (λ t. closed_line (f t.number)) tasks)) → IfOk made (λ v. v.items ≡ map (λ t. task_jobs happened t.number) tasks)
@@ -75,10 +75,10 @@ closed_are happened tasks numbers ls made are closed =
 pub all_are_released : {E : Type 0} (happened : List Happened) (tasks : List Admitted) (made : Result (Vec TaskJobsView) E) → IfOk made (λ v. v.items ≡ map (λ t. task_jobs happened t.number) tasks) → IfOk made (λ v. All (AreReleased happened) v.items)
 all_are_released happened tasks made are = IfOk-weaker made _ (λ v. All (AreReleased happened) v.items) (λ v is. all_released happened tasks v.items is) are
 
--- of an accounting that has heard nothing
+-- of an accounting that has streamed nothing
 pub none_kept : (tasks : List Admitted) (numbers : List ℕ) (happened : List Happened) (lines : Option (Vec JobLineView)) → numbers ≡ map (λ t. t.number) tasks → happened ≡ [] → IfSome lines (λ ls. ls.items ≡ map (λ t. no_line t.number) tasks) → AreLinesKept happened numbers lines
 none_kept tasks numbers happened None same none are = tt
-none_kept tasks numbers happened (Some ls) same none are = none_told tasks numbers ls.items same are ∙ ap (λ (hs : List Happened). job_lines_of hs numbers) (sym none)
+none_kept tasks numbers happened (Some ls) same none are = none_logged tasks numbers ls.items same are ∙ ap (λ (hs : List Happened). job_lines_of hs numbers) (sym none)
 
 -- of one that keeps no jobs
 pub not_kept : (happened : List Happened) (numbers : List ℕ) (lines : Option (Vec JobLineView)) → is_some lines ≡ false → AreLinesKept happened numbers lines

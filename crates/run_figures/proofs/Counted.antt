@@ -1,4 +1,4 @@
--- What was told of a task, at the end, is what the definitions say of its entries.
+-- What was logged of a task, at the end, is what the definitions say of its entries.
 use Rattle.std.proofs.Common.{◌≡◌, ℕ, suc, ◌+◌, ◌-◌, ◌/◌, Bool, true, false, cond, ◌||◌, min, max, List, [], ◌∷◌, length, Option, Some, None, ℤ, refl, sym, ap, ◌∙◌, arith, eq-eqb, eqb}
 use Rattle.std.specs.Prelude.{fold, sum_by, count_by, is_some}
 use Rattle.std.specs.Option.{option_map, option_map_or, option_to_list}
@@ -12,28 +12,28 @@ use Rattle.run_figures.specs.declared.job.Job.{Job}
 use Rattle.run_figures.specs.declared.counting.Ended.{Ended}
 use Rattle.run_figures.specs.declared.counting.Counts.{Counts}
 use Rattle.run_figures.specs.declared.throttle.Throttle.{Throttle}
-use Rattle.run_figures.specs.declared.told.Told.{Told}
+use Rattle.run_figures.specs.declared.logged.TaskTally.{TaskTally}
 use Rattle.run_figures.specs.Jobs.{of_task, over_by, job_after, jobs_from}
 use Rattle.run_figures.specs.Throttling.{throttles, frees, throttled_of, throttled_us, until_free, throttled_then}
 use Rattle.run_figures.specs.Figures.{Outcome, outcome_at, outcomes, is_late, responses_of}
-use Rattle.run_figures.specs.private.Telling.{first_ended, one_more, with_outcome, with_job, with_over, gap, throttle_by, told_after, told_all}
+use Rattle.run_figures.specs.private.Logging.{first_ended, one_more, with_outcome, with_job, with_over, gap, throttle_by, logged_after, logged_all}
 use Rattle.run_figures.specs.private.Putting.{responses_by}
 
 -- its own entries, one after another
-abbrev pub told_own : ℕ → Told → List Happened → Told
-told_own end t own = fold (λ (x : Told) (h : Happened). told_after end h x) t own
+abbrev pub logged_own : ℕ → TaskTally → List Happened → TaskTally
+logged_own end t own = fold (λ (x : TaskTally) (h : Happened). logged_after end h x) t own
 
 -- only its own count
-pub own_told : (end : ℕ) (hs : List Happened) (t : Told) (n : ℕ) → t.number ≡ n → told_all end hs t ≡ told_own end t (of_task n hs)
-own_told end [] t n e = refl
-own_told end (h ∷ hs) t n e =
-    elim (eqb h.number n) as (λ b. eqb h.number n ≡ b → told_all end hs (cond (eqb t.number h.number) (told_after end h t) t) ≡ told_own end t (cond b (h ∷ of_task n hs) (of_task n hs))) [
+pub own_logged : (end : ℕ) (hs : List Happened) (t : TaskTally) (n : ℕ) → t.number ≡ n → logged_all end hs t ≡ logged_own end t (of_task n hs)
+own_logged end [] t n e = refl
+own_logged end (h ∷ hs) t n e =
+    elim (eqb h.number n) as (λ b. eqb h.number n ≡ b → logged_all end hs (cond (eqb t.number h.number) (logged_after end h t) t) ≡ logged_own end t (cond b (h ∷ of_task n hs) (of_task n hs))) [
       | true ↦ λ yes.
           let own : eqb t.number h.number ≡ true = eq-eqb t.number h.number (e ∙ sym (eqb-true h.number n yes)) in
-          ap (λ b. told_all end hs (cond b (told_after end h t) t)) own ∙ own_told end hs (told_after end h t) n e
+          ap (λ b. logged_all end hs (cond b (logged_after end h t) t)) own ∙ own_logged end hs (logged_after end h t) n e
       | false ↦ λ no.
           let other : eqb t.number h.number ≡ false = ne_eqb t.number h.number (λ (is : t.number ≡ h.number). eqb-false h.number n no (sym is ∙ e)) in
-          ap (λ b. told_all end hs (cond b (told_after end h t) t)) other ∙ own_told end hs t n e
+          ap (λ b. logged_all end hs (cond b (logged_after end h t) t)) other ∙ own_logged end hs t n e
     ] refl
 
 -- THE JOBS
@@ -42,12 +42,12 @@ over_counted end c None = refl
 over_counted end c (Some j) = refl
 
 -- those that are over and the one under way, counted, are all of them counted
-pub jobs_counted : (end : ℕ) (own : List Happened) (t : Told) → with_over end (told_own end t own).counts (told_own end t own).job ≡ fold (with_job end) t.counts (jobs_from t.job own)
+pub jobs_counted : (end : ℕ) (own : List Happened) (t : TaskTally) → with_over end (logged_own end t own).counts (logged_own end t own).job ≡ fold (with_job end) t.counts (jobs_from t.job own)
 jobs_counted end [] t = sym (over_counted end t.counts t.job)
 jobs_counted end (h ∷ hs) t =
     let o = over_by h.time h.what t.job in
     let rest = jobs_from (job_after h.time h.what t.job) hs in
-    jobs_counted end hs (told_after end h t)
+    jobs_counted end hs (logged_after end h t)
     ∙ ap (λ (c : Counts). fold (with_job end) c rest) (sym (over_counted end t.counts o))
     ∙ sym (fold-append (with_job end) t.counts (option_to_list o) rest)
 
@@ -125,9 +125,9 @@ responses_counted (o ∷ os) =
 abbrev pub throttle_all : Throttle → List Happened → Throttle
 throttle_all t own = fold (λ (x : Throttle) (h : Happened). throttle_by h.time h.what x) t own
 
-pub own_throttle : (end : ℕ) (own : List Happened) (t : Told) → (told_own end t own).throttle ≡ throttle_all t.throttle own
+pub own_throttle : (end : ℕ) (own : List Happened) (t : TaskTally) → (logged_own end t own).throttle ≡ throttle_all t.throttle own
 own_throttle end [] t = refl
-own_throttle end (h ∷ hs) t = own_throttle end hs (told_after end h t)
+own_throttle end (h ∷ hs) t = own_throttle end hs (logged_after end h t)
 
 times_by : (time times others : ℕ) (what : What) (t : Throttle) → times ≡ (throttle_by time what t).times + others → times ≡ t.times + (cond (throttles what) 1 0 + others)
 times_by time times others JobEnds t e = omega arith
@@ -156,7 +156,7 @@ us_by us time free others (Replenished d) t e = omega arith
 us_by us time free others (Released d) t e = omega arith
 us_by us time free others (WokenSpent d) t e = omega arith
 
--- a throttle under way lasts on, and the others are told
+-- a throttle under way lasts on, and the others are logged
 pub us_counted : (end : ℕ) (own : List Happened) (t : Throttle) → (throttle_all t own).us + gap (throttle_all t own).since end ≡ t.us + gap t.since (until_free end own) + throttled_us end own
 us_counted end [] t = omega arith
 us_counted end (h ∷ hs) t =

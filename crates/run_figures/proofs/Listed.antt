@@ -115,8 +115,8 @@ lines_have_room happened numbers ls n are few = record {
 
 -- with what happened next
 pub lines_more : (happened hs : List Happened) (numbers : List ℕ) (ls now : List JobLineView) → ls ≡ job_lines_of happened numbers → now ≡ map (line_all hs) ls → now ≡ job_lines_of (happened ++ hs) numbers
-lines_more happened hs numbers ls now are told =
-    told
+lines_more happened hs numbers ls now are logged =
+    logged
     ∙ ap (map (line_all hs)) are
     ∙ map-map (line_all hs) (λ n. line_all happened (no_line n)) numbers
     ∙ map_same (λ n. line_all hs (line_all happened (no_line n))) (λ n. line_all (happened ++ hs) (no_line n)) numbers

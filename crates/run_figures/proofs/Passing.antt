@@ -1,4 +1,4 @@
--- What is told of all tasks, entry by entry and switch by switch.
+-- What is logged of all tasks, entry by entry and switch by switch.
 use Rattle.std.proofs.Common.{◌≡◌, ℕ, zero, suc, ◌+◌, ◌-◌, ◌≤◌, ◌<◌, ◌^◌, Bool, true, false, cond, not, eqb, ⊎_elim, ◌&&◌, List, [], ◌∷◌, ◌++◌, length, get_or, take, drop, map, Option, None, refl, sym, ap, ◌∙◌, arith, subst, All}
 use Rattle.std.specs.Prelude.{fold, count_by, is_some, is_none, nat_le}
 use Rattle.std.specs.List.{prefix_len}
@@ -9,13 +9,13 @@ use Rattle.domain_run.specs.declared.happened.What.TheVariants.{JobEnds}
 use Rattle.domain_run.specs.declared.happened.Happened.{Happened}
 use Rattle.domain_run.specs.Switch.{Switch}
 use Rattle.run_figures.specs.declared.throttle.Throttle.{Throttle}
-use Rattle.run_figures.specs.declared.told.Told.{Told}
+use Rattle.run_figures.specs.declared.logged.TaskTally.{TaskTally}
 use Rattle.run_figures.specs.Jobs.{of_task}
 use Rattle.edf_pick.specs.Places.{is_task}
 use Rattle.run_figures.specs.Throttling.{wants_it, is_throttled_at, preempts, throttled_then}
-use Rattle.run_figures.specs.private.Telling.{told_after, told_to_task, told_all, nothing_told, so_far, leaver_wanting, with_preemption, IsToldWithin, HaveRoomFor}
-use Rattle.run_figures.proofs.Counted.{own_told, own_throttle, since_counted}
-use Rattle.run_figures.proofs.Within.{told_within, within_more}
+use Rattle.run_figures.specs.private.Logging.{logged_after, logged_to_task, logged_all, nothing_logged, so_far, leaver_wanting, with_preemption, IsLoggedWithin, HaveRoomFor}
+use Rattle.run_figures.proofs.Counted.{own_logged, own_throttle, since_counted}
+use Rattle.run_figures.proofs.Within.{logged_within, within_more}
 
 pub map-map : {X Y Z : Type 0} (f : Y → Z) (g : X → Y) (xs : List X) → map f (map g xs) ≡ map (λ x. f (g x)) xs
 map-map f g [] = refl
@@ -26,72 +26,72 @@ map_same f g [] same = refl
 map_same f g (x ∷ xs) same = λ i. same x i ∷ map_same f g xs same i
 
 -- NUMBERS STAY
-number_kept : (end : ℕ) (t : Told) (h : Happened) → (told_to_task end t h).number ≡ t.number
-number_kept end t h = elim (eqb t.number h.number) as (λ b. (cond b (told_after end h t) t).number ≡ t.number) [ true ↦ refl | false ↦ refl ]
+number_kept : (end : ℕ) (t : TaskTally) (h : Happened) → (logged_to_task end t h).number ≡ t.number
+number_kept end t h = elim (eqb t.number h.number) as (λ b. (cond b (logged_after end h t) t).number ≡ t.number) [ true ↦ refl | false ↦ refl ]
 
-pub number_of_told : (end : ℕ) (hs : List Happened) (t : Told) → (told_all end hs t).number ≡ t.number
-number_of_told end [] t = refl
-number_of_told end (h ∷ hs) t = number_of_told end hs (told_to_task end t h) ∙ number_kept end t h
+pub number_of_logged : (end : ℕ) (hs : List Happened) (t : TaskTally) → (logged_all end hs t).number ≡ t.number
+number_of_logged end [] t = refl
+number_of_logged end (h ∷ hs) t = number_of_logged end hs (logged_to_task end t h) ∙ number_kept end t h
 
-pub numbers_of_told : (end : ℕ) (hs : List Happened) (ts : List Told) → map (λ t. t.number) (map (told_all end hs) ts) ≡ map (λ t. t.number) ts
-numbers_of_told end hs ts = map-map (λ (t : Told). t.number) (told_all end hs) ts ∙ map_same (λ t. (told_all end hs t).number) (λ t. t.number) ts (number_of_told end hs)
+pub numbers_of_logged : (end : ℕ) (hs : List Happened) (ts : List TaskTally) → map (λ t. t.number) (map (logged_all end hs) ts) ≡ map (λ t. t.number) ts
+numbers_of_logged end hs ts = map-map (λ (t : TaskTally). t.number) (logged_all end hs) ts ∙ map_same (λ t. (logged_all end hs t).number) (λ t. t.number) ts (number_of_logged end hs)
 
 -- COUNTS
-pub if_within : (n end : ℕ) (h : Happened) (t : Told) → h.time < 2 ^ 64 → IsToldWithin n t → IsToldWithin (n + 1) (told_to_task end t h)
-if_within n end h t small w = elim (eqb t.number h.number) as (λ b. IsToldWithin (n + 1) (cond b (told_after end h t) t)) [
-  | true ↦ told_within n end h t small w
+pub if_within : (n end : ℕ) (h : Happened) (t : TaskTally) → h.time < 2 ^ 64 → IsLoggedWithin n t → IsLoggedWithin (n + 1) (logged_to_task end t h)
+if_within n end h t small w = elim (eqb t.number h.number) as (λ b. IsLoggedWithin (n + 1) (cond b (logged_after end h t) t)) [
+  | true ↦ logged_within n end h t small w
   | false ↦ within_more n (n + 1) t (omega arith) w
 ]
 
-pub map_within : (n end : ℕ) (h : Happened) (ts : List Told) → h.time < 2 ^ 64 → All (IsToldWithin n) ts → All (IsToldWithin (n + 1)) (map (λ t. told_to_task end t h) ts)
+pub map_within : (n end : ℕ) (h : Happened) (ts : List TaskTally) → h.time < 2 ^ 64 → All (IsLoggedWithin n) ts → All (IsLoggedWithin (n + 1)) (map (λ t. logged_to_task end t h) ts)
 map_within n end h ts small all k d l =
-    let inside : k < length ts = omega (arith, l, length-map ts (λ (t : Told). told_to_task end t h)) in
-    subst (IsToldWithin (n + 1)) (sym (get_or-map (λ (t : Told). told_to_task end t h) ts k d d inside)) (if_within n end h (get_or ts k d) small (all k d inside))
+    let inside : k < length ts = omega (arith, l, length-map ts (λ (t : TaskTally). logged_to_task end t h)) in
+    subst (IsLoggedWithin (n + 1)) (sym (get_or-map (λ (t : TaskTally). logged_to_task end t h) ts k d d inside)) (if_within n end h (get_or ts k d) small (all k d inside))
 
-pub all_more : (n m : ℕ) (ts : List Told) → n ≤ m → All (IsToldWithin n) ts → All (IsToldWithin m) ts
+pub all_more : (n m : ℕ) (ts : List TaskTally) → n ≤ m → All (IsLoggedWithin n) ts → All (IsLoggedWithin m) ts
 all_more n m ts l all k d h = within_more n m (get_or ts k d) l (all k d h)
 
 -- ONE ENTRY MORE
-pub one_more_told : (end : ℕ) (hs : List Happened) (i : ℕ) (h : Happened) (now before ts : List Told) → i < length hs → h ≡ get_or hs i h → before ≡ map (told_all end (take i hs)) ts → now ≡ map (λ t. told_to_task end t h) before → now ≡ map (told_all end (take (i + 1) hs)) ts
-one_more_told end hs i h now before ts l is b n =
-    let each : (t : Told) → told_to_task end (told_all end (take i hs) t) h ≡ told_all end (take (i + 1) hs) t = λ t.
-    ap (told_to_task end (told_all end (take i hs) t)) is ∙ sym (fold_more (told_to_task end) t hs i h l) in
-    n ∙ ap (map (λ t. told_to_task end t h)) b ∙ map-map (λ t. told_to_task end t h) (told_all end (take i hs)) ts ∙ map_same (λ t. told_to_task end (told_all end (take i hs) t) h) (told_all end (take (i + 1) hs)) ts each
+pub one_more_logged : (end : ℕ) (hs : List Happened) (i : ℕ) (h : Happened) (now before ts : List TaskTally) → i < length hs → h ≡ get_or hs i h → before ≡ map (logged_all end (take i hs)) ts → now ≡ map (λ t. logged_to_task end t h) before → now ≡ map (logged_all end (take (i + 1) hs)) ts
+one_more_logged end hs i h now before ts l is b n =
+    let each : (t : TaskTally) → logged_to_task end (logged_all end (take i hs) t) h ≡ logged_all end (take (i + 1) hs) t = λ t.
+    ap (logged_to_task end (logged_all end (take i hs) t)) is ∙ sym (fold_more (logged_to_task end) t hs i h l) in
+    n ∙ ap (map (λ t. logged_to_task end t h)) b ∙ map-map (λ t. logged_to_task end t h) (logged_all end (take i hs)) ts ∙ map_same (λ t. logged_to_task end (logged_all end (take i hs) t) h) (logged_all end (take (i + 1) hs)) ts each
 
--- what is told by the first entries of a list
-pub record AreTold (end : ℕ) (hs : List Happened) (i : ℕ) (old now : List Told) : Type 0 where
-  pub told : now ≡ map (told_all end (take i hs)) old
-  pub within : (n : ℕ) → All (IsToldWithin n) old → All (IsToldWithin (n + i)) now
+-- what is logged by the first entries of a list
+pub record AreLogged (end : ℕ) (hs : List Happened) (i : ℕ) (old now : List TaskTally) : Type 0 where
+  pub logged : now ≡ map (logged_all end (take i hs)) old
+  pub within : (n : ℕ) → All (IsLoggedWithin n) old → All (IsLoggedWithin (n + i)) now
 
-pub none_told : (end : ℕ) (hs : List Happened) (old : List Told) → AreTold end hs 0 old old
-none_told end hs old = record {
-  told = sym (map-id old);
+pub none_logged : (end : ℕ) (hs : List Happened) (old : List TaskTally) → AreLogged end hs 0 old old
+none_logged end hs old = record {
+  logged = sym (map-id old);
   within = λ n all. all_more n (n + 0) old (omega arith) all;
 }
 
-pub one_told : (end : ℕ) (hs : List Happened) (i : ℕ) (d : Happened) (old before now : List Told) → i < length hs → AreTold end hs i old before → now ≡ map (λ t. told_to_task end t (get_or hs i d)) before → ((n : ℕ) → All (IsToldWithin n) before → All (IsToldWithin (n + 1)) now) → AreTold end hs (i + 1) old now
-one_told end hs i d old before now l b n more = record {
-  told = one_more_told end hs i (get_or hs i d) now before old l (get_or_default hs i d (get_or hs i d) l) b.told n;
+pub one_logged : (end : ℕ) (hs : List Happened) (i : ℕ) (d : Happened) (old before now : List TaskTally) → i < length hs → AreLogged end hs i old before → now ≡ map (λ t. logged_to_task end t (get_or hs i d)) before → ((n : ℕ) → All (IsLoggedWithin n) before → All (IsLoggedWithin (n + 1)) now) → AreLogged end hs (i + 1) old now
+one_logged end hs i d old before now l b n more = record {
+  logged = one_more_logged end hs i (get_or hs i d) now before old l (get_or_default hs i d (get_or hs i d) l) b.logged n;
   within = λ m all.
       let e : m + i + 1 ≡ m + (i + 1) = omega arith in
-      subst (λ k. All (IsToldWithin k) now) e (more (m + i) (b.within m all));
+      subst (λ k. All (IsLoggedWithin k) now) e (more (m + i) (b.within m all));
 }
 
-pub told_keyed : (end : ℕ) (hs : List Happened) (i : ℕ) (old now : List Told) (numbers : List ℕ) → AreTold end hs i old now → map (λ t. t.number) old ≡ numbers → map (λ t. t.number) now ≡ numbers
-told_keyed end hs i old now numbers h keyed =
-    ap (λ (ts : List Told). map (λ t. t.number) ts) h.told ∙ numbers_of_told end (take i hs) old ∙ keyed
+pub logged_keyed : (end : ℕ) (hs : List Happened) (i : ℕ) (old now : List TaskTally) (numbers : List ℕ) → AreLogged end hs i old now → map (λ t. t.number) old ≡ numbers → map (λ t. t.number) now ≡ numbers
+logged_keyed end hs i old now numbers h keyed =
+    ap (λ (ts : List TaskTally). map (λ t. t.number) ts) h.logged ∙ numbers_of_logged end (take i hs) old ∙ keyed
 
-pub told_room : (end : ℕ) (hs : List Happened) (i : ℕ) (old now : List Told) → AreTold end hs i old now → i < length hs → HaveRoomFor (length hs) old → All (IsToldWithin (2 ^ 64 - 2)) now
-told_room end hs i old now h l room =
+pub logged_room : (end : ℕ) (hs : List Happened) (i : ℕ) (old now : List TaskTally) → AreLogged end hs i old now → i < length hs → HaveRoomFor (length hs) old → All (IsLoggedWithin (2 ^ 64 - 2)) now
+logged_room end hs i old now h l room =
     all_more (room.used + i) (2 ^ 64 - 2) now (omega (arith, room.fits)) (h.within room.used room.within)
 
--- PREEMPTIONS do not touch what is told
-if_with : (end : ℕ) (t : Told) (p : ℕ) (h : Happened) → told_to_task end (record t { preempted = p }) h ≡ record (told_to_task end t h) { preempted = p }
-if_with end t p h = elim (eqb t.number h.number) as (λ b. cond b (told_after end h (record t { preempted = p })) (record t { preempted = p }) ≡ record (cond b (told_after end h t) t) { preempted = p }) [ true ↦ refl | false ↦ refl ]
+-- PREEMPTIONS do not touch what is logged
+if_with : (end : ℕ) (t : TaskTally) (p : ℕ) (h : Happened) → logged_to_task end (record t { preempted = p }) h ≡ record (logged_to_task end t h) { preempted = p }
+if_with end t p h = elim (eqb t.number h.number) as (λ b. cond b (logged_after end h (record t { preempted = p })) (record t { preempted = p }) ≡ record (cond b (logged_after end h t) t) { preempted = p }) [ true ↦ refl | false ↦ refl ]
 
-pub told_with : (end : ℕ) (hs : List Happened) (t : Told) (p : ℕ) → told_all end hs (record t { preempted = p }) ≡ record (told_all end hs t) { preempted = p }
-told_with end [] t p = refl
-told_with end (h ∷ hs) t p = ap (told_all end hs) (if_with end t p h) ∙ told_with end hs (told_to_task end t h) p
+pub logged_with : (end : ℕ) (hs : List Happened) (t : TaskTally) (p : ℕ) → logged_all end hs (record t { preempted = p }) ≡ record (logged_all end hs t) { preempted = p }
+logged_with end [] t p = refl
+logged_with end (h ∷ hs) t p = ap (logged_all end hs) (if_with end t p h) ∙ logged_with end hs (logged_to_task end t h) p
 
 take_both : (j c : ℕ) (hs : List Happened) → take j hs ++ take c (drop j hs) ≡ take (j + c) hs
 take_both zero c hs = let e : c ≡ 0 + c = omega arith in ap (λ k. take k hs) e
@@ -100,23 +100,23 @@ take_both (suc j) c (h ∷ hs) =
     let e : suc j + c ≡ suc (j + c) = omega arith in
     rw e (ap (λ (xs : List Happened). h ∷ xs) (take_both j c hs))
 
-pub more_told : (end : ℕ) (hs : List Happened) (ss : List Switch) (j k c n : ℕ) → told_all end (take c (drop j hs)) (so_far end hs ss j k n) ≡ so_far end hs ss (j + c) k n
-more_told end hs ss j k c n =
+pub more_logged : (end : ℕ) (hs : List Happened) (ss : List Switch) (j k c n : ℕ) → logged_all end (take c (drop j hs)) (so_far end hs ss j k n) ≡ so_far end hs ss (j + c) k n
+more_logged end hs ss j k c n =
     let p = count_by (preempts hs n) (take k ss) in
-    told_with end (take c (drop j hs)) (told_all end (take j hs) (nothing_told n)) p
-    ∙ ap (λ (t : Told). record t { preempted = p })
-    (sym (fold-append (told_to_task end) (nothing_told n) (take j hs) (take c (drop j hs))) ∙ ap (λ (xs : List Happened). told_all end xs (nothing_told n)) (take_both j c hs))
+    logged_with end (take c (drop j hs)) (logged_all end (take j hs) (nothing_logged n)) p
+    ∙ ap (λ (t : TaskTally). record t { preempted = p })
+    (sym (fold-append (logged_to_task end) (nothing_logged n) (take j hs) (take c (drop j hs))) ∙ ap (λ (xs : List Happened). logged_all end xs (nothing_logged n)) (take_both j c hs))
 
 -- A SWITCH
 leaves_too : (n : ℕ) (prev : Option ℕ) (w : Bool) → is_task n (cond w prev None) ≡ (is_task n prev && w)
 leaves_too n prev true = elim (is_task n prev) as (λ b. b ≡ (b && true)) [ true ↦ refl | false ↦ refl ]
 leaves_too n prev false = elim (is_task n prev) as (λ b. false ≡ (b && false)) [ true ↦ refl | false ↦ refl ]
 
-flag_is : (end : ℕ) (hs : List Happened) (j n time : ℕ) → j ≡ prefix_len (λ h. nat_le h.time time) hs → is_some (told_all end (take j hs) (nothing_told n)).throttle.since ≡ is_throttled_at hs n time
+flag_is : (end : ℕ) (hs : List Happened) (j n time : ℕ) → j ≡ prefix_len (λ h. nat_le h.time time) hs → is_some (logged_all end (take j hs) (nothing_logged n)).throttle.since ≡ is_throttled_at hs n time
 flag_is end hs j n time e =
-    ap (λ (t : Told). is_some t.throttle.since) (own_told end (take j hs) (nothing_told n) n refl)
-    ∙ ap (λ (t : Throttle). is_some t.since) (own_throttle end (of_task n (take j hs)) (nothing_told n))
-    ∙ since_counted (of_task n (take j hs)) (nothing_told n).throttle
+    ap (λ (t : TaskTally). is_some t.throttle.since) (own_logged end (take j hs) (nothing_logged n) n refl)
+    ∙ ap (λ (t : Throttle). is_some t.since) (own_throttle end (of_task n (take j hs)) (nothing_logged n))
+    ∙ since_counted (of_task n (take j hs)) (nothing_logged n).throttle
     ∙ ap (λ k. fold (λ (before : Bool) (h : Happened). throttled_then before h.what) false (of_task n (take k hs))) e
 
 counts_it : (hs : List Happened) (n : ℕ) (s : Switch) (b : Bool) → b ≡ is_throttled_at hs n s.time → (is_task n (leaver_wanting s) && not b) ≡ preempts hs n s
@@ -124,8 +124,8 @@ counts_it hs n s b e = ap (λ x. x && not b) (leaves_too n s.prev (wants_it s.st
 
 pub more_switched : (end : ℕ) (hs : List Happened) (ss : List Switch) (j k n : ℕ) (s : Switch) → k < length ss → s ≡ get_or ss k s → j ≡ prefix_len (λ h. nat_le h.time s.time) hs → with_preemption s (so_far end hs ss j k n) ≡ so_far end hs ss j (k + 1) n
 more_switched end hs ss j k n s l is e =
-    let t = told_all end (take j hs) (nothing_told n) in
-    let same : t.number ≡ n = number_of_told end (take j hs) (nothing_told n) in
+    let t = logged_all end (take j hs) (nothing_logged n) in
+    let same : t.number ≡ n = number_of_logged end (take j hs) (nothing_logged n) in
     let test : (is_task t.number (leaver_wanting s) && is_none t.throttle.since) ≡ preempts hs n s =
     ap (λ m. is_task m (leaver_wanting s) && is_none t.throttle.since) same ∙ counts_it hs n s (is_some t.throttle.since) (flag_is end hs j n s.time e) in
     let here : preempts hs n s ≡ preempts hs n (get_or ss k s) = ap (preempts hs n) is in

@@ -16,7 +16,7 @@ use Rattle.run_figures.specs.Again.{more_switches}
 use Rattle.run_figures.specs.private.Running.{last_from, last_of, ran_by, who_from, cpu_by}
 use Rattle.run_figures.specs.private.Growing.{grown_count, grown_time, grown_ran, grown_cpu}
 use Rattle.run_figures.proofs.Turning.{cpus_apart, cpu_at}
-use Rattle.run_figures.proofs.Behind.{not_earlier, us_in, us_in-cons, us_of, one_more_stay, who_more}
+use Rattle.run_figures.proofs.After.{not_earlier, us_in, us_in-cons, us_of, one_more_stay, who_more}
 use Rattle.run_figures.proofs.Shared.{IsAmong, added_once, sums_same, cpus_among}
 
 abbrev pub AreInOrder : List Switch → Type 0
@@ -79,7 +79,7 @@ us_split : (q : ℕ → Bool) (c cpu u v : ℕ) (who : Option ℕ) → us_of (on
 us_split q c cpu u v None = refl
 us_split q c cpu u v (Some n) = split_us (q n && eqb cpu c) u v
 
--- one switch more, and the same one later behind others by which the same task has the CPU
+-- one switch more, and the same one later after others by which the same task has the CPU
 one_later : (q : ℕ → Bool) (c end k : ℕ) (s : Switch) (ss others : List Switch) → All (λ x. x.time ≤ s.time) ss → All (λ x. x.time ≤ s.time + k) others → s.time + k ≤ end
     → who_from None c others ≡ who_from None c ss
     → time_on q c end (ss ++ s ∷ []) + time_on q c end others + us_of (on q c) c k (who_from None c ss)

@@ -11,7 +11,7 @@ use Rattle.run_figures.specs.declared.run.Admitted.{Admitted}
 use Rattle.run_figures.specs.declared.counting.Ended.{Ended}
 use Rattle.run_figures.specs.declared.counting.Counts.{Counts}
 use Rattle.run_figures.specs.declared.throttle.Throttle.{Throttle}
-use Rattle.run_figures.specs.declared.told.Told.{Told}
+use Rattle.run_figures.specs.declared.logged.TaskTally.{TaskTally}
 use Rattle.run_figures.specs.declared.ran.Ran.{Ran}
 use Rattle.run_figures.specs.declared.ran.Cpu.{Cpu}
 use Rattle.run_figures.specs.declared.figures.TaskFigures.{TaskFigures}
@@ -22,33 +22,33 @@ use Rattle.run_figures.specs.Jobs.{of_task, jobs_of}
 use Rattle.run_figures.specs.Throttling.{throttled_of, throttled_us, preemptions}
 use Rattle.run_figures.specs.Stays.{stays, cpu_us, migrations}
 use Rattle.run_figures.specs.Figures.{outcomes, is_late, figures_of, task_figures, cpu_of, cpu_figures}
-use Rattle.run_figures.specs.private.Telling.{told_all, told_by, nothing_told, with_over, gap}
+use Rattle.run_figures.specs.private.Logging.{logged_all, logged_by, nothing_logged, with_over, gap}
 use Rattle.run_figures.specs.private.Running.{ran_by, cpu_by}
 use Rattle.run_figures.specs.private.Putting.{responses_by, put_task, put_all, put_cpu}
 use Rattle.run_figures.proofs.Turning.{cpus_apart, cpu_at}
 use Rattle.run_figures.proofs.Indexing.{numbers_apart}
 use Rattle.run_figures.proofs.Passing.{map-map}
-use Rattle.run_figures.proofs.Behind.{us_small}
+use Rattle.run_figures.proofs.After.{us_small}
 use Rattle.run_figures.proofs.Shared.{IsAmong, shared_out, tasks_among, cpus_among}
-use Rattle.run_figures.proofs.Counted.{told_own, own_told, jobs_counted, late_counted, ended_counted, count_of_outcomes, responses_counted, own_throttle, times_counted, us_counted}
+use Rattle.run_figures.proofs.Counted.{logged_own, own_logged, jobs_counted, late_counted, ended_counted, count_of_outcomes, responses_counted, own_throttle, times_counted, us_counted}
 
-pub task_is : (run : RunView) (task : Admitted) → put_task run.time task (told_by run.time run.happened run.switches task.number) (ran_by run.time run.switches task.number) ≡ figures_of run task
+pub task_is : (run : RunView) (task : Admitted) → put_task run.time task (logged_by run.time run.happened run.switches task.number) (ran_by run.time run.switches task.number) ≡ figures_of run task
 task_is run task =
     let n = task.number in
     let own = of_task n run.happened in
-    let told : Told = told_all run.time run.happened (nothing_told n) in
-    let kept : told ≡ told_own run.time (nothing_told n) own = own_told run.time run.happened (nothing_told n) n refl in
-    let counts : Counts = with_over run.time told.counts told.job in
-    let counted = ap (λ (t : Told). with_over run.time t.counts t.job) kept ∙ jobs_counted run.time own (nothing_told n) in
+    let logged : TaskTally = logged_all run.time run.happened (nothing_logged n) in
+    let kept : logged ≡ logged_own run.time (nothing_logged n) own = own_logged run.time run.happened (nothing_logged n) n refl in
+    let counts : Counts = with_over run.time logged.counts logged.job in
+    let counted = ap (λ (t : TaskTally). with_over run.time t.counts t.job) kept ∙ jobs_counted run.time own (nothing_logged n) in
     let none : Counts = record { ended = None; late = 0 } in
     let jobs = jobs_of run.happened n in
     let ended = ap (λ (c : Counts). c.ended) counted ∙ ended_counted run.time jobs none in
     let late : counts.late ≡ count_by (is_late run.time) jobs = omega (arith, ap (λ (c : Counts). c.late) counted ∙ late_counted run.time jobs none) in
-    let throttle = ap (λ (t : Told). t.throttle) kept ∙ own_throttle run.time own (nothing_told n) in
+    let throttle = ap (λ (t : TaskTally). t.throttle) kept ∙ own_throttle run.time own (nothing_logged n) in
     let how_many = ap (λ (x : Option Ended). option_map_or (λ (e : Ended). e.count) x 0) ended ∙ count_of_outcomes (outcomes jobs) in
     let responses = ap (option_map responses_by) ended ∙ responses_counted (outcomes jobs) in
-    let times : told.throttle.times ≡ throttled_of own = omega (arith, ap (λ (t : Throttle). t.times) throttle ∙ times_counted own (nothing_told n).throttle) in
-    let us : told.throttle.us + gap told.throttle.since run.time ≡ throttled_us run.time own = omega (arith, ap (λ (t : Throttle). t.us + gap t.since run.time) throttle ∙ us_counted run.time own (nothing_told n).throttle) in
+    let times : logged.throttle.times ≡ throttled_of own = omega (arith, ap (λ (t : Throttle). t.times) throttle ∙ times_counted own (nothing_logged n).throttle) in
+    let us : logged.throttle.us + gap logged.throttle.since run.time ≡ throttled_us run.time own = omega (arith, ap (λ (t : Throttle). t.us + gap t.since run.time) throttle ∙ us_counted run.time own (nothing_logged n).throttle) in
     λ i. record {
       number = n;
       runtime = task.runtime;
@@ -64,14 +64,14 @@ task_is run task =
     }
 
 -- of all tasks
-pub tasks_are : (run : RunView) (tasks : List Admitted) → put_all run.time tasks (map (λ t. told_by run.time run.happened run.switches t.number) tasks) (map (λ t. ran_by run.time run.switches t.number) tasks) ≡ map (figures_of run) tasks
+pub tasks_are : (run : RunView) (tasks : List Admitted) → put_all run.time tasks (map (λ t. logged_by run.time run.happened run.switches t.number) tasks) (map (λ t. ran_by run.time run.switches t.number) tasks) ≡ map (figures_of run) tasks
 tasks_are run [] = refl
 tasks_are run (task ∷ tasks) = λ i. task_is run task i ∷ tasks_are run tasks i
 
 -- one more
-pub one_more_put : (end : ℕ) (tasks : List Admitted) (told : List Told) (ran : List Ran) (i : ℕ) (task : Admitted) (t : Told) (r : Ran) → i < length tasks → i < length told → i < length ran → task ≡ get_or tasks i task → t ≡ get_or told i t → r ≡ get_or ran i r
-    → put_all end (take (i + 1) tasks) told ran ≡ put_all end (take i tasks) told ran ++ put_task end task t r ∷ []
-one_more_put end [] told ran i task t r a b c e f g = absurd (omega (arith, a))
+pub one_more_put : (end : ℕ) (tasks : List Admitted) (logged : List TaskTally) (ran : List Ran) (i : ℕ) (task : Admitted) (t : TaskTally) (r : Ran) → i < length tasks → i < length logged → i < length ran → task ≡ get_or tasks i task → t ≡ get_or logged i t → r ≡ get_or ran i r
+    → put_all end (take (i + 1) tasks) logged ran ≡ put_all end (take i tasks) logged ran ++ put_task end task t r ∷ []
+one_more_put end [] logged ran i task t r a b c e f g = absurd (omega (arith, a))
 one_more_put end (x ∷ xs) [] ran i task t r a b c e f g = absurd (omega (arith, b))
 one_more_put end (x ∷ xs) (y ∷ ys) [] i task t r a b c e f g = absurd (omega (arith, c))
 one_more_put end (x ∷ xs) (y ∷ ys) (z ∷ zs) zero task t r a b c e f g = λ i. put_task end (sym e i) (sym f i) (sym g i) ∷ []
@@ -81,17 +81,17 @@ one_more_put end (x ∷ xs) (y ∷ ys) (z ∷ zs) (suc i) task t r a b c e f g =
     rw e (ap (λ (fs : List TaskFigures). put_task end x y z ∷ fs) more)
 
 -- the same of what was read at a place
-pub put_more : (end : ℕ) (tasks : List Admitted) (told : List Told) (ran : List Ran) (i : ℕ) (d : Admitted) (e : Told) (f : Ran) (figures : TaskFigures) (before after : List TaskFigures) → i < length tasks → length told ≡ length tasks → length ran ≡ length tasks
-    → before ≡ put_all end (take i tasks) told ran → figures ≡ put_task end (get_or tasks i d) (get_or told i e) (get_or ran i f) → after ≡ before ++ figures ∷ [] → after ≡ put_all end (take (i + 1) tasks) told ran
-put_more end tasks told ran i d e f figures before after l a b put is more =
-    let t : i < length told = omega (arith, l, a) in
+pub put_more : (end : ℕ) (tasks : List Admitted) (logged : List TaskTally) (ran : List Ran) (i : ℕ) (d : Admitted) (e : TaskTally) (f : Ran) (figures : TaskFigures) (before after : List TaskFigures) → i < length tasks → length logged ≡ length tasks → length ran ≡ length tasks
+    → before ≡ put_all end (take i tasks) logged ran → figures ≡ put_task end (get_or tasks i d) (get_or logged i e) (get_or ran i f) → after ≡ before ++ figures ∷ [] → after ≡ put_all end (take (i + 1) tasks) logged ran
+put_more end tasks logged ran i d e f figures before after l a b put is more =
+    let t : i < length logged = omega (arith, l, a) in
     let r : i < length ran = omega (arith, l, b) in
     more ∙ (λ k. put k ++ is k ∷ [])
-    ∙ sym (one_more_put end tasks told ran i (get_or tasks i d) (get_or told i e) (get_or ran i f) l t r (get_or_default tasks i d (get_or tasks i d) l) (get_or_default told i e (get_or told i e) t) (get_or_default ran i f (get_or ran i f) r))
+    ∙ sym (one_more_put end tasks logged ran i (get_or tasks i d) (get_or logged i e) (get_or ran i f) l t r (get_or_default tasks i d (get_or tasks i d) l) (get_or_default logged i e (get_or logged i e) t) (get_or_default ran i f (get_or ran i f) r))
 
--- of what was told of all tasks
-pub all_tasks : (run : RunView) (told : List Told) (ran : List Ran) (figures : List TaskFigures) → told ≡ map (λ t. told_by run.time run.happened run.switches t.number) run.tasks → ran ≡ map (λ t. ran_by run.time run.switches t.number) run.tasks → figures ≡ put_all run.time run.tasks told ran → figures ≡ task_figures run
-all_tasks run told ran figures t r f = f ∙ (λ i. put_all run.time run.tasks (t i) (r i)) ∙ tasks_are run run.tasks
+-- of what was logged of all tasks
+pub all_tasks : (run : RunView) (logged : List TaskTally) (ran : List Ran) (figures : List TaskFigures) → logged ≡ map (λ t. logged_by run.time run.happened run.switches t.number) run.tasks → ran ≡ map (λ t. ran_by run.time run.switches t.number) run.tasks → figures ≡ put_all run.time run.tasks logged ran → figures ≡ task_figures run
+all_tasks run logged ran figures t r f = f ∙ (λ i. put_all run.time run.tasks (t i) (r i)) ∙ tasks_are run run.tasks
 
 -- of all CPUs
 pub all_cpus : (run : RunView) (cpus : List Cpu) (figures : List CpuFigures) → cpus ≡ map (cpu_by run.time run.switches) (range_with_len 0 run.cpus) → figures ≡ map put_cpu cpus → figures ≡ cpu_figures run

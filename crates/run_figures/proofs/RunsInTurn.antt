@@ -11,7 +11,7 @@ use Rattle.std.proofs.lemmas.List.Quantifiers.{all_pairs_push}
 use Rattle.attr_check.specs.ParamsView.{ParamsView}
 use Rattle.attr_check.specs.Ratio.{cap}
 use Rattle.cbs_rules.specs.Serving.{replenished}
-use Rattle.edf_pick.specs.Places.{Places, is_task, stands}
+use Rattle.edf_pick.specs.Places.{Places, is_task, is_on_cpu}
 use Rattle.task_script.specs.script.Segments.{next_segment}
 use Rattle.domain_run.specs.declared.task.Task.{Task}
 use Rattle.domain_run.specs.declared.task.Condition.{Condition}
@@ -28,7 +28,7 @@ use Rattle.domain_run.specs.Tick.{sum_of, prepared, with_tick_begun, rate_of, ra
 use Rattle.domain_run.specs.Calls.{admit_reply, new_task, with_number, with_task_listed, task_of, of_number, with_task_changed, with_new_params, wake_reply, blocked_until, leave_reply, ended_at, with_limit, depart_reply, is_other, after_departure, reply_to, is_refusal, after_granted, after_call}
 use Rattle.domain_run.specs.Run.{after_calls}
 use Rattle.domain_run.specs.Sound.{IsAdmitted}
-use Rattle.domain_run.specs.Happened.{happened_to, told_by_beginning, told_by_end, told_by_tick, told_by_ticks, told_by_cut, told_by_granted, told_by_call, told_by_calls}
+use Rattle.domain_run.specs.Happened.{happened_to, logged_by_beginning, logged_by_end, logged_by_tick, logged_by_ticks, logged_by_cut, logged_by_granted, logged_by_call, logged_by_calls}
 use Rattle.domain_run.proofs.CallerLemmas.{AreNumbered, with_number_contains}
 use Rattle.run_figures.specs.Jobs.{of_task}
 use Rattle.run_figures.specs.Throttling.{throttled_of}
@@ -51,7 +51,7 @@ number_homed : (places : Places) (t : Task) → (with_last_cpu places t).number 
 number_homed places t = homed_number (position (is_task t.number) places) t
 
 number_ran_if : (d : Domain) (t : Task) → (ran_if d t).number ≡ t.number
-number_ran_if d t = elim (stands t.number d.curr) as (λ b. (cond b (ran d.time (rate_of d t) t) t).number ≡ t.number) [ true ↦ number_ran d.time (rate_of d t) t | false ↦ refl ]
+number_ran_if d t = elim (is_on_cpu t.number d.curr) as (λ b. (cond b (ran d.time (rate_of d t) t) t).number ≡ t.number) [ true ↦ number_ran d.time (rate_of d t) t | false ↦ refl ]
 
 prepared_known : (used : List ℕ) (time : ℕ) (tasks : List Task) → All (λ t. IsAdmitted used t.number) tasks → All (λ t. IsAdmitted used t.number) (prepared time tasks)
 prepared_known used time tasks are =
@@ -213,7 +213,7 @@ over_begun n d over =
 -- it does not run
 over_ran : (n : ℕ) (d : Domain) (t : Task) → MayRun d t → is_live n t ≡ false → is_live n (ran_if d t) ≡ false
 over_ran n d t may over =
-    elim (stands t.number d.curr) as (λ b. stands t.number d.curr ≡ b → is_live n (cond b (ran d.time (rate_of d t) t) t) ≡ false) [
+    elim (is_on_cpu t.number d.curr) as (λ b. is_on_cpu t.number d.curr ≡ b → is_live n (cond b (ran d.time (rate_of d t) t) t) ≡ false) [
       | true ↦ λ is. over_by n t (ran d.time (rate_of d t) t) (number_ran d.time (rate_of d t) t) (λ l. absurd (no t.condition (may is) l)) over
       | false ↦ λ is. over
     ] refl
@@ -245,7 +245,7 @@ over_open n (t ∷ tasks) over =
     none true (Blocked u) e = absurd cc
     none true Waiting e = absurd cc
 
--- ---- WHERE A TASK STANDS: throttled as it was told last, or over
+-- ---- WHERE A TASK STANDS: throttled as it was logged last, or over
 
 abbrev IsAt : ℕ → Domain → Bool → Type 0
 IsAt n d b = (bit b ≡ sum_by (opened_by n) d.tasks) ⊎ IsOver n d
@@ -293,22 +293,22 @@ goes_more n b hs gs d e one more =
     let two = more one.after one.at in
     record { after = two.after; steps = steps_more n b one.after two.after hs gs one.steps two.steps; at = two.at }
 
-tick_goes : (n : ℕ) (b : Bool) (d : Domain) → HasNumbers d → IsAt n d b → GoesOn n b (told_by_tick d) (ticked d)
+tick_goes : (n : ℕ) (b : Bool) (d : Domain) → HasNumbers d → IsAt n d b → GoesOn n b (logged_by_tick d) (ticked d)
 tick_goes n b d has at =
     let m : Domain = with_tick_begun d in
     let numbered = begun_numbered d has.numbered in
     let may = begun_may_run d (prepared_numbered d.time d.tasks has.numbered) in
-    goes_more n b (told_by_beginning d) (told_by_end m) m (ticked d)
-    (part_goes n b d m (told_by_beginning d) numbered (beginning_even d) (beginning_few n d has.numbered) (λ is. record { admitted = is.admitted; over = over_begun n d is.over }) at)
-    (λ a then. part_goes n a m (ticked d) (told_by_end m) (has_ticked d has).numbered (end_even m may) (end_few n m numbered) (λ is. record { admitted = is.admitted; over = over_finished n m may is.over }) then)
+    goes_more n b (logged_by_beginning d) (logged_by_end m) m (ticked d)
+    (part_goes n b d m (logged_by_beginning d) numbered (beginning_even d) (beginning_few n d has.numbered) (λ is. record { admitted = is.admitted; over = over_begun n d is.over }) at)
+    (λ a then. part_goes n a m (ticked d) (logged_by_end m) (has_ticked d has).numbered (end_even m may) (end_few n m numbered) (λ is. record { admitted = is.admitted; over = over_finished n m may is.over }) then)
 
-ticks_go : (k n : ℕ) (b : Bool) (d : Domain) → HasNumbers d → IsAt n d b → GoesOn n b (told_by_ticks k d) (ticks k d)
+ticks_go : (k n : ℕ) (b : Bool) (d : Domain) → HasNumbers d → IsAt n d b → GoesOn n b (logged_by_ticks k d) (ticks k d)
 ticks_go zero n b d has at = goes_nowhere n b d at
 ticks_go (suc k) n b d has at =
     let e : Domain = ticks k d in
-    goes_more n b (told_by_ticks k d) (told_by_tick e) e (ticked e) (ticks_go k n b d has at) (λ a then. tick_goes n a e (has_ticks k d has) then)
+    goes_more n b (logged_by_ticks k d) (logged_by_tick e) e (ticked e) (ticks_go k n b d has at) (λ a then. tick_goes n a e (has_ticks k d has) then)
 
--- ---- CALLS that tell nothing
+-- ---- CALLS that log nothing
 
 -- what keeps the throttles of a number, and what is over
 quiet : (n : ℕ) (b : Bool) (d e : Domain) → sum_by (opened_by n) e.tasks ≡ sum_by (opened_by n) d.tasks → (IsOver n d → IsOver n e) → IsAt n d b → IsAt n e b
@@ -456,18 +456,18 @@ wake_at n b d number has after_granted at =
 
 -- ---- LEAVE AND DEPART: its job is cut, and it is over
 
-cut_none : (n : ℕ) (d : Domain) (number : ℕ) (f : Happened → ℕ) → ((t : Task) → f (happened_to d.time t Cut) ≡ 0) → sum_by f (told_by_cut d number) ≡ 0
+cut_none : (n : ℕ) (d : Domain) (number : ℕ) (f : Happened → ℕ) → ((t : Task) → f (happened_to d.time t Cut) ≡ 0) → sum_by f (logged_by_cut d number) ≡ 0
 cut_none n d number f none = all (filter (λ t. eqb t.number number) d.tasks)
   where
     all : (tasks : List Task) → sum_by f (map (λ t. happened_to d.time t Cut) tasks) ≡ 0
     all [] = refl
     all (t ∷ tasks) = omega (arith, sum_by-cons f (happened_to d.time t Cut) (map (λ t. happened_to d.time t Cut) tasks), none t, all tasks)
 
-cut_steps : (n : ℕ) (b : Bool) (d : Domain) (number : ℕ) → StepsOf n b (told_by_cut d number) b
+cut_steps : (n : ℕ) (b : Bool) (d : Domain) (number : ℕ) → StepsOf n b (logged_by_cut d number) b
 cut_steps n b d number =
     let t = cut_none n d number (throttled_by n) (λ u. closed n u.number) in
     let r = cut_none n d number (replenished_by n) (λ u. closed n u.number) in
-    steps_by n b b (told_by_cut d number) (omega (arith, t, r)) (omega (arith, t, r))
+    steps_by n b b (logged_by_cut d number) (omega (arith, t, r)) (omega (arith, t, r))
 
 leave_found : (o : Option Task) → is_refusal (leave_reply o) ≡ false → (t : Task) × (o ≡ Some t)
 leave_found None e = absurd cc
@@ -498,7 +498,7 @@ ended_over time number t =
     none true = refl
     none false = refl
 
-leave_goes : (n : ℕ) (b : Bool) (d : Domain) (number : ℕ) → HasNumbers d → is_refusal (leave_reply (task_of d number)) ≡ false → IsAt n d b → GoesOn n b (told_by_cut d number) (with_task_changed d number (ended_at d.time))
+leave_goes : (n : ℕ) (b : Bool) (d : Domain) (number : ℕ) → HasNumbers d → is_refusal (leave_reply (task_of d number)) ≡ false → IsAt n d b → GoesOn n b (logged_by_cut d number) (with_task_changed d number (ended_at d.time))
 leave_goes n b d number has after_granted at = record { after = b; steps = cut_steps n b d number; at = then }
   where
     differ : false ≡ true → ⊥
@@ -537,7 +537,7 @@ departed_over number (t ∷ tasks) =
       | false ↦ λ e. All-cons (λ (u : Task). is_live number u ≡ false) t (filter (is_other number) tasks) (ap (λ x. x && not (is_leaving t.condition)) e) (departed_over number tasks)
     ] refl
 
-depart_goes : (n : ℕ) (b : Bool) (d : Domain) (number : ℕ) → HasNumbers d → is_refusal (depart_reply (task_of d number)) ≡ false → IsAt n d b → GoesOn n b (told_by_cut d number) (after_departure d number)
+depart_goes : (n : ℕ) (b : Bool) (d : Domain) (number : ℕ) → HasNumbers d → is_refusal (depart_reply (task_of d number)) ≡ false → IsAt n d b → GoesOn n b (logged_by_cut d number) (after_departure d number)
 depart_goes n b d number has after_granted at = record { after = b; steps = cut_steps n b d number; at = then }
   where
     differ : false ≡ true → ⊥
@@ -560,7 +560,7 @@ depart_goes n b d number has after_granted at = record { after = b; steps = cut_
 silent : (n : ℕ) (b : Bool) (e : Domain) → IsAt n e b → GoesOn n b [] e
 silent n b e at = goes_nowhere n b e at
 
-granted_goes : (n : ℕ) (b : Bool) (d : Domain) (c : Call) → HasNumbers d → is_refusal (reply_to d c) ≡ false → IsAt n d b → GoesOn n b (told_by_granted d c) (after_granted d c)
+granted_goes : (n : ℕ) (b : Bool) (d : Domain) (c : Call) → HasNumbers d → is_refusal (reply_to d c) ≡ false → IsAt n d b → GoesOn n b (logged_by_granted d c) (after_granted d c)
 granted_goes n b d (Admit number name params delay script) has is at = let t : Task = new_task d number name params delay script in silent n b (with_task_listed d t) (listed_at n b d t refl (fresh d number params is) at)
 granted_goes n b d (Regrade number params word) has is at = silent n b (with_task_changed d number (with_new_params params)) (regraded_at n b d number params at)
 granted_goes n b d (Wake number) has is at = silent n b (with_task_changed d number (blocked_until d.time)) (wake_at n b d number has is at)
@@ -574,24 +574,24 @@ either_goes : (n : ℕ) (b refused : Bool) (d e : Domain) (hs : List Happened) �
 either_goes n b true d e hs at more = goes_nowhere n b d at
 either_goes n b false d e hs at more = more refl
 
-call_goes : (n : ℕ) (b : Bool) (d : Domain) (c : Call) → HasNumbers d → IsAt n d b → GoesOn n b (told_by_call d c) (after_call d c)
-call_goes n b d c has at = either_goes n b (is_refusal (reply_to d c)) d (after_granted d c) (told_by_granted d c) at (λ is. granted_goes n b d c has is at)
+call_goes : (n : ℕ) (b : Bool) (d : Domain) (c : Call) → HasNumbers d → IsAt n d b → GoesOn n b (logged_by_call d c) (after_call d c)
+call_goes n b d c has at = either_goes n b (is_refusal (reply_to d c)) d (after_granted d c) (logged_by_granted d c) at (λ is. granted_goes n b d c has is at)
 
-calls_go : (n : ℕ) (b : Bool) (d : Domain) (calls : List Call) → HasNumbers d → IsAt n d b → GoesOn n b (told_by_calls d calls) (after_calls d calls)
+calls_go : (n : ℕ) (b : Bool) (d : Domain) (calls : List Call) → HasNumbers d → IsAt n d b → GoesOn n b (logged_by_calls d calls) (after_calls d calls)
 calls_go n b d [] has at = goes_nowhere n b d at
 calls_go n b d (c ∷ calls) has at =
     let e : Domain = after_call d c in
-    goes_more n b (told_by_call d c) (told_by_calls e calls) e (after_calls e calls) (call_goes n b d c has at) (λ a then. calls_go n a e calls (has_call d c has) then)
+    goes_more n b (logged_by_call d c) (logged_by_calls e calls) e (after_calls e calls) (call_goes n b d c has at) (λ a then. calls_go n a e calls (has_call d c has) then)
 
 has_opened : (cpus limit : ℕ) → HasNumbers (empty_domain cpus limit)
 has_opened cpus limit = record { numbered = λ i j d less within. absurd (omega (arith, within)); known = All-nil (λ (t : Task). IsAdmitted [] t.number) }
 
 -- of a whole run, each task's throttles and replenishments come in turn
-pub run_turns : (cpus limit : ℕ) (calls : List Call) (n : ℕ) → come_in_turn false (of_task n (told_by_calls (empty_domain cpus limit) calls)) ≡ true
+pub run_turns : (cpus limit : ℕ) (calls : List Call) (n : ℕ) → come_in_turn false (of_task n (logged_by_calls (empty_domain cpus limit) calls)) ≡ true
 run_turns cpus limit calls n = (calls_go n false (empty_domain cpus limit) calls (has_opened cpus limit) (inl refl)).steps.0
 
 -- so there are as many, or one throttle more
-pub run_counted : (cpus limit : ℕ) (calls : List Call) (n : ℕ) → let own = of_task n (told_by_calls (empty_domain cpus limit) calls) in throttled_of own ≡ replenished_of own + bit (is_left_throttled false own)
+pub run_counted : (cpus limit : ℕ) (calls : List Call) (n : ℕ) → let own = of_task n (logged_by_calls (empty_domain cpus limit) calls) in throttled_of own ≡ replenished_of own + bit (is_left_throttled false own)
 run_counted cpus limit calls n =
-    let own = of_task n (told_by_calls (empty_domain cpus limit) calls) in
+    let own = of_task n (logged_by_calls (empty_domain cpus limit) calls) in
     omega (arith, turns_counted own false (run_turns cpus limit calls n))

@@ -8,7 +8,7 @@ use Rattle.domain_run.specs.Switch.{Switch}
 use Rattle.run_figures.specs.Stays.{Stay, until, stays_by, stays}
 use Rattle.run_figures.specs.Places.{IsAbsent}
 use Rattle.run_figures.proofs.Turning.{rest_apart, others_absent, rest_absent}
-use Rattle.run_figures.proofs.Behind.{us_in, us_in-cons}
+use Rattle.run_figures.proofs.After.{us_in, us_in-cons}
 
 -- a number stands somewhere
 abbrev pub IsAmong : List ℕ → ℕ → Type 0

@@ -1,4 +1,4 @@
--- Counts stay within the number of entries that were told.
+-- Counts stay within the number of entries that were logged.
 use Rattle.std.proofs.Common.{ℕ, pos, ◌-ℤ◌, ◌+◌, ◌-◌, ◌*◌, ◌≤◌, ◌<◌, ◌^◌, Bool, true, false, cond, Option, Some, None, refl, sym, arith, subst}
 use Rattle.std.specs.Prelude.{IfSome, fold}
 use Rattle.domain_run.specs.declared.happened.What.{What}
@@ -8,10 +8,10 @@ use Rattle.run_figures.specs.declared.job.Job.{Job}
 use Rattle.run_figures.specs.declared.counting.Ended.{Ended}
 use Rattle.run_figures.specs.declared.counting.Counts.{Counts}
 use Rattle.run_figures.specs.declared.throttle.Throttle.{Throttle}
-use Rattle.run_figures.specs.declared.told.Told.{Told}
+use Rattle.run_figures.specs.declared.logged.TaskTally.{TaskTally}
 use Rattle.run_figures.specs.Jobs.{over_by, job_after}
 use Rattle.run_figures.specs.Figures.{Outcome, outcome_at, is_late}
-use Rattle.run_figures.specs.private.Telling.{IsJobUnderWay, IsWithinEnded, IsToldWithin, with_outcome, with_over, is_superseded, superseded_by, gap, throttle_by, told_after}
+use Rattle.run_figures.specs.private.Logging.{IsJobUnderWay, IsWithinEnded, IsLoggedWithin, with_outcome, with_over, is_superseded, superseded_by, gap, throttle_by, logged_after}
 
 way_more : (n m : ℕ) (o : Option Job) → n ≤ m → IfSome o (IsJobUnderWay n) → IfSome o (IsJobUnderWay m)
 way_more n m None l h = tt
@@ -86,8 +86,8 @@ superseded_few None = omega arith
 superseded_few (Some j) = elim (is_superseded j) as (λ b. cond b 1 0 ≤ 1) [ true ↦ omega arith | false ↦ omega arith ]
 
 -- one entry more
-pub told_within : (n end : ℕ) (h : Happened) (t : Told) → h.time < 2 ^ 64 → IsToldWithin n t → IsToldWithin (n + 1) (told_after end h t)
-told_within n end h t small w = record {
+pub logged_within : (n end : ℕ) (h : Happened) (t : TaskTally) → h.time < 2 ^ 64 → IsLoggedWithin n t → IsLoggedWithin (n + 1) (logged_after end h t)
+logged_within n end h t small w = record {
   job = job_within n h.time h.what t.job w.job;
   ended = over_within n end h.time h.what t.job t.counts small w.job w.ended;
   late = late_within n end t.counts (over_by h.time h.what t.job) w.late;
@@ -96,7 +96,7 @@ told_within n end h t small w = record {
   superseded = omega (arith, w.superseded, superseded_few (over_by h.time h.what t.job));
 }
 
-pub within_more : (n m : ℕ) (t : Told) → n ≤ m → IsToldWithin n t → IsToldWithin m t
+pub within_more : (n m : ℕ) (t : TaskTally) → n ≤ m → IsLoggedWithin n t → IsLoggedWithin m t
 within_more n m t l w = record {
   job = way_more n m t.job l w.job;
   ended = ended_more n m t.counts.ended l w.ended;

@@ -29,12 +29,12 @@ open_of number tasks = count_by (λ t. t.number == number && is_throttled t.cond
 -- FROM TASKS TO WHAT TIME MAKES OF THEM: each is throttled as often as it is replenished, but for
 -- a throttle that is open before, or after
 abbrev pub AreBalanced : List Task → List Happened → List Task → Type 0
-AreBalanced before told after = (number : ℕ)
-    → open_of number before + throttled_of (of_task number told)
-    ≡ replenished_of (of_task number told) + open_of number after
+AreBalanced before logged after = (number : ℕ)
+    → open_of number before + throttled_of (of_task number logged)
+    ≡ replenished_of (of_task number logged) + open_of number after
 
--- IN TURN: behind each throttle of a task comes a replenishment before the next throttle, and
--- behind each replenishment a throttle before the next one
+-- IN TURN: after each throttle of a task comes a replenishment before the next throttle, and after
+-- each replenishment a throttle before the next one
 abbrev pub come_in_turn : Bool → List Happened → Bool
 come_in_turn throttled [] = true
 come_in_turn throttled (h ∷ hs) =

@@ -1,4 +1,4 @@
--- Worked rows: what is told of a run.
+-- Worked rows: what is logged of a run.
 use Rattle.std.specs.Prelude.{ℕ, ◌≡◌, true, false, negsuc, pos, List, [], ◌∷◌, ◌++◌, Option, Some, None, refl}
 use Rattle.domain_run.specs.declared.happened.What.{What}
 use Rattle.domain_run.specs.declared.happened.What.TheVariants.{JobEnds, NextReleased, Spent, Cut, Replenished, Released, WokenSpent}
@@ -12,7 +12,7 @@ use Rattle.run_figures.specs.Runs.{RunView}
 use Rattle.run_figures.specs.Jobs.{jobs_of}
 use Rattle.run_figures.specs.Throttling.{throttled_us, preemptions}
 use Rattle.run_figures.specs.Stays.{cpu_us, busy_us, migrations}
-use Rattle.run_figures.specs.Again.{more_told, more_switches}
+use Rattle.run_figures.specs.Again.{more_logged, more_switches}
 use Rattle.run_figures.specs.Figures.{figures_of, cpu_of, is_late, outcomes, responses_of}
 
 -- to a task at a time
@@ -33,7 +33,7 @@ job release deadline ended throttled =
       cut = false;
     }
 
--- THROTTLED INSIDE A JOB: 2 us in each 5, and 4 us of work. Its end is 2 us behind its deadline
+-- THROTTLED INSIDE A JOB: 2 us in each 5, and 4 us of work. Its end is 2 us after its deadline
 abbrev task : Admitted
 task = record { number = 1; runtime = 2; period = 5 }
 
@@ -68,20 +68,20 @@ its_figures = refl
 its_cpu : cpu_of throttled 0 ≡ record { busy_us = 4; switches = 4 }
 its_cpu = refl
 
--- A PERIOD HEARD AGAIN, twice: the run above, each time 11 us later. Counts and times are three
+-- A PERIOD Streamed AGAIN, twice: the run above, each time 11 us later. Counts and times are three
 -- times as much; the least, the mean and the greatest are the same
-released_again : more_told 11 2 (at 0 1 (Released 5) ∷ at 7 1 JobEnds ∷ [])
+released_again : more_logged 11 2 (at 0 1 (Released 5) ∷ at 7 1 JobEnds ∷ [])
     ≡ at 11 1 (Released 16) ∷ at 18 1 JobEnds ∷ at 22 1 (Released 27) ∷ at 29 1 JobEnds ∷ []
 released_again = refl
 
-abbrev heard_again : RunView
-heard_again = record throttled {
+abbrev streamed_again : RunView
+streamed_again = record throttled {
   time = 33;
-  happened = throttled.happened ++ more_told 11 2 throttled.happened;
+  happened = throttled.happened ++ more_logged 11 2 throttled.happened;
   switches = throttled.switches ++ more_switches 11 2 throttled.switches;
 }
 
-its_figures_again : figures_of heard_again task ≡ record {
+its_figures_again : figures_of streamed_again task ≡ record {
   number = 1;
   runtime = 2;
   period = 5;
@@ -96,7 +96,7 @@ its_figures_again : figures_of heard_again task ≡ record {
 }
 its_figures_again = refl
 
-its_cpu_again : cpu_of heard_again 0 ≡ record { busy_us = 12; switches = 12 }
+its_cpu_again : cpu_of streamed_again 0 ≡ record { busy_us = 12; switches = 12 }
 its_cpu_again = refl
 
 -- THE MEAN IS ROUNDED DOWN: responses of 1 and 2; the slack is from the deadline

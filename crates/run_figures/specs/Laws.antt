@@ -6,7 +6,7 @@ use Rattle.domain_run.specs.declared.happened.Happened.{Happened}
 use Rattle.domain_run.specs.Switch.{Switch}
 use Rattle.domain_run.specs.declared.call.Call.{Call}
 use Rattle.domain_run.specs.Domain.{empty_domain}
-use Rattle.domain_run.specs.Happened.{told_by_calls}
+use Rattle.domain_run.specs.Happened.{logged_by_calls}
 use Rattle.run_figures.specs.declared.run.Admitted.{Admitted}
 use Rattle.run_figures.specs.declared.figures.TaskFigures.{TaskFigures}
 use Rattle.run_figures.specs.declared.figures.CpuFigures.{CpuFigures}
@@ -51,10 +51,10 @@ pub record AreReleased (happened : List Happened) (t : TaskJobsView) : Type 0 wh
   pub ended : count_by (λ j. is_some j.ended) t.jobs ≤ count_by (λ h. ends h.what)
       (of_task t.number happened)
 
--- what a domain tells of some calls, from its opening on
-abbrev pub IsToldOfCalls : List Happened → Type 0
-IsToldOfCalls happened = (cpus : ℕ) × (limit : ℕ) × (calls : List Call)
-    × (happened ≡ told_by_calls (empty_domain cpus limit) calls)
+-- what a domain logs of some calls, from its opening on
+abbrev pub IsLoggedOfCalls : List Happened → Type 0
+IsLoggedOfCalls happened = (cpus : ℕ) × (limit : ℕ) × (calls : List Call)
+    × (happened ≡ logged_by_calls (empty_domain cpus limit) calls)
 
 -- a task is throttled as often as it is replenished, or once more: it is throttled at the end, or
 -- was cut while it was

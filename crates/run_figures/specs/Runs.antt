@@ -5,6 +5,7 @@ use Rattle.domain_run.specs.Switch.{Switch}
 use Rattle.domain_run.specs.Switches.{is_switch_before}
 use Rattle.run_figures.specs.declared.run.Admitted.{Admitted}
 use Rattle.run_figures.specs.declared.run.Run.{Run}
+use Rattle.limits.specs.Limits.{clock_end, task_number_end}
 
 -- how many CPUs the domain has, the time at the end, in microseconds; the tasks that were ever
 -- admitted, what happened to them, and the switches of the CPUs, both in their order
@@ -26,13 +27,13 @@ run_view_of r = record {
 
 -- a number of a task: 1 to 65535, of no other task
 pub record AreTasks (tasks : List Admitted) : Type 0 where
-  pub small : All (λ t. t.number < 65536) tasks
+  pub small : All (λ t. t.number < task_number_end) tasks
   pub apart : AllPairs (λ a b. a.number ≢ b.number) tasks
 
 -- what every domain keeps: at most 2^42 us (own), the switches in their order, within that time and
 -- on the domain's CPUs
 pub record IsBoundedRun (r : RunView) : Type 0 where
-  pub early : r.time ≤ 2 ^ 42
+  pub early : r.time ≤ clock_end
   pub cpus : r.cpus ≤ 64
   pub tasks : AreTasks r.tasks
   pub past : All (λ s. s.time ≤ r.time) r.switches

@@ -1,5 +1,5 @@
 pub mod LineView
-pub mod Telling
+pub mod Logging
 pub mod Running
 pub mod Lines
 pub mod Putting

@@ -2,7 +2,7 @@
 
 ghost use Rattle.std.specs.Prelude.{◌≡◌, ◌-◌, ◌≤◌, ◌^◌, IfSome};
 ghost use Rattle.run_figures.specs.Figures as figures;
-ghost use Rattle.run_figures.specs.private.Telling as telling;
+ghost use Rattle.run_figures.specs.private.Logging as logging;
 
 use crate::job::Job;
 
@@ -29,9 +29,9 @@ pub(crate) struct Counts {
 
 /// One more that ended.
 fn add_outcome(ended: &mut Option<Ended>, response: u64, slack: i128)
-    requires room { IfSome ended.old (telling.IsWithinEnded (2 ^ 64 - 2)) }
+    requires room { IfSome ended.old (logging.IsWithinEnded (2 ^ 64 - 2)) }
     ensures { ended.new
-        ≡ telling.with_outcome ended.old (record { response = response; slack = slack }) }
+        ≡ logging.with_outcome ended.old (record { response = response; slack = slack }) }
 {
     match ended {
         None => {
@@ -65,8 +65,8 @@ fn is_late(job: &Job, time: u64) -> bool
 
 /// The end of a job, where it ended.
 fn add_end(ended: &mut Option<Ended>, job: &Job)
-    requires room { IfSome ended.old (telling.IsWithinEnded (2 ^ 64 - 2)) }
-    ensures { ended.new ≡ telling.with_end ended.old job.now }
+    requires room { IfSome ended.old (logging.IsWithinEnded (2 ^ 64 - 2)) }
+    ensures { ended.new ≡ logging.with_end ended.old job.now }
 {
     if let Some(end) = job.ended {
         add_outcome(
@@ -79,9 +79,9 @@ fn add_end(ended: &mut Option<Ended>, job: &Job)
 
 /// One more job, where the run ends at this time.
 pub(crate) fn add_job(counts: &mut Counts, job: &Job, time: u64)
-    requires room { IfSome counts.old.ended (telling.IsWithinEnded (2 ^ 64 - 2)) }
+    requires room { IfSome counts.old.ended (logging.IsWithinEnded (2 ^ 64 - 2)) }
     requires late { counts.old.late ≤ 2 ^ 64 - 2 }
-    ensures { counts.new ≡ telling.with_job time counts.old job.now }
+    ensures { counts.new ≡ logging.with_job time counts.old job.now }
 {
     add_end(&mut counts.ended, job);
     if is_late(job, time) {

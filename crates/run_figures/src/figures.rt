@@ -1,4 +1,4 @@
-//! What is told of a run.
+//! What is logged of a run.
 
 /// Of the jobs of a task that ended: how long they took from release to end, in microseconds, and
 /// how far the end was before the deadline.
@@ -25,7 +25,7 @@ pub struct TaskFigures {
     pub period: u64,
     /// How many jobs ended.
     pub jobs: u64,
-    /// How many ended after their deadline, or were under way behind it at the end of the run.
+    /// How many ended after their deadline, or were under way after it at the end of the run.
     pub late: u64,
     /// Of the jobs that ended; none where none did.
     pub responses: Option<Responses>,

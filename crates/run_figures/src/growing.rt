@@ -9,10 +9,10 @@ mod rows;
 
 use crate::counting::Ended;
 use crate::job::Job;
+use crate::logged::TaskTally;
 use crate::ran::{Cpu, Ran};
-use crate::told::Told;
 pub(crate) use rows::{
-    all_cpus_back, all_ran_back, all_told_back, grow_all_cpus, grow_all_ran, grow_all_told,
+    all_cpus_back, all_logged_back, all_ran_back, grow_all_cpus, grow_all_logged, grow_all_ran,
 };
 
 /// Whether a time is `micros` later than another.
@@ -57,8 +57,8 @@ fn is_job_back(micros: u64, before: &Option<Job>, now: &Option<Job>) -> bool
 
 /// Whether a task is what it was `micros` microseconds before, in all but its counts, and no job
 /// of it was superseded since.
-fn is_told_back(micros: u64, before: &Told, now: &Told) -> bool
-    ensures { IsTrue result → growing.IsToldBack micros before.now now.now }
+fn is_logged_back(micros: u64, before: &TaskTally, now: &TaskTally) -> bool
+    ensures { IsTrue result → growing.IsLoggedBack micros before.now now.now }
 {
     is_job_back(micros, &before.job, &now.job)
         && is_since_back(micros, before.throttle.since, now.throttle.since)
@@ -94,10 +94,10 @@ fn is_job_soon(shift: u64, job: &Option<Job>) -> bool
 }
 
 /// Whether the times of a task have room for `shift` microseconds more.
-fn is_told_soon(shift: u64, told: &Told) -> bool
-    ensures { IsTrue result → growing.IsToldSoon shift told.now }
+fn is_logged_soon(shift: u64, logged: &TaskTally) -> bool
+    ensures { IsTrue result → growing.IsLoggedSoon shift logged.now }
 {
-    is_job_soon(shift, &told.job) && is_since_soon(shift, told.throttle.since)
+    is_job_soon(shift, &logged.job) && is_since_soon(shift, logged.throttle.since)
 }
 
 /// A count after `periods` periods more.
@@ -185,19 +185,19 @@ fn delay_job(shift: u64, job: Option<Job>) -> Option<Job>
 }
 
 /// A task after `periods` periods more, which are `shift` microseconds.
-fn grow_told(told: &mut Told, before: &Told, periods: u64, shift: u64)
-    requires soon { growing.IsToldSoon shift told.old }
-    requires counted { growing.IsToldCounted
-        (growing.grown_told shift periods before.now told.old) }
-    ensures { told.new ≡ growing.grown_told shift periods before.now told.old }
+fn grow_logged(logged: &mut TaskTally, before: &TaskTally, periods: u64, shift: u64)
+    requires soon { growing.IsLoggedSoon shift logged.old }
+    requires counted { growing.IsLoggedCounted
+        (growing.grown_logged shift periods before.now logged.old) }
+    ensures { logged.new ≡ growing.grown_logged shift periods before.now logged.old }
 {
-    told.job = delay_job(shift, told.job);
-    grow_ended(periods, &before.counts.ended, &mut told.counts.ended);
-    told.counts.late = grown_count(periods, before.counts.late, told.counts.late);
-    told.throttle.times = grown_count(periods, before.throttle.times, told.throttle.times);
-    told.throttle.us = grown_wide(periods, before.throttle.us, told.throttle.us);
-    told.throttle.since = delay_since(shift, told.throttle.since);
-    told.preempted = grown_count(periods, before.preempted, told.preempted);
+    logged.job = delay_job(shift, logged.job);
+    grow_ended(periods, &before.counts.ended, &mut logged.counts.ended);
+    logged.counts.late = grown_count(periods, before.counts.late, logged.counts.late);
+    logged.throttle.times = grown_count(periods, before.throttle.times, logged.throttle.times);
+    logged.throttle.us = grown_wide(periods, before.throttle.us, logged.throttle.us);
+    logged.throttle.since = delay_since(shift, logged.throttle.since);
+    logged.preempted = grown_count(periods, before.preempted, logged.preempted);
 }
 
 fn grow_ran(ran: &mut Ran, before: &Ran, periods: u64)

@@ -44,7 +44,7 @@ fn push_over(over: &mut KeptJobs, job: Option<Job>) -> Result<(), NoMemory>
 }
 
 /// What an entry of the task makes of its jobs.
-fn tell_line(line: &mut Line, happened: &Happened) -> Result<(), NoMemory>
+fn log_line(line: &mut Line, happened: &Happened) -> Result<(), NoMemory>
     requires room { lines.IsLineWithin (2 ^ 64 - 2) line.old }
     ensures { OnOk result (line.new ≡ lines.line_after happened.now line.old) }
 {
@@ -53,7 +53,7 @@ fn tell_line(line: &mut Line, happened: &Happened) -> Result<(), NoMemory>
     Ok(())
 }
 
-fn tell(table: &mut Vec<Line>, places: &Places, happened: &Happened) -> Result<(), NoMemory>
+fn say(table: &mut Vec<Line>, places: &Places, happened: &Happened) -> Result<(), NoMemory>
     requires keyed { map (λ l. l.number) table.old.items ≡ places.now }
     requires room { All (lines.IsLineWithin (2 ^ 64 - 2)) table.old.items }
     ensures { OnOk result (table.new.items
@@ -61,12 +61,12 @@ fn tell(table: &mut Vec<Line>, places: &Places, happened: &Happened) -> Result<(
 {
     match places.find(happened.number) {
         None => Ok(()),
-        Some(place) => tell_line(&mut table[place], happened),
+        Some(place) => log_line(&mut table[place], happened),
     }
 }
 
 /// What happened next makes of the jobs of the tasks.
-pub(crate) fn tell_lines(
+pub(crate) fn log_lines(
     table: &mut Vec<Line>,
     places: &Places,
     happened: &[Happened],
@@ -76,12 +76,12 @@ pub(crate) fn tell_lines(
     ensures { OnOk result (table.new.items ≡ map (lines.line_all happened.now) table.old.items) }
 {
     for entry in happened {
-        tell(table, places, entry)?;
+        say(table, places, entry)?;
     }
     Ok(())
 }
 
-/// A task of which nothing was told.
+/// A task of which nothing was logged.
 fn no_line(alloc: Global, number: u32) -> Line
     ensures { result ≡ lines.no_line number }
 {
@@ -91,7 +91,7 @@ fn no_line(alloc: Global, number: u32) -> Line
     }
 }
 
-/// Tasks of which nothing was told.
+/// Tasks of which nothing was logged.
 pub(crate) fn no_lines(alloc: Global, tasks: &[Admitted]) -> Result<Vec<Line>, NoMemory>
     ensures { IfOk result (λ v. v.items ≡ map (λ t. lines.no_line t.number) tasks.now) }
 {
@@ -150,6 +150,6 @@ pub fn jobs_of(alloc: Global, run: &Run<'_>) -> Result<Vec<KeptJobs>, NoMemory>
 {
     let places = Places::of(alloc, run.tasks)?;
     let mut table = no_lines(alloc, run.tasks)?;
-    tell_lines(&mut table, &places, run.happened)?;
+    log_lines(&mut table, &places, run.happened)?;
     closed_lines(alloc, run.tasks, &places, &mut table)
 }

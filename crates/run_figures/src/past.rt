@@ -35,8 +35,8 @@ struct WithAgain<T> {
     periods: u64,
 }
 
-/// A list in proofs alone: contracts see all that it was told, and memory has its length alone. No
-/// call takes memory.
+/// A list in proofs alone: contracts see all that it has logged, and memory has its length alone.
+/// No call takes memory.
 #[derive(Drop)]
 pub(crate) struct Past<T> {
     items: Items<T>,
@@ -45,7 +45,7 @@ pub(crate) struct Past<T> {
 }
 
 impl<T: Drop> Past<T> {
-    /// A list that was told nothing yet.
+    /// A list that has nothing yet.
     pub(crate) fn new() -> Past<T>
         ensures none { (later : ℕ → T → T) → items_of later result.items ≡ [] }
         ensures count { result.count ≡ 0 }
@@ -56,7 +56,7 @@ impl<T: Drop> Past<T> {
         }
     }
 
-    /// It is told one more.
+    /// It is logged one more.
     fn push(&mut self, one: &T)
         ensures more { (later : ℕ → T → T)
             → items_of later self.new.items ≡ items_of later self.old.items ++ one.now ∷ [] }
@@ -70,7 +70,7 @@ impl<T: Drop> Past<T> {
         self.items = Items::One(Snapshot::of(&item));
     }
 
-    /// It is told all of these, in this order.
+    /// It logs all of these, in this order.
     pub(crate) fn extend(&mut self, many: &[T])
         requires room { self.old.count + length many.now < 2 ^ 64 }
         ensures more { (later : ℕ → T → T)
@@ -83,7 +83,7 @@ impl<T: Drop> Past<T> {
         }
     }
 
-    /// It is told again, `periods` times, what it was told from a place on: each time `micros`
+    /// It is logged again, `periods` times, what it has logged from a place on: each time `micros`
     /// later than the time before.
     pub(crate) fn give_again(&mut self, from: u64, micros: u64, periods: u64)
         requires room { self.old.count + periods * (self.old.count - from) < 2 ^ 64 }

@@ -3,6 +3,7 @@
 ghost use Rattle.std.specs.Prelude.{◌≡◌, ◌≢◌, ◌<◌, IfOk, IfSome, IfNone, All, AllPairs, length, map};
 ghost use Rattle.run_figures.specs.Places as places;
 ghost use Rattle.run_figures.specs.Runs.{AreTasks};
+ghost use Rattle.limits.specs.Limits.{task_number_end};
 
 use crate::run::Admitted;
 use domain_run::NoMemory;
@@ -40,7 +41,7 @@ fn numbers_of(alloc: Global, tasks: &[Admitted]) -> Result<Vec<u32>, NoMemory>
 
 /// The index of numbers below 65536.
 fn index_of(alloc: Global, numbers: &[u32]) -> Result<Vec<usize>, NoMemory>
-    requires small { All (λ n. n < 65536) numbers.now }
+    requires small { All (λ n. n < task_number_end) numbers.now }
     ensures { IfOk result (λ v. places.IsIndex numbers.now (length numbers.now) v.items) }
 {
     let mut codes = Vec::new(alloc);

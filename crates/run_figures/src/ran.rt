@@ -1,5 +1,5 @@
-//! The time on CPUs, told from the first switch to the last. Who has a CPU is told as if it kept it
-//! to the end of the run; the rest is taken back at the switch by which it leaves.
+//! The time on CPUs, logged from the first switch to the last. Who has a CPU is logged as if it
+//! kept it to the end of the run; the rest is taken back at the switch by which it leaves.
 
 ghost use Rattle.std.specs.Prelude.{◌≡◌, ◌-◌, ◌*◌, ◌<◌, ◌≤◌, ◌^◌, IfOk, All, map, length, slice_index_or, vec_capacity};
 ghost use Rattle.std.specs.List.{range_with_len};
@@ -10,7 +10,7 @@ use crate::run::Admitted;
 use domain_run::{NoMemory, Switch};
 use std::alloc::Global;
 
-/// What is told of a task up to a switch.
+/// What is logged of a task up to a switch.
 #[derive(Clone, Copy)]
 pub(crate) struct Ran {
     /// The task's number.
@@ -23,7 +23,7 @@ pub(crate) struct Ran {
     pub(crate) last: Option<u16>,
 }
 
-/// What is told of a CPU up to a switch.
+/// What is logged of a CPU up to a switch.
 #[derive(Clone, Copy)]
 pub(crate) struct Cpu {
     pub(crate) cpu: u16,
@@ -84,7 +84,7 @@ fn add_switch(cpu: &mut Cpu, switch: &Switch, us: u64)
     cpu.task = switch.next();
 }
 
-/// With a stay of the task that comes by a switch behind.
+/// With a stay of the task that comes by a switch after.
 fn put_stay(table: &mut Vec<Ran>, places: &Places, switch: &Switch, us: u64)
     requires keyed { map (λ r. r.number) table.old.items ≡ places.now }
     requires time { All (λ r. r.cpu_us ≤ (2 ^ 64 - 2) * 2 ^ 64) table.old.items }
@@ -115,7 +115,7 @@ fn take_rest(table: &mut Vec<Ran>, places: &Places, task: Option<u32>, us: u64)
     }
 }
 
-/// What is told of tasks and of CPUs.
+/// What is logged of tasks and of CPUs.
 #[derive(Drop)]
 pub(crate) struct Tables {
     pub(crate) tasks: Vec<Ran>,
@@ -173,7 +173,7 @@ impl Tables {
     }
 }
 
-/// With a switch behind those before it, where the run ends at this time.
+/// With a switch after those before it, where the run ends at this time.
 pub(crate) fn put_switch(tables: &mut Tables, places: &Places, switch: &Switch, end: u64)
     requires keyed { map (λ r. r.number) tables.old.tasks.items ≡ places.now }
     requires cpu { map (λ c. c.cpu) tables.old.cpus.items

@@ -1,15 +1,15 @@
 //! The figures of a run, put together.
 
 ghost use Rattle.std.specs.Prelude.{◌≡◌, ◌<◌, ◌-◌, ◌^◌, IfOk, All, map, length};
-ghost use Rattle.run_figures.specs.private.Telling as telling;
+ghost use Rattle.run_figures.specs.private.Logging as logging;
 ghost use Rattle.run_figures.specs.private.Putting as putting;
 
 use crate::counting::{Counts, Ended, add_job};
 use crate::figures::{CpuFigures, Responses, TaskFigures};
+use crate::logged::TaskTally;
 use crate::ran::{Cpu, Ran};
 use crate::run::Admitted;
 use crate::throttle::us_up_to;
-use crate::told::Told;
 use domain_run::NoMemory;
 use std::alloc::Global;
 
@@ -26,23 +26,23 @@ fn responses_of(ended: &Ended) -> Responses
 }
 
 /// The jobs that are over, and the one under way, where the run ends at this time.
-fn all_counts(told: &Told, end: u64) -> Counts
-    requires room { telling.IsToldWithin (2 ^ 64 - 2) told.now }
-    ensures { result ≡ telling.with_over end told.now.counts told.now.job }
+fn all_counts(logged: &TaskTally, end: u64) -> Counts
+    requires room { logging.IsLoggedWithin (2 ^ 64 - 2) logged.now }
+    ensures { result ≡ logging.with_over end logged.now.counts logged.now.job }
 {
-    let mut counts = told.counts;
-    if let Some(job) = &told.job {
+    let mut counts = logged.counts;
+    if let Some(job) = &logged.job {
         add_job(&mut counts, job, end);
     }
     counts
 }
 
 /// The figures of a task, where the run ends at this time.
-pub(crate) fn figures_of(task: &Admitted, told: &Told, ran: &Ran, end: u64) -> TaskFigures
-    requires room { telling.IsToldWithin (2 ^ 64 - 2) told.now }
-    ensures { result ≡ putting.put_task end task.now told.now ran.now }
+pub(crate) fn figures_of(task: &Admitted, logged: &TaskTally, ran: &Ran, end: u64) -> TaskFigures
+    requires room { logging.IsLoggedWithin (2 ^ 64 - 2) logged.now }
+    ensures { result ≡ putting.put_task end task.now logged.now ran.now }
 {
-    let counts = all_counts(told, end);
+    let counts = all_counts(logged, end);
     let (jobs, responses) = match counts.ended {
         None => (0, None),
         Some(ended) => (ended.count, Some(responses_of(&ended))),
@@ -54,9 +54,9 @@ pub(crate) fn figures_of(task: &Admitted, told: &Told, ran: &Ran, end: u64) -> T
         jobs,
         late: counts.late,
         responses,
-        throttled: told.throttle.times,
-        throttled_us: us_up_to(&told.throttle, end),
-        preempted: told.preempted,
+        throttled: logged.throttle.times,
+        throttled_us: us_up_to(&logged.throttle, end),
+        preempted: logged.preempted,
         migrated: ran.migrated,
         cpu_us: ran.cpu_us,
     }
@@ -65,18 +65,18 @@ pub(crate) fn figures_of(task: &Admitted, told: &Told, ran: &Ran, end: u64) -> T
 pub(crate) fn all_figures(
     alloc: Global,
     tasks: &[Admitted],
-    told: &[Told],
+    logged: &[TaskTally],
     ran: &[Ran],
     end: u64,
 ) -> Result<Vec<TaskFigures>, NoMemory>
-    requires told { length told.now ≡ length tasks.now }
+    requires logged { length logged.now ≡ length tasks.now }
     requires ran { length ran.now ≡ length tasks.now }
-    requires room { All (telling.IsToldWithin (2 ^ 64 - 2)) told.now }
-    ensures { IfOk result (λ v. v.items ≡ putting.put_all end tasks.now told.now ran.now) }
+    requires room { All (logging.IsLoggedWithin (2 ^ 64 - 2)) logged.now }
+    ensures { IfOk result (λ v. v.items ≡ putting.put_all end tasks.now logged.now ran.now) }
 {
     let mut all = Vec::with_capacity(alloc, tasks.len())?;
     for (place, task) in tasks.iter().enumerate() {
-        all.push(figures_of(task, &told[place], &ran[place], end))?;
+        all.push(figures_of(task, &logged[place], &ran[place], end))?;
     }
     Ok(all)
 }

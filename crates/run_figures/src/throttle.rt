@@ -1,7 +1,7 @@
 //! Throttling of a task.
 
 ghost use Rattle.std.specs.Prelude.{◌≡◌, ◌+◌, ◌-◌, ◌*◌, ◌≤◌, ◌^◌};
-ghost use Rattle.run_figures.specs.private.Telling as telling;
+ghost use Rattle.run_figures.specs.private.Logging as logging;
 
 /// How often and how long a task was throttled so far.
 #[derive(Clone, Copy)]
@@ -13,7 +13,7 @@ pub(crate) struct Throttle {
 }
 
 fn gap(since: Option<u64>, time: u64) -> u64
-    ensures { result ≡ telling.gap since time }
+    ensures { result ≡ logging.gap since time }
 {
     match since {
         None => 0,
@@ -24,7 +24,7 @@ fn gap(since: Option<u64>, time: u64) -> u64
 /// The time so far, with that since it is throttled, up to a time.
 pub(crate) fn us_up_to(throttle: &Throttle, time: u64) -> u128
     requires room { throttle.now.us ≤ (2 ^ 64 - 2) * 2 ^ 64 }
-    ensures { result ≡ throttle.now.us + telling.gap throttle.now.since time }
+    ensures { result ≡ throttle.now.us + logging.gap throttle.now.since time }
 {
     throttle.us + u128::from(gap(throttle.since, time))
 }
@@ -33,7 +33,7 @@ pub(crate) fn us_up_to(throttle: &Throttle, time: u64) -> u128
 pub(crate) fn begin_throttle(throttle: &mut Throttle, time: u64)
     requires us { throttle.old.us ≤ (2 ^ 64 - 2) * 2 ^ 64 }
     requires times { throttle.old.times ≤ 2 ^ 64 - 2 }
-    ensures { throttle.new ≡ telling.throttled_from time throttle.old }
+    ensures { throttle.new ≡ logging.throttled_from time throttle.old }
 {
     throttle.us = us_up_to(throttle, time);
     throttle.times += 1;
@@ -43,7 +43,7 @@ pub(crate) fn begin_throttle(throttle: &mut Throttle, time: u64)
 /// It is not throttled from this time on.
 pub(crate) fn end_throttle(throttle: &mut Throttle, time: u64)
     requires us { throttle.old.us ≤ (2 ^ 64 - 2) * 2 ^ 64 }
-    ensures { throttle.new ≡ telling.freed_from time throttle.old }
+    ensures { throttle.new ≡ logging.freed_from time throttle.old }
 {
     throttle.us = us_up_to(throttle, time);
     throttle.since = None;

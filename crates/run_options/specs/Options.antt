@@ -6,6 +6,7 @@ use Rattle.run_options.specs.declared.options.Print.{Print}
 use Rattle.run_options.specs.declared.options.Print.TheVariants as prints
 use Rattle.run_options.specs.declared.replay_print.ReplayPrint.{ReplayPrint}
 use Rattle.run_options.specs.declared.replay_print.ReplayPrint.TheVariants as replays
+use Rattle.limits.specs.Limits.{max_history}
 
 pub record AreOptions (o : Options) : Type 0 where
   pub some_domains : 0 < length o.domains.items
@@ -17,7 +18,7 @@ pub record AreOptions (o : Options) : Type 0 where
   pub a_worker : 0 < o.workers
   pub few_workers : o.workers ≤ 8
   pub some_history : 0 < o.history
-  pub short_history : o.history ≤ 65536
+  pub short_history : o.history ≤ max_history
 
 -- whether what is printed tells what happens to the tasks
 abbrev pub tells : Print → Bool

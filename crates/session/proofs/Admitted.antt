@@ -114,7 +114,8 @@ own_same id n i ts t c d ans is before =
 
 -- ---- the union
 
--- what is left of the clients' answers when those to the tasks before these are put together; f tells the answers of a share
+-- what is left of the clients' answers when those to the tasks before these are put together; f
+-- tells the answers of a share
 pub record IsLeft {X : Type 0} (f : X → List Answer) (n : ℕ) (tasks rest : List TaskSpecView) (shares left : List X) (refused : List (ℕ × Refusal)) : Type 0 where
   pub asked : List Asked
   pub tasks_are : map (λ q. q.task) asked ++ rest ≡ tasks
@@ -143,7 +144,7 @@ own_cons n i t rest b e = ap (λ (c : Bool). cond c (t ∷ own_tasks n i rest) (
 asked_push : (n i : ℕ) (asked : List Asked) (q : Asked) (b : Bool) → is_own n i q ≡ b → own_asked n i (asked ++ q ∷ []) ≡ own_asked n i asked ++ cond b (q ∷ []) []
 asked_push n i asked q b e = filter-append (is_own n i) asked (q ∷ []) ∙ ap (λ (c : Bool). own_asked n i asked ++ cond c (q ∷ []) []) e
 
--- what one share has for the tasks from t on, and for those behind it
+-- what one share has for the tasks from t on, and for those after it
 pub record IsShare (n i : ℕ) (rest : List TaskSpecView) (asked : List Asked) (share : List Answer) (whole : List Asked) : Type 0 where
   pub each : AreAnswers n i rest share
   pub own : own_asked n i asked ++ with_answers (own_tasks n i rest) share ≡ whole
@@ -192,7 +193,7 @@ pub left_next : {X : Type 0} (f : X → List Answer) (n : ℕ) (tasks rest : Lis
     → f (get_or left ((t.number - 1) % n) d) ≡ a ∷ f y
     → more ≡ refused ++ refused_in (record { task = t; answer = a } ∷ [])
     → IsLeft f n tasks rest shares (set left ((t.number - 1) % n) y) more
-left_next {X} f n tasks rest t shares left d y a refused more some was first told =
+left_next {X} f n tasks rest t shares left d y a refused more some was first logged =
     let p = (t.number - 1) % n in
     let q : Asked = record { task = t; answer = a } in
     let inside : p < length left = omega (arith, mod-lt (t.number - 1) some, was.count) in
@@ -203,19 +204,19 @@ left_next {X} f n tasks rest t shares left d y a refused more some was first tol
     record {
       asked = was.asked ++ q ∷ [];
       tasks_are = ap (λ (l : List TaskSpecView). l ++ rest) (map-append (λ q. q.task) was.asked (q ∷ [])) ∙ (append_assoc (map (λ q. q.task) was.asked) (t ∷ []) rest ∙ was.tasks_are);
-      refused_are = told ∙ (ap (λ (l : List (ℕ × Refusal)). l ++ refused_in (q ∷ [])) was.refused_are ∙ sym (filter_map-append (λ q. option_map (λ r. (q.task.number, r)) (refused_with q.answer)) was.asked (q ∷ [])));
+      refused_are = logged ∙ (ap (λ (l : List (ℕ × Refusal)). l ++ refused_in (q ∷ [])) was.refused_are ∙ sym (filter_map-append (λ q. option_map (λ r. (q.task.number, r)) (refused_with q.answer)) was.asked (q ∷ [])));
       count = length-set left p y ∙ was.count;
       each = λ i x within. (next i x within).each;
       own = λ i x within. (next i x within).own;
     }
 
-told_of : (refused : List (ℕ × Refusal)) (o : Option (ℕ × Refusal)) → length (refused ++ cons_option o []) ≤ length refused + 1
-told_of refused None = omega (arith, length-append refused [])
-told_of refused (Some r) = omega (arith, length-append refused (r ∷ []))
+logged_of : (refused : List (ℕ × Refusal)) (o : Option (ℕ × Refusal)) → length (refused ++ cons_option o []) ≤ length refused + 1
+logged_of refused None = omega (arith, length-append refused [])
+logged_of refused (Some r) = omega (arith, length-append refused (r ∷ []))
 
 -- at most one is refused
-pub told_few : (refused : List (ℕ × Refusal)) (t : TaskSpecView) (a : Answer) → length (refused ++ refused_in (record { task = t; answer = a } ∷ [])) ≤ length refused + 1
-told_few refused t a = told_of refused (option_map (λ r. (t.number, r)) (refused_with a))
+pub logged_few : (refused : List (ℕ × Refusal)) (t : TaskSpecView) (a : Answer) → length (refused ++ refused_in (record { task = t; answer = a } ∷ [])) ≤ length refused + 1
+logged_few refused t a = logged_of refused (option_map (λ r. (t.number, r)) (refused_with a))
 
 -- there is an answer to the next task
 pub some_left : {X : Type 0} (f : X → List Answer) (n : ℕ) (tasks rest : List TaskSpecView) (t : TaskSpecView) (shares left : List X) (d : X) (refused : List (ℕ × Refusal))
@@ -228,7 +229,7 @@ some_of : {X : Type 0} (xs : List X) → 0 < length xs → X
 some_of [] some = absurd (omega (arith, some))
 some_of (x ∷ xs) some = x
 
--- behind the last task
+-- after the last task
 pub union_of : {X : Type 0} (f : X → List Answer) (tasks : List TaskSpecView) (shares left : List X) (refused : List (ℕ × Refusal))
     → IsLeft f (length shares) tasks [] shares left refused → IsUnion tasks (map f shares) refused
 union_of {X} f tasks shares left refused was =
@@ -249,9 +250,9 @@ union_of {X} f tasks shares left refused was =
 
 -- ---- all clients
 
-behind : (P : Asked → Type 0) (q : Asked) (l : List Asked) (b : Bool) → All P (cond b (q ∷ l) l) → All P l
-behind P q l true h = All-tail P q l h
-behind P q l false h = h
+following : (P : Asked → Type 0) (q : Asked) (l : List Asked) (b : Bool) → All P (cond b (q ∷ l) l) → All P l
+following P q l true h = All-tail P q l h
+following P q l false h = h
 
 -- what holds of the tasks of each client holds of all
 all_own : (P : Asked → Type 0) (n : ℕ) (asked : List Asked) → 0 < n → ((i : ℕ) → i < n → All P (own_asked n i asked)) → All P asked
@@ -262,7 +263,7 @@ all_own P n (q ∷ asked) some each =
     let is : is_own n i q ≡ true = eq-eqb i i refl in
     All-cons P q asked
     (All-head P q (own_asked n i asked) (subst (λ (c : Bool). All P (cond c (q ∷ own_asked n i asked) (own_asked n i asked))) is (each i within)))
-    (all_own P n asked some (λ j there. behind P q (own_asked n j asked) (is_own n j q) (each j there)))
+    (all_own P n asked some (λ j there. following P q (own_asked n j asked) (is_own n j q) (each j there)))
 
 nobody : ClientView
 nobody = record { number = 0; passes = []; hand = None }
@@ -294,11 +295,11 @@ seated_asks id tasks n i c e s answers seat asks =
 -- the clients at their seats
 pub all_seated : (id : SessionId) (tasks : List TaskSpecView) (before : List ClientView) (seats : List SeatView) (after : List ClientView) (shares : List (List Answer)) (refused : List (ℕ × Refusal))
     → 0 < length before → HaveSeats tasks before seats → AreAsked id tasks seats after shares → IsUnion tasks shares refused → AllAsked id tasks before after refused
-all_seated id tasks before seats after shares refused some seated asked union =
-    all_asked id tasks before after shares refused some (asked.count ∙ seated.count) (asked.shared ∙ seated.count)
+all_seated id tasks before seats after shares refused some assigned asked union =
+    all_asked id tasks before after shares refused some (asked.count ∙ assigned.count) (asked.shared ∙ assigned.count)
     (λ i x inside.
     let s : SeatView = record { client = x; place = i; many = 0; room = 0 } in
-    seated_asks id tasks (length before) i (get_or before i x) (get_or after i x) (get_or seats i s) (get_or shares i []) (seated.each i x s inside) (asked.each i s x (omega (arith, inside, seated.count))))
+    seated_asks id tasks (length before) i (get_or before i x) (get_or after i x) (get_or seats i s) (get_or shares i []) (assigned.each i x s inside) (asked.each i s x (omega (arith, inside, assigned.count))))
     union
 
 -- before the last task of its own a client has had fewer
@@ -360,16 +361,16 @@ threads_asked {H} id tasks f handles seats clients shares count at asked =
 
 pub have_room : (tasks : List TaskSpecView) (clients : List ClientView) (seats : List SeatView) → HaveSeats tasks clients seats
     → (k : ℕ) (s : SeatView) → k < length seats → HasRoom tasks (get_or seats k s)
-have_room tasks clients seats seated k s inside = (seated.each k nobody s (omega (arith, inside, seated.count))).room
+have_room tasks clients seats assigned k s inside = (assigned.each k nobody s (omega (arith, inside, assigned.count))).room
 
 -- each share has an answer for each of its client's tasks
 pub shares_answer : {S : Type 0} (id : SessionId) (tasks : List TaskSpecView) (g : S → List Answer) (before after : List ClientView) (seats : List SeatView) (shares : List S)
     → HaveSeats tasks before seats → AreAsked id tasks seats after (map g shares)
     → (i : ℕ) (x : S) → i < length shares → AreAnswers (length shares) i tasks (g (get_or shares i x))
-shares_answer id tasks g before after seats shares seated asked i x inside =
-    let count : length shares ≡ length before = sym (length-map shares g) ∙ asked.shared ∙ seated.count in
+shares_answer id tasks g before after seats shares assigned asked i x inside =
+    let count : length shares ≡ length before = sym (length-map shares g) ∙ asked.shared ∙ assigned.count in
     let within : i < length before = omega (arith, inside, count) in
     let s : SeatView = record { client = nobody; place = i; many = 0; room = 0 } in
-    let own = seated_asks id tasks (length before) i (get_or before i nobody) (get_or after i nobody) (get_or seats i s) (get_or (map g shares) i []) (seated.each i nobody s within) (asked.each i s nobody (omega (arith, within, seated.count))) in
+    let own = seated_asks id tasks (length before) i (get_or before i nobody) (get_or after i nobody) (get_or seats i s) (get_or (map g shares) i []) (assigned.each i nobody s within) (asked.each i s nobody (omega (arith, within, assigned.count))) in
     subst (λ (n : ℕ). AreAnswers n i tasks (g (get_or shares i x))) (sym count)
     (subst (λ (l : List Answer). AreAnswers (length before) i tasks l) (get_or-map g shares i x [] inside) own.each)

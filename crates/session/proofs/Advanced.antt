@@ -3,14 +3,14 @@ use Rattle.std.proofs.Common.{◌≡◌, ◌≢◌, ℕ, zero, suc, ◌+◌, ◌
 use Rattle.std.specs.Prelude.{slice_index_or, nat_lt, Result, IfOk, IfErr, OnOk}
 use Rattle.std.specs.List.{cons_option}
 use Rattle.std.proofs.lemmas.Bool.{lt-ltb, eqb-true, eqb-false}
-use Rattle.std.proofs.lemmas.List.{append-nil, get_or_default, get_or-set_same, get_or-set_other, get_or-map, get_or_push, get_or_append_left, length-map, length-set, length_push}
+use Rattle.std.proofs.lemmas.List.{append-nil, get_or_default, get_or-set_same, get_or-set_other, get_or-map, get_or_push, get_or_append_left, length-map, length-set, length_push, map_push}
 use Rattle.std.proofs.lemmas.List.Elements.{All-cons, All-head, All-tail, All-get_or}
 use Rattle.std.proofs.Math.Seq.{take-append_seam}
 use Rattle.pass_seats.specs.Lists.{PassView}
 use Rattle.domain_run.specs.Domain.{Domain, empty_domain}
 use Rattle.domain_run.specs.declared.happened.Happened.{Happened}
-use Rattle.domain_run.specs.Happened.{told_by_ticks}
-use Rattle.domain_run.specs.Log.{LogView, if_wanted, Tells}
+use Rattle.domain_run.specs.Happened.{logged_by_ticks}
+use Rattle.domain_run.specs.Log.{LogView, if_wanted, HasLogged}
 use Rattle.domain_run.specs.Run.{run_of}
 use Rattle.domain_run.specs.declared.call.Call.TheVariants.{Advance}
 use Rattle.domain_run.specs.declared.call.Reply.{Reply}
@@ -18,11 +18,13 @@ use Rattle.domain_run.specs.declared.call.Reply.TheVariants as replies
 use Rattle.calls_text.specs.declared.section.Entry.{Entry}
 use Rattle.call_book.specs.Book.{BookView, IsFull, own_entries, state_of, entry_by}
 use Rattle.calls_text.specs.Histories.{calls_of}
-use Rattle.call_book.specs.BookAnswers.{IsAdvanced, TellsAdvance}
+use Rattle.call_book.specs.BookAnswers.{IsAdvanced, LogsAdvance}
 use Rattle.call_book.specs.Ending.{EndingView, left_of}
 use Rattle.run_figures.specs.Accounting.{AccountingView}
-use Rattle.heard_run.specs.Heard.{heard_of, heard_after}
-use Rattle.heard_run.proofs.CallerLemmas.{heard_whole}
+use Rattle.streamed_run.specs.Streamed.{streamed_of, streamed_after}
+use Rattle.chart_pieces.specs.declared.window.Window.{Window}
+use Rattle.chart_pieces.specs.Drawing.{DrawingView}
+use Rattle.streamed_run.proofs.CallerLemmas.{streamed_whole}
 use Rattle.call_book.proofs.CallerLemmas.{run_grows}
 use Rattle.domain_run.specs.Tick.{ticks}
 use Rattle.calls_text.specs.SectionView.{SectionView}
@@ -30,8 +32,8 @@ use Rattle.session.specs.declared.fault.EndFault.{EndFault}
 use Rattle.session.specs.declared.fault.EndFault.TheVariants as faults
 use Rattle.session.specs.declared.report.Finished.{Finished}
 use Rattle.session.specs.declared.report.Wanted.{Wanted}
-use Rattle.session.specs.declared.report.Wanted.TheVariants.{Switches, Happened as WhatHappened, Figures, Jobs}
-use Rattle.session.specs.declared.ending_run.Told.{Told}
+use Rattle.session.specs.declared.report.Wanted.TheVariants.{Switches, Happened as WhatHappened, Figures, Jobs, Chart}
+use Rattle.session.specs.declared.ending_run.Recorded.{Recorded}
 use Rattle.session.specs.SessionId.{SessionId}
 use Rattle.session.specs.Asks.{ClientView, Makes, Made, entries_from, client_pass_in, followed_by}
 use Rattle.session.specs.declared.report.Report.{Report}
@@ -40,8 +42,8 @@ use Rattle.session.specs.RunEnd.{advance_of, EndsWith}
 use Rattle.session.specs.private.Entering.{IsSessionBook, pass_after}
 use Rattle.session.specs.private.Parts.{AreSessionBooks}
 use Rattle.session.specs.private.Closing.{AreHistories, HaveEnded}
-use Rattle.session.specs.private.Ending.{MakesAll, IsEndBy, AllEnd, AllTellEnds, AreOpenLogs, AreEndLogs, AreAllHeard, AreHeardEnds, AreToldAs, IsFullAmong, IsHeardOf, books_of, unheard_ending}
-use Rattle.session.specs.RunEnd.{HaveAdvanced, AreHeard, AreLogged, IsFinished, IsFullWith, IsLeftAs, IsLogOf, IsRunStopped, run_in, told_at_end}
+use Rattle.session.specs.private.Ending.{MakesAll, IsEndBy, AllEnd, AllLogEnds, AreOpenLogs, AreEndLogs, AreAllStreamed, AreDrawnEnds, AreStreamedEnds, AreLoggedAs, IsFullAmong, IsStreamedOf, books_of, unstreamed_ending}
+use Rattle.session.specs.RunEnd.{HaveAdvanced, AreStreamed, AreRunsLogged, AreRunsDrawn, IsFinished, IsFullWith, IsLeftAs, IsLogOf, IsRunStopped, run_in, logged_at_end}
 use Rattle.session.proofs.Asked.{makes_at, makes_nothing}
 
 -- ---- one domain
@@ -90,7 +92,7 @@ makes_more n m ticks a b c more before last = record {
   number = last.number ∙ before.number;
   domains = last.domains ∙ before.domains;
   first = λ d upto inside. by d upto inside (eqb n d) refl;
-  rest = λ d behind inside. behind_by d behind inside (eqb n d) refl;
+  rest = λ d following inside. after_by d following inside (eqb n d) refl;
 }
   where
     short : (d : ℕ) → d < length a.passes → d < length b.passes
@@ -107,9 +109,9 @@ makes_more n m ticks a b c more before last = record {
         let other = eqb-false n d is in
         elsewhere b c n d ticks last (short d inside) is ∙ before.first d (omega (arith, upto, more, other)) inside
 
-    behind_by : (d : ℕ) → m ≤ d → d < length a.passes → (e : Bool) → eqb n d ≡ e → client_pass_in c d ≡ client_pass_in a d
-    behind_by d behind inside true is = let at = eqb-true n d is in absurd (omega (arith, at, behind, more))
-    behind_by d behind inside false is = elsewhere b c n d ticks last (short d inside) is ∙ before.rest d (omega (arith, behind, more)) inside
+    after_by : (d : ℕ) → m ≤ d → d < length a.passes → (e : Bool) → eqb n d ≡ e → client_pass_in c d ≡ client_pass_in a d
+    after_by d following inside true is = let at = eqb-true n d is in absurd (omega (arith, at, following, more))
+    after_by d following inside false is = elsewhere b c n d ticks last (short d inside) is ∙ before.rest d (omega (arith, following, more)) inside
 
 advance_is : (duration : ℕ) → 0 < duration → advance_of duration 1 ≡ all_ticks duration
 advance_is duration some = ap (λ (b : Bool). cond b (all_ticks duration) []) (lt-ltb 0 duration some)
@@ -191,26 +193,26 @@ all_but_last es e =
     let less : length (es ++ e ∷ []) - 1 ≡ length es = omega (arith, length_push es e) in
     ap (λ (n : ℕ). take n (es ++ e ∷ [])) less ∙ take-append_seam es (e ∷ [])
 
--- of an advance of which all ticks were made: what they tell from the state before it
-told_end : (old new : BookView) (p q : PassView Entry) (ticks made : ℕ) (reply : Reply) → IsAdvanced old new p q ticks reply → made ≡ ticks → told_by_ticks made (state_of old) ≡ told_at_end ticks new.cpus new.limit new.history
-told_end old new p q ticks made reply a same =
+-- of an advance of which all ticks were made: what they log from the state before it
+logged_end : (old new : BookView) (p q : PassView Entry) (ticks made : ℕ) (reply : Reply) → IsAdvanced old new p q ticks reply → made ≡ ticks → logged_by_ticks made (state_of old) ≡ logged_at_end ticks new.cpus new.limit new.history
+logged_end old new p q ticks made reply a same =
     let cpus = ap (λ (b : BookView). b.cpus) a.entered.book in
     let limit = ap (λ (b : BookView). b.limit) a.entered.book in
     let history = ap (λ (b : BookView). b.history) a.entered.book in
     let cut : take (length new.history - 1) new.history ≡ old.history =
     ap (λ (es : List Entry). take (length es - 1) es) history ∙ all_but_last old.history (entry_by p (Advance a.made) reply) in
-    ap (λ (n : ℕ). told_by_ticks n (state_of old)) same
-    ∙ ap (λ (n : ℕ). told_by_ticks ticks (run_of n old.limit (calls_of old.history))) (sym cpus)
-    ∙ ap (λ (n : ℕ). told_by_ticks ticks (run_of new.cpus n (calls_of old.history))) (sym limit)
-    ∙ ap (λ (es : List Entry). told_by_ticks ticks (run_of new.cpus new.limit (calls_of es))) (sym cut)
+    ap (λ (n : ℕ). logged_by_ticks n (state_of old)) same
+    ∙ ap (λ (n : ℕ). logged_by_ticks ticks (run_of n old.limit (calls_of old.history))) (sym cpus)
+    ∙ ap (λ (n : ℕ). logged_by_ticks ticks (run_of new.cpus n (calls_of old.history))) (sym limit)
+    ∙ ap (λ (es : List Entry). logged_by_ticks ticks (run_of new.cpus new.limit (calls_of es))) (sym cut)
 
-pub tells_end : (old new : BookView) (p q : PassView Entry) (ticks made : ℕ) (reply : Reply) (before after : LogView)
-    → IsAdvanced old new p q ticks reply → TellsAdvance old before after reply → reply ≡ replies.Done made → made ≡ ticks
-    → Tells before (told_at_end ticks new.cpus new.limit new.history) after
-tells_end old new p q ticks made reply before after a t is all =
+pub logs_end : (old new : BookView) (p q : PassView Entry) (ticks made : ℕ) (reply : Reply) (before after : LogView)
+    → IsAdvanced old new p q ticks reply → LogsAdvance old before after reply → reply ≡ replies.Done made → made ≡ ticks
+    → HasLogged before (logged_at_end ticks new.cpus new.limit new.history) after
+logs_end old new p q ticks made reply before after a t is all =
     let done : reply ≡ replies.Done t.made = t.done in
     let same : t.made ≡ ticks = cc in
-    subst (λ (hs : List Happened). Tells before hs after) (told_end old new p q ticks t.made reply a same) t.told
+    subst (λ (hs : List Happened). HasLogged before hs after) (logged_end old new p q ticks t.made reply a same) t.logged
 
 -- and the state that they lead to
 state_end : (old new : BookView) (p q : PassView Entry) (n made : ℕ) → IsAdvanced old new p q n (replies.Done made) → made ≡ n → state_of new ≡ ticks n (state_of old)
@@ -221,79 +223,79 @@ state_end old new p q n made a all =
     ∙ sym (run_grows old.cpus old.limit old.history e (state_of old) (ticks a.made (state_of old)) refl refl)
     ∙ ap (λ (k : ℕ). ticks k (state_of old)) same
 
--- what was heard of it is all of the run
-pub hears_end : (old new : BookView) (p q : PassView Entry) (n made : ℕ) (a x : AccountingView) → IsAdvanced old new p q n (replies.Done made) → x ≡ heard_after n made (state_of old) → (made ≡ n) × (a ≡ x) → IsHeardOf n new a
-hears_end old new p q n made a x is heard all =
+-- what was streamed of it is all of the run
+pub streams_end : (old new : BookView) (p q : PassView Entry) (n made : ℕ) (a x : AccountingView) → IsAdvanced old new p q n (replies.Done made) → x ≡ streamed_after n made (state_of old) → (made ≡ n) × (a ≡ x) → IsStreamedOf n new a
+streams_end old new p q n made a x is streamed all =
     let d = state_of old in
-    all.1 ∙ heard ∙ ap (λ (k : ℕ). heard_after n k d) all.0 ∙ heard_whole n d
-    ∙ ap (λ (hs : List Happened). heard_of (ticks n d) hs) (told_end old new p q n n (replies.Done made) is refl)
-    ∙ ap (λ (e : Domain). heard_of e (told_at_end n new.cpus new.limit new.history)) (sym (state_end old new p q n made is all.0))
+    all.1 ∙ streamed ∙ ap (λ (k : ℕ). streamed_after n k d) all.0 ∙ streamed_whole n d
+    ∙ ap (λ (hs : List Happened). streamed_of (ticks n d) hs) (logged_end old new p q n n (replies.Done made) is refl)
+    ∙ ap (λ (e : Domain). streamed_of e (logged_at_end n new.cpus new.limit new.history)) (sym (state_end old new p q n made is all.0))
 
 -- where not all ticks were made, memory was refused
-pub made_all : (r : Result AccountingView EndFault) (P : AccountingView → Type 0) (Q : Type 0) → IfOk r P → ((a : AccountingView) → P a → Q) → OnOk r Q
+pub made_all : {X : Type 0} (r : Result X EndFault) (P : X → Type 0) (Q : Type 0) → IfOk r P → ((a : X) → P a → Q) → OnOk r Q
 made_all (Ok a) P Q is f = f a is
 made_all (Err e) P Q is f = tt
 
-pub heard_as : (r : Result AccountingView EndFault) (P Q : AccountingView → Type 0) → IfOk r P → ((a : AccountingView) → P a → Q a) → IfOk r Q
-heard_as (Ok a) P Q is f = f a is
-heard_as (Err e) P Q is f = tt
+pub streamed_as : {X : Type 0} (r : Result X EndFault) (P Q : X → Type 0) → IfOk r P → ((a : X) → P a → Q a) → IfOk r Q
+streamed_as (Ok a) P Q is f = f a is
+streamed_as (Err e) P Q is f = tt
 
 pub stopped_as : (r : Result AccountingView EndFault) (Q : Type 0) → IfErr r (IsRunStopped ⊥) → IfErr r (IsRunStopped Q)
 stopped_as (Ok a) Q is = tt
 stopped_as (Err faults.Full) Q is = absurd is
 stopped_as (Err faults.Memory) Q is = tt
 
--- the logs of the first so many books were told
-abbrev pub FirstTell : ℕ → ℕ → List BookView → List LogView → List LogView → Type 0
-FirstTell n ticks books before after =
+-- the logs of the first so many books were logged
+abbrev pub FirstLog : ℕ → ℕ → List BookView → List LogView → List LogView → Type 0
+FirstLog n ticks books before after =
     (d : ℕ) (y : BookView) (x : LogView) → d < n
     → let b = slice_index_or books d y in
-    Tells (slice_index_or before d x) (told_at_end ticks b.cpus b.limit b.history) (slice_index_or after d x)
+    HasLogged (slice_index_or before d x) (logged_at_end ticks b.cpus b.limit b.history) (slice_index_or after d x)
 
 -- the others were not
 abbrev pub RestStay : ℕ → List LogView → List LogView → Type 0
 RestStay n before after = (d : ℕ) (x : LogView) → n ≤ d → slice_index_or after d x ≡ slice_index_or before d x
 
-pub tell_more : (n m ticks : ℕ) (books : List BookView) (b : BookView) (before after : List LogView) (was log : LogView) → n < length books → n < length after → m ≡ n + 1
-    → FirstTell n ticks books before after → RestStay n before after → was ≡ get_or after n was → Tells was (told_at_end ticks b.cpus b.limit b.history) log
-    → FirstTell m ticks (set books n b) before (set after n log)
-tell_more n m ticks books b before after was log there inside more first rest at last = λ d y x upto. by d y x upto (eqb n d) refl
+pub log_more : (n m ticks : ℕ) (books : List BookView) (b : BookView) (before after : List LogView) (was log : LogView) → n < length books → n < length after → m ≡ n + 1
+    → FirstLog n ticks books before after → RestStay n before after → was ≡ get_or after n was → HasLogged was (logged_at_end ticks b.cpus b.limit b.history) log
+    → FirstLog m ticks (set books n b) before (set after n log)
+log_more n m ticks books b before after was log there inside more first rest at last = λ d y x upto. by d y x upto (eqb n d) refl
   where
     by : (d : ℕ) (y : BookView) (x : LogView) → d < m → (e : Bool) → eqb n d ≡ e
-        → Tells (get_or before d x) (told_at_end ticks (get_or (set books n b) d y).cpus (get_or (set books n b) d y).limit (get_or (set books n b) d y).history) (get_or (set after n log) d x)
+        → HasLogged (get_or before d x) (logged_at_end ticks (get_or (set books n b) d y).cpus (get_or (set books n b) d y).limit (get_or (set books n b) d y).history) (get_or (set after n log) d x)
     by d y x upto true is =
         let began : was ≡ get_or before n x = at ∙ get_or_default after n was x inside ∙ rest n x (omega arith) in
-        let here : Tells (get_or before n x) (told_at_end ticks (get_or (set books n b) n y).cpus (get_or (set books n b) n y).limit (get_or (set books n b) n y).history) (get_or (set after n log) n x) =
-        subst (λ (l : LogView). Tells l (told_at_end ticks (get_or (set books n b) n y).cpus (get_or (set books n b) n y).limit (get_or (set books n b) n y).history) (get_or (set after n log) n x)) began
-        (subst (λ (v : BookView). Tells was (told_at_end ticks v.cpus v.limit v.history) (get_or (set after n log) n x)) (sym (get_or-set_same books n b y there))
-        (subst (λ (l : LogView). Tells was (told_at_end ticks b.cpus b.limit b.history) l) (sym (get_or-set_same after n log x inside)) last)) in
-        subst (λ (k : ℕ). Tells (get_or before k x) (told_at_end ticks (get_or (set books n b) k y).cpus (get_or (set books n b) k y).limit (get_or (set books n b) k y).history) (get_or (set after n log) k x)) (eqb-true n d is) here
+        let here : HasLogged (get_or before n x) (logged_at_end ticks (get_or (set books n b) n y).cpus (get_or (set books n b) n y).limit (get_or (set books n b) n y).history) (get_or (set after n log) n x) =
+        subst (λ (l : LogView). HasLogged l (logged_at_end ticks (get_or (set books n b) n y).cpus (get_or (set books n b) n y).limit (get_or (set books n b) n y).history) (get_or (set after n log) n x)) began
+        (subst (λ (v : BookView). HasLogged was (logged_at_end ticks v.cpus v.limit v.history) (get_or (set after n log) n x)) (sym (get_or-set_same books n b y there))
+        (subst (λ (l : LogView). HasLogged was (logged_at_end ticks b.cpus b.limit b.history) l) (sym (get_or-set_same after n log x inside)) last)) in
+        subst (λ (k : ℕ). HasLogged (get_or before k x) (logged_at_end ticks (get_or (set books n b) k y).cpus (get_or (set books n b) k y).limit (get_or (set books n b) k y).history) (get_or (set after n log) k x)) (eqb-true n d is) here
     by d y x upto false is =
         let other = eqb-false n d is in
-        subst (λ (v : BookView). Tells (get_or before d x) (told_at_end ticks v.cpus v.limit v.history) (get_or (set after n log) d x)) (sym (get_or-set_other books n d b y (λ same. other (sym same))))
-        (subst (λ (l : LogView). Tells (get_or before d x) (told_at_end ticks (get_or books d y).cpus (get_or books d y).limit (get_or books d y).history) l) (sym (get_or-set_other after n d log x (λ same. other (sym same))))
+        subst (λ (v : BookView). HasLogged (get_or before d x) (logged_at_end ticks v.cpus v.limit v.history) (get_or (set after n log) d x)) (sym (get_or-set_other books n d b y (λ same. other (sym same))))
+        (subst (λ (l : LogView). HasLogged (get_or before d x) (logged_at_end ticks (get_or books d y).cpus (get_or books d y).limit (get_or books d y).history) l) (sym (get_or-set_other after n d log x (λ same. other (sym same))))
         (first d y x (omega (arith, upto, more, other))))
 
 pub rest_stay : (n m : ℕ) (before after : List LogView) (log : LogView) → m ≡ n + 1 → RestStay n before after → RestStay m before (set after n log)
-rest_stay n m before after log more rest = λ d x behind.
-    get_or-set_other after n d log x (λ same. absurd (omega (arith, same, behind, more))) ∙ rest d x (omega (arith, behind, more))
+rest_stay n m before after log more rest = λ d x following.
+    get_or-set_other after n d log x (λ same. absurd (omega (arith, same, following, more))) ∙ rest d x (omega (arith, following, more))
 
--- what a log that had nothing has, once it was told
-log_of : (wanted : Bool) (told : List Happened) (before after : LogView) → IsLogOf wanted [] before → Tells before told after → IsLogOf wanted told after
-log_of wanted told before after is tells = record {
-  alike = tells.wanted ∙ is.alike;
+-- what a log that had nothing has, once it was logged
+log_of : (wanted : Bool) (logged : List Happened) (before after : LogView) → IsLogOf wanted [] before → HasLogged before logged after → IsLogOf wanted logged after
+log_of wanted logged before after is has_logged = record {
+  alike = has_logged.wanted ∙ is.alike;
   has = λ yes.
-      tells.happened
-      ∙ ap (λ (hs : List Happened). hs ++ if_wanted before told) (is.has yes)
-      ∙ ap (λ (b : Bool). cond b told []) (is.alike ∙ yes);
+      has_logged.happened
+      ∙ ap (λ (hs : List Happened). hs ++ if_wanted before logged) (is.has yes)
+      ∙ ap (λ (b : Bool). cond b logged []) (is.alike ∙ yes);
 }
 
 pub end_logs : (wanted : Bool) (ticks : ℕ) (books : List BookView) (before after : List LogView) → AreOpenLogs (length books) wanted before → length after ≡ length before
-    → AllTellEnds ticks books before after → AreEndLogs wanted ticks books after
-end_logs wanted ticks books before after is count tell = record {
+    → AllLogEnds ticks books before after → AreEndLogs wanted ticks books after
+end_logs wanted ticks books before after is count say = record {
   count = count ∙ is.count;
   each = λ d y x inside.
-      log_of wanted _ (get_or before d x) (get_or after d x) (All-get_or (IsLogOf wanted []) before d x (omega (arith, inside, is.count)) is.each) (tell d y x inside);
+      log_of wanted _ (get_or before d x) (get_or after d x) (All-get_or (IsLogOf wanted []) before d x (omega (arith, inside, is.count)) is.each) (say d y x inside);
 }
 
 -- where nothing is advanced
@@ -302,7 +304,7 @@ open_is_end wanted ticks books logs none is = record {
   count = is.count;
   each = λ d y x inside.
       let b = get_or books d y in
-      subst (λ (n : ℕ). IsLogOf wanted (told_at_end n b.cpus b.limit b.history) (get_or logs d x)) (sym none)
+      subst (λ (n : ℕ). IsLogOf wanted (logged_at_end n b.cpus b.limit b.history) (get_or logs d x)) (sym none)
       (All-get_or (IsLogOf wanted []) logs d x (omega (arith, inside, is.count)) is.each);
 }
 
@@ -325,62 +327,85 @@ full_among n duration books b a c c' there inside some made full same = record {
   kept = ap (λ (v : ClientView). client_pass_in v n) same ∙ made.rest n (omega arith) inside;
 }
 
--- ---- what was heard
+-- ---- what was streamed
 
--- the first so many books were heard, the others not yet
+-- the first so many books were streamed, the others not yet
 abbrev pub FirstAre : Bool → ℕ → List EndingView → Type 0
-FirstAre heard n books = (d : ℕ) (e : EndingView) → d < n → (slice_index_or books d e).heard ≡ heard
+FirstAre streamed n books = (d : ℕ) (e : EndingView) → d < n → (slice_index_or books d e).streamed ≡ streamed
 
 abbrev pub RestAre : Bool → ℕ → List EndingView → Type 0
-RestAre heard n books = (d : ℕ) (e : EndingView) → n ≤ d → d < length books → (slice_index_or books d e).heard ≡ heard
+RestAre streamed n books = (d : ℕ) (e : EndingView) → n ≤ d → d < length books → (slice_index_or books d e).streamed ≡ streamed
 
-pub first_more : (heard : Bool) (n m : ℕ) (books : List EndingView) (b : EndingView) → n < length books → m ≡ n + 1 → FirstAre heard n books → b.heard ≡ heard → FirstAre heard m (set books n b)
-first_more heard n m books b there more first is = λ d e upto. by d e upto (eqb n d) refl
+pub first_more : (streamed : Bool) (n m : ℕ) (books : List EndingView) (b : EndingView) → n < length books → m ≡ n + 1 → FirstAre streamed n books → b.streamed ≡ streamed → FirstAre streamed m (set books n b)
+first_more streamed n m books b there more first is = λ d e upto. by d e upto (eqb n d) refl
   where
-    by : (d : ℕ) (e : EndingView) → d < m → (c : Bool) → eqb n d ≡ c → (get_or (set books n b) d e).heard ≡ heard
+    by : (d : ℕ) (e : EndingView) → d < m → (c : Bool) → eqb n d ≡ c → (get_or (set books n b) d e).streamed ≡ streamed
     by d e upto true at =
-        subst (λ (k : ℕ). (get_or (set books n b) k e).heard ≡ heard) (eqb-true n d at) (ap (λ (x : EndingView). x.heard) (get_or-set_same books n b e there) ∙ is)
+        subst (λ (k : ℕ). (get_or (set books n b) k e).streamed ≡ streamed) (eqb-true n d at) (ap (λ (x : EndingView). x.streamed) (get_or-set_same books n b e there) ∙ is)
     by d e upto false at =
         let other = eqb-false n d at in
-        ap (λ (x : EndingView). x.heard) (get_or-set_other books n d b e (λ same. other (sym same))) ∙ first d e (omega (arith, upto, more, other))
+        ap (λ (x : EndingView). x.streamed) (get_or-set_other books n d b e (λ same. other (sym same))) ∙ first d e (omega (arith, upto, more, other))
 
-pub rest_less : (heard : Bool) (n m : ℕ) (books : List EndingView) (b : EndingView) → m ≡ n + 1 → RestAre heard n books → RestAre heard m (set books n b)
-rest_less heard n m books b more rest = λ d e behind inside.
-    ap (λ (x : EndingView). x.heard) (get_or-set_other books n d b e (λ same. absurd (omega (arith, same, behind, more))))
-    ∙ rest d e (omega (arith, behind, more)) (omega (arith, inside, length-set books n b))
+pub rest_less : (streamed : Bool) (n m : ℕ) (books : List EndingView) (b : EndingView) → m ≡ n + 1 → RestAre streamed n books → RestAre streamed m (set books n b)
+rest_less streamed n m books b more rest = λ d e following inside.
+    ap (λ (x : EndingView). x.streamed) (get_or-set_other books n d b e (λ same. absurd (omega (arith, same, following, more))))
+    ∙ rest d e (omega (arith, following, more)) (omega (arith, inside, length-set books n b))
 
 -- an accounting of each of the first so many books
-abbrev pub FirstHeard : ℕ → ℕ → List BookView → List AccountingView → Type 0
-FirstHeard n ticks books heard =
-    (d : ℕ) (b : BookView) (x : AccountingView) → d < n → IsHeardOf ticks (slice_index_or books d b) (slice_index_or heard d x)
+abbrev pub FirstStreamed : ℕ → ℕ → List BookView → List AccountingView → Type 0
+FirstStreamed n ticks books streamed =
+    (d : ℕ) (b : BookView) (x : AccountingView) → d < n → IsStreamedOf ticks (slice_index_or books d b) (slice_index_or streamed d x)
 
-pub heard_more : (n m ticks : ℕ) (books : List BookView) (b : BookView) (heard : List AccountingView) (a : AccountingView) → n < length books → length heard ≡ n → m ≡ n + 1
-    → FirstHeard n ticks books heard → IsHeardOf ticks b a → FirstHeard m ticks (set books n b) (heard ++ a ∷ [])
-heard_more n m ticks books b heard a there many more first last = λ d y x upto. by d y x upto (eqb n d) refl
+pub streamed_more : (n m ticks : ℕ) (books : List BookView) (b : BookView) (streamed : List AccountingView) (a : AccountingView) → n < length books → length streamed ≡ n → m ≡ n + 1
+    → FirstStreamed n ticks books streamed → IsStreamedOf ticks b a → FirstStreamed m ticks (set books n b) (streamed ++ a ∷ [])
+streamed_more n m ticks books b streamed a there many more first last = λ d y x upto. by d y x upto (eqb n d) refl
   where
-    by : (d : ℕ) (y : BookView) (x : AccountingView) → d < m → (e : Bool) → eqb n d ≡ e → IsHeardOf ticks (get_or (set books n b) d y) (get_or (heard ++ a ∷ []) d x)
+    by : (d : ℕ) (y : BookView) (x : AccountingView) → d < m → (e : Bool) → eqb n d ≡ e → IsStreamedOf ticks (get_or (set books n b) d y) (get_or (streamed ++ a ∷ []) d x)
     by d y x upto true is =
-        subst (λ (k : ℕ). IsHeardOf ticks (get_or (set books n b) k y) (get_or (heard ++ a ∷ []) k x)) (eqb-true n d is)
-        (subst (λ (v : BookView). IsHeardOf ticks v (get_or (heard ++ a ∷ []) n x)) (sym (get_or-set_same books n b y there))
-        (get_or_push heard a x n many ∙ last))
+        subst (λ (k : ℕ). IsStreamedOf ticks (get_or (set books n b) k y) (get_or (streamed ++ a ∷ []) k x)) (eqb-true n d is)
+        (subst (λ (v : BookView). IsStreamedOf ticks v (get_or (streamed ++ a ∷ []) n x)) (sym (get_or-set_same books n b y there))
+        (get_or_push streamed a x n many ∙ last))
     by d y x upto false is =
         let other = eqb-false n d is in
         let before : d < n = omega (arith, upto, more, other) in
-        subst (λ (v : BookView). IsHeardOf ticks v (get_or (heard ++ a ∷ []) d x)) (sym (get_or-set_other books n d b y (λ same. other (sym same))))
-        (get_or_append_left heard (a ∷ []) x d (omega (arith, before, many)) ∙ first d y x before)
+        subst (λ (v : BookView). IsStreamedOf ticks v (get_or (streamed ++ a ∷ []) d x)) (sym (get_or-set_other books n d b y (λ same. other (sym same))))
+        (get_or_append_left streamed (a ∷ []) x d (omega (arith, before, many)) ∙ first d y x before)
 
 -- the same, of a book that is as it was
-pub heard_still : (n m ticks : ℕ) (books : List BookView) (heard : List AccountingView) (a : AccountingView) → n < length books → length heard ≡ n → m ≡ n + 1
-    → FirstHeard n ticks books heard → ((y : BookView) → IsHeardOf ticks (get_or books n y) a) → FirstHeard m ticks books (heard ++ a ∷ [])
-heard_still n m ticks books heard a there many more first last = λ d y x upto. by d y x upto (eqb n d) refl
+pub streamed_still : (n m ticks : ℕ) (books : List BookView) (streamed : List AccountingView) (a : AccountingView) → n < length books → length streamed ≡ n → m ≡ n + 1
+    → FirstStreamed n ticks books streamed → ((y : BookView) → IsStreamedOf ticks (get_or books n y) a) → FirstStreamed m ticks books (streamed ++ a ∷ [])
+streamed_still n m ticks books streamed a there many more first last = λ d y x upto. by d y x upto (eqb n d) refl
   where
-    by : (d : ℕ) (y : BookView) (x : AccountingView) → d < m → (e : Bool) → eqb n d ≡ e → IsHeardOf ticks (get_or books d y) (get_or (heard ++ a ∷ []) d x)
+    by : (d : ℕ) (y : BookView) (x : AccountingView) → d < m → (e : Bool) → eqb n d ≡ e → IsStreamedOf ticks (get_or books d y) (get_or (streamed ++ a ∷ []) d x)
     by d y x upto true is =
-        subst (λ (k : ℕ). IsHeardOf ticks (get_or books k y) (get_or (heard ++ a ∷ []) k x)) (eqb-true n d is) (get_or_push heard a x n many ∙ last y)
+        subst (λ (k : ℕ). IsStreamedOf ticks (get_or books k y) (get_or (streamed ++ a ∷ []) k x)) (eqb-true n d is) (get_or_push streamed a x n many ∙ last y)
     by d y x upto false is =
         let other = eqb-false n d is in
         let before : d < n = omega (arith, upto, more, other) in
-        get_or_append_left heard (a ∷ []) x d (omega (arith, before, many)) ∙ first d y x before
+        get_or_append_left streamed (a ∷ []) x d (omega (arith, before, many)) ∙ first d y x before
+
+-- ---- what was drawn
+
+-- what drawings were given
+abbrev pub given_to : List DrawingView → List AccountingView
+given_to drawn = map (λ (d : DrawingView). d.streamed) drawn
+
+pub as_many : (drawn : List DrawingView) → length (given_to drawn) ≡ length drawn
+as_many drawn = length-map drawn (λ (d : DrawingView). d.streamed)
+
+one_more : (drawn : List DrawingView) (d : DrawingView) → given_to (drawn ++ d ∷ []) ≡ given_to drawn ++ d.streamed ∷ []
+one_more drawn d = map_push (λ (x : DrawingView). x.streamed) drawn d
+
+pub drawn_more : (n m ticks : ℕ) (books : List BookView) (b : BookView) (drawn : List DrawingView) (d : DrawingView) → n < length books → length drawn ≡ n → m ≡ n + 1
+    → FirstStreamed n ticks books (given_to drawn) → IsStreamedOf ticks b d.streamed → FirstStreamed m ticks (set books n b) (given_to (drawn ++ d ∷ []))
+drawn_more n m ticks books b drawn d there many more first last =
+    subst (FirstStreamed m ticks (set books n b)) (sym (one_more drawn d)) (streamed_more n m ticks books b (given_to drawn) d.streamed there (as_many drawn ∙ many) more first last)
+
+-- the same, of a book that is as it was
+pub drawn_still : (n m ticks : ℕ) (books : List BookView) (drawn : List DrawingView) (d : DrawingView) → n < length books → length drawn ≡ n → m ≡ n + 1
+    → FirstStreamed n ticks books (given_to drawn) → ((y : BookView) → IsStreamedOf ticks (get_or books n y) d.streamed) → FirstStreamed m ticks books (given_to (drawn ++ d ∷ []))
+drawn_still n m ticks books drawn d there many more first last =
+    subst (FirstStreamed m ticks books) (sym (one_more drawn d)) (streamed_still n m ticks books (given_to drawn) d.streamed there (as_many drawn ∙ many) more first last)
 
 -- ---- the end
 
@@ -411,7 +436,7 @@ record IsBookAt (id : SessionId) (b : BookView) (h : SectionView) : Type 0 where
 book_at : (id : SessionId) (cs : List ClientView) (books : List EndingView) (histories : List SectionView) (states : List Domain) (d : ℕ) (s : SectionView) → HaveEnded books histories states → length books ≡ length histories → AreSessionBooks id (books_of books)
     → d < length histories → IsHistoryOf id d cs (get_or histories d s) → IsBookAt id (get_or (books_of books) d (no_book id)) (get_or histories d s)
 book_at id cs books histories states d s ended count named inside left =
-    let e = unheard_ending (no_book id) in
+    let e = unstreamed_ending (no_book id) in
     let place : d < length books = omega (arith, inside, count) in
     let there : d < length (books_of books) = omega (arith, place, length-map books (λ (e : EndingView). e.book)) in
     let at : get_or (books_of books) d (no_book id) ≡ (get_or books d e).book = get_or-map (λ (e : EndingView). e.book) books d e (no_book id) place in
@@ -429,15 +454,15 @@ by_book f id b h is =
     ap (λ (n : ℕ). f n b.limit b.history) is.cpus ∙ ap (λ (n : ℕ). f h.cpus n b.history) is.limit ∙ ap (f h.cpus h.limit) is.entries
 
 -- the runs of the histories, or what is left of them
-runs_left : (heard : Bool) (books : List EndingView) (histories : List SectionView) (states : List Domain) (id : SessionId) → HaveEnded books histories states → length books ≡ length histories → AreAllHeard heard books
-    → (d : ℕ) (s : SectionView) (x : Domain) → d < length histories → get_or states d x ≡ left_of heard (run_in (get_or histories d s))
-runs_left heard books histories states id ended count all d s x inside =
-    let e = unheard_ending (no_book id) in
+runs_left : (streamed : Bool) (books : List EndingView) (histories : List SectionView) (states : List Domain) (id : SessionId) → HaveEnded books histories states → length books ≡ length histories → AreAllStreamed streamed books
+    → (d : ℕ) (s : SectionView) (x : Domain) → d < length histories → get_or states d x ≡ left_of streamed (run_in (get_or histories d s))
+runs_left streamed books histories states id ended count all d s x inside =
+    let e = unstreamed_ending (no_book id) in
     (ended.each d e s x inside).run ∙ ap (λ (b : Bool). left_of b (run_in (get_or histories d s))) (all d e (omega (arith, inside, count)))
 
-logged : (id : SessionId) (cs : List ClientView) (duration : ℕ) (wanted : Bool) (books : List EndingView) (f : Finished) (t : Told) → HaveEnded books f.report.histories.items f.states.items → length books ≡ length f.report.histories.items
-    → AreSessionBooks id (books_of books) → AreHistories id cs f.report.histories.items → f.logs ≡ t.logs → AreAllHeard false books → AreEndLogs wanted duration (books_of books) t.logs.items → AreLogged duration wanted f
-logged id cs duration wanted books f t ended count named left same all logs =
+logged_run : (id : SessionId) (cs : List ClientView) (duration : ℕ) (wanted : Bool) (books : List EndingView) (f : Finished) (t : Recorded) → HaveEnded books f.report.histories.items f.states.items → length books ≡ length f.report.histories.items
+    → AreSessionBooks id (books_of books) → AreHistories id cs f.report.histories.items → f.logs ≡ t.logs → AreAllStreamed false books → AreEndLogs wanted duration (books_of books) t.logs.items → AreRunsLogged duration wanted f
+logged_run id cs duration wanted books f t ended count named left same all logs =
     let histories = f.report.histories.items in
     let items : f.logs.items ≡ t.logs.items = ap (λ v. v.items) same in
     record {
@@ -447,39 +472,54 @@ logged id cs duration wanted books f t ended count named left same all logs =
           let b = get_or (books_of books) d (no_book id) in
           let h = get_or histories d s in
           let is = book_at id cs books histories f.states.items d s ended count named inside (left d s inside) in
-          subst (λ (hs : List Happened). IsLogOf wanted hs (get_or f.logs.items d x)) (by_book (told_at_end duration) id b h is)
-          (subst (λ (ls : List LogView). IsLogOf wanted (told_at_end duration b.cpus b.limit b.history) (get_or ls d x)) (sym items)
+          subst (λ (hs : List Happened). IsLogOf wanted hs (get_or f.logs.items d x)) (by_book (logged_at_end duration) id b h is)
+          (subst (λ (ls : List LogView). IsLogOf wanted (logged_at_end duration b.cpus b.limit b.history) (get_or ls d x)) (sym items)
           (logs.each d (no_book id) x (omega (arith, inside, count, length-map books (λ (e : EndingView). e.book)))));
     }
 
-all_heard : (id : SessionId) (cs : List ClientView) (duration : ℕ) (books : List EndingView) (f : Finished) (t : Told) → HaveEnded books f.report.histories.items f.states.items → length books ≡ length f.report.histories.items
-    → AreSessionBooks id (books_of books) → AreHistories id cs f.report.histories.items → f.heard ≡ t.heard → AreAllHeard true books → AreHeardEnds duration (books_of books) t.heard.items → AreHeard duration f
-all_heard id cs duration books f t ended count named left same all heard =
+all_streamed : (id : SessionId) (cs : List ClientView) (duration : ℕ) (books : List EndingView) (f : Finished) (xs ys : List AccountingView) → HaveEnded books f.report.histories.items f.states.items → length books ≡ length f.report.histories.items
+    → AreSessionBooks id (books_of books) → AreHistories id cs f.report.histories.items → xs ≡ ys → AreAllStreamed true books → AreStreamedEnds duration (books_of books) ys → AreStreamed duration f xs
+all_streamed id cs duration books f xs ys ended count named left items all streamed =
     let histories = f.report.histories.items in
-    let items : f.heard.items ≡ t.heard.items = ap (λ v. v.items) same in
     record {
       runs = runs_left true books histories f.states.items id ended count all;
-      heard_count = ap (λ (hs : List AccountingView). length hs) items ∙ heard.count ∙ length-map books (λ (e : EndingView). e.book) ∙ count;
-      heard = λ d s x inside.
+      streamed_count = ap (λ (hs : List AccountingView). length hs) items ∙ streamed.count ∙ length-map books (λ (e : EndingView). e.book) ∙ count;
+      streamed = λ d s x inside.
           let b = get_or (books_of books) d (no_book id) in
           let h = get_or histories d s in
           let is = book_at id cs books histories f.states.items d s ended count named inside (left d s inside) in
           ap (λ (hs : List AccountingView). get_or hs d x) items
-          ∙ heard.each d (no_book id) x (omega (arith, inside, count, length-map books (λ (e : EndingView). e.book)))
-          ∙ by_book (λ cpus limit entries. heard_of (run_of cpus limit (calls_of entries)) (told_at_end duration cpus limit entries)) id b h is;
+          ∙ streamed.each d (no_book id) x (omega (arith, inside, count, length-map books (λ (e : EndingView). e.book)))
+          ∙ by_book (λ cpus limit entries. streamed_of (run_of cpus limit (calls_of entries)) (logged_at_end duration cpus limit entries)) id b h is;
     }
 
-left_as : (id : SessionId) (cs : List ClientView) (duration : ℕ) (wanted : Wanted) (books : List EndingView) (f : Finished) (t : Told) → HaveEnded books f.report.histories.items f.states.items → length books ≡ length f.report.histories.items
-    → AreSessionBooks id (books_of books) → AreHistories id cs f.report.histories.items → f.logs ≡ t.logs → f.heard ≡ t.heard → AreToldAs duration wanted books t → IsLeftAs duration wanted f
-left_as id cs duration Switches books f t ended count named left logs heard told = logged id cs duration false books f t ended count named left logs told.0 told.1
-left_as id cs duration WhatHappened books f t ended count named left logs heard told = logged id cs duration true books f t ended count named left logs told.0 told.1
-left_as id cs duration Figures books f t ended count named left logs heard told = all_heard id cs duration books f t ended count named left heard told.0 told.1
-left_as id cs duration Jobs books f t ended count named left logs heard told = all_heard id cs duration books f t ended count named left heard told.0 told.1
+all_drawn : (id : SessionId) (cs : List ClientView) (window : Window) (duration : ℕ) (books : List EndingView) (f : Finished) (t : Recorded) → HaveEnded books f.report.histories.items f.states.items → length books ≡ length f.report.histories.items
+    → AreSessionBooks id (books_of books) → AreHistories id cs f.report.histories.items → f.drawn ≡ t.drawn → AreAllStreamed true books → AreDrawnEnds window duration (books_of books) t.drawn.items → AreRunsDrawn window duration f
+all_drawn id cs window duration books f t ended count named left same all drawn =
+    let items : f.drawn.items ≡ t.drawn.items = ap (λ v. v.items) same in
+    record {
+      same_window = subst (λ (ds : List DrawingView). All (λ (d : DrawingView). d.window ≡ window) ds) (sym items) drawn.same_window;
+      drawn = all_streamed id cs duration books f (given_to f.drawn.items) (given_to t.drawn.items) ended count named left (ap given_to items) all drawn.drawn;
+    }
 
-pub is_finished : (id : SessionId) (duration : ℕ) (wanted : Wanted) (cs es : List ClientView) (books : List EndingView) (f : Finished) (t : Told)
+-- what is kept is what was logged
+record IsLogged (f : Finished) (t : Recorded) : Type 0 where
+  logs : f.logs ≡ t.logs
+  streamed : f.streamed ≡ t.streamed
+  drawn : f.drawn ≡ t.drawn
+
+left_as : (id : SessionId) (cs : List ClientView) (duration : ℕ) (wanted : Wanted) (books : List EndingView) (f : Finished) (t : Recorded) → HaveEnded books f.report.histories.items f.states.items → length books ≡ length f.report.histories.items
+    → AreSessionBooks id (books_of books) → AreHistories id cs f.report.histories.items → IsLogged f t → AreLoggedAs duration wanted books t → IsLeftAs duration wanted f
+left_as id cs duration Switches books f t ended count named left same logged = logged_run id cs duration false books f t ended count named left same.logs logged.0 logged.1
+left_as id cs duration WhatHappened books f t ended count named left same logged = logged_run id cs duration true books f t ended count named left same.logs logged.0 logged.1
+left_as id cs duration Figures books f t ended count named left same logged = all_streamed id cs duration books f f.streamed.items t.streamed.items ended count named left (ap (λ v. v.items) same.streamed) logged.0 logged.1
+left_as id cs duration Jobs books f t ended count named left same logged = all_streamed id cs duration books f f.streamed.items t.streamed.items ended count named left (ap (λ v. v.items) same.streamed) logged.0 logged.1
+left_as id cs duration (Chart window) books f t ended count named left same logged = all_drawn id cs window duration books f t ended count named left same.drawn logged.0 logged.1
+
+pub is_finished : (id : SessionId) (duration : ℕ) (wanted : Wanted) (cs es : List ClientView) (books : List EndingView) (f : Finished) (t : Recorded)
     → HaveAdvanced duration cs es → IsSessionReport id es f.report → HaveEnded books f.report.histories.items f.states.items → length books ≡ length id.cpu_sets → AreSessionBooks id (books_of books) → AllEnd duration (books_of books)
-    → AreToldAs duration wanted books t → f.logs ≡ t.logs → f.heard ≡ t.heard → IsFinished id duration wanted cs f
-is_finished id duration wanted cs es books f t advanced is ended count named end told logs heard =
+    → AreLoggedAs duration wanted books t → f.logs ≡ t.logs → f.streamed ≡ t.streamed → f.drawn ≡ t.drawn → IsFinished id duration wanted cs f
+is_finished id duration wanted cs es books f t advanced is ended count named end logged logs streamed drawn =
     let histories = f.report.histories.items in
     let many : length books ≡ length histories = count ∙ sym is.left.count in
     let left : AreHistories id es histories = λ d s inside. is.left.histories d s (omega (arith, inside, is.left.count)) in
@@ -492,7 +532,7 @@ is_finished id duration wanted cs es books f t advanced is ended count named end
           let at = book_at id es books histories f.states.items d x ended many named place (left d x place) in
           subst (EndsWith duration) at.entries (end d (no_book id) (omega (arith, inside, count, length-map books (λ (e : EndingView). e.book))));
       count = ended.states_count ∙ is.left.count;
-      left = left_as id es duration wanted books f t ended many named left logs heard told;
+      left = left_as id es duration wanted books f t ended many named left (record { logs = logs; streamed = streamed; drawn = drawn }) logged;
     }
 
 -- what the clients have in a domain in which the first of them has entered nothing more

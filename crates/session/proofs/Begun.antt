@@ -10,7 +10,7 @@ use Rattle.pass_seats.specs.Lists.{PassView}
 use Rattle.domain_run.specs.declared.call.Call.TheVariants.{Advance}
 use Rattle.domain_run.specs.declared.call.Reply.TheVariants as replies
 use Rattle.domain_run.specs.Domain.{Domain, empty_domain}
-use Rattle.domain_run.specs.Happened.{told_by_ticks}
+use Rattle.domain_run.specs.Happened.{logged_by_ticks}
 use Rattle.domain_run.specs.Run.{run_of}
 use Rattle.calls_text.specs.declared.section.Entry.{Entry}
 use Rattle.calls_text.specs.SectionView.{SectionView}
@@ -23,11 +23,11 @@ use Rattle.session.specs.SessionId.{SessionId, IsSession, IsDomainIndex, cpu_set
 use Rattle.session.specs.Asks.{ClientView, client_pass_in}
 use Rattle.session.specs.Report.{IsHistoryOf, IsSessionReport}
 use Rattle.session.specs.declared.report.Report.{Report}
-use Rattle.session.specs.Begun.{section_of, played_books, AreAllMade, AreBookHistories, AreUntold, HaveWholeRuns, IsUntold, TellsItsEnd, TellTheirEnds}
-use Rattle.session.specs.RunEnd.{IsFullWith, told_at_end}
+use Rattle.session.specs.Begun.{section_of, played_books, AreAllMade, AreBookHistories, AreUnlogged, HaveWholeRuns, IsUnlogged, LogsItsEnd, LogTheirEnds}
+use Rattle.session.specs.RunEnd.{IsFullWith, logged_at_end}
 use Rattle.session.specs.private.Begun.{unplayed, without_pieces}
 use Rattle.session.specs.private.Closing.{HaveEnded}
-use Rattle.session.specs.private.Ending.{books_of, IsEndBy, IsFullAmong, unheard_ending}
+use Rattle.session.specs.private.Ending.{books_of, IsEndBy, IsFullAmong, unstreamed_ending}
 use Rattle.session.specs.private.Entering.{IsSessionBook}
 use Rattle.session.specs.private.Parts.{AreSessionBooks}
 use Rattle.session.proofs.Advanced.{kept_own}
@@ -54,13 +54,13 @@ all_made logs playing books is = subst AreAllMade (sym is) (unplayed_made logs b
 pub all_whole : (logs : Bool) (playing : List PlayingView) (books : List BookView) → playing ≡ map (unplayed logs) books → HaveWholeRuns playing
 all_whole logs playing books is = subst HaveWholeRuns (sym is) (unplayed_whole logs books)
 
-unplayed_untold : (logs : Bool) (books : List BookView) → AreUntold logs (map (unplayed logs) books)
-unplayed_untold logs [] d x inside = absurd (omega (arith, inside))
-unplayed_untold logs (b ∷ books) zero x inside = record { logs = refl; told = refl }
-unplayed_untold logs (b ∷ books) (suc d) x inside = unplayed_untold logs books d x (omega (arith, inside))
+unplayed_unlogged : (logs : Bool) (books : List BookView) → AreUnlogged logs (map (unplayed logs) books)
+unplayed_unlogged logs [] d x inside = absurd (omega (arith, inside))
+unplayed_unlogged logs (b ∷ books) zero x inside = record { logs = refl; logged = refl }
+unplayed_unlogged logs (b ∷ books) (suc d) x inside = unplayed_unlogged logs books d x (omega (arith, inside))
 
-pub all_untold : (logs : Bool) (playing : List PlayingView) (books : List BookView) → playing ≡ map (unplayed logs) books → AreUntold logs playing
-all_untold logs playing books is = subst (AreUntold logs) (sym is) (unplayed_untold logs books)
+pub all_unlogged : (logs : Bool) (playing : List PlayingView) (books : List BookView) → playing ≡ map (unplayed logs) books → AreUnlogged logs playing
+all_unlogged logs playing books is = subst (AreUnlogged logs) (sym is) (unplayed_unlogged logs books)
 
 pub books_named : (logs : Bool) (id : SessionId) (playing : List PlayingView) (books : List BookView) → playing ≡ map (unplayed logs) books → AreSessionBooks id books → AreSessionBooks id (played_books playing)
 books_named logs id playing books is named = subst (AreSessionBooks id) (sym (ap played_books is ∙ played_back logs books)) named
@@ -107,9 +107,9 @@ abbrev pub RestMade : ℕ → List PlayingView → Type 0
 RestMade n books = (d : ℕ) (p : PlayingView) → n ≤ d → d < length books → (slice_index_or books d p).left ≡ 0
 
 pub rest_made : (n m : ℕ) (books : List PlayingView) (p : PlayingView) → m ≡ n + 1 → RestMade n books → RestMade m (set books n p)
-rest_made n m books p more rest = λ d x behind inside.
-    ap (λ (x : PlayingView). x.left) (get_or-set_other books n d p x (λ same. absurd (omega (arith, same, behind, more))))
-    ∙ rest d x (omega (arith, behind, more)) (omega (arith, inside, length-set books n p))
+rest_made n m books p more rest = λ d x following inside.
+    ap (λ (x : PlayingView). x.left) (get_or-set_other books n d p x (λ same. absurd (omega (arith, same, following, more))))
+    ∙ rest d x (omega (arith, following, more)) (omega (arith, inside, length-set books n p))
 
 -- what is said of a call that was made, and of one that was not
 pub ok_so : {A E : Type 0} (r : Result A E) (P Q : Type 0) → OnOk r P → (P → Q) → OnOk r Q
@@ -124,21 +124,21 @@ pub both_ok : {A E : Type 0} (r : Result A E) (P Q R : Type 0) → OnOk r P → 
 both_ok (Ok a) P Q R p q f = f p q
 both_ok (Err e) P Q R p q f = tt
 
--- ---- what is still to be told
+-- ---- what is still to be logged
 
--- a book of which an advance was entered, or none, and nothing more was told
-pub untold_still : {A E : Type 0} (r : Result A E) (old new : PlayingView) (b : BookView) (n : ℕ) (logs : Bool) → OnOk r (new ≡ record old { book = b; left = n }) → OnErr r (new ≡ old) → IsUntold logs old → IsUntold logs new
-untold_still (Ok a) old new b n logs entered same is = subst (IsUntold logs) (sym entered) (record { logs = is.logs; told = is.told })
-untold_still (Err e) old new b n logs entered same is = subst (IsUntold logs) (sym same) is
+-- a book of which an advance was entered, or none, and nothing more was logged
+pub unlogged_still : {A E : Type 0} (r : Result A E) (old new : PlayingView) (b : BookView) (n : ℕ) (logs : Bool) → OnOk r (new ≡ record old { book = b; left = n }) → OnErr r (new ≡ old) → IsUnlogged logs old → IsUnlogged logs new
+unlogged_still (Ok a) old new b n logs entered same is = subst (IsUnlogged logs) (sym entered) (record { logs = is.logs; logged = is.logged })
+unlogged_still (Err e) old new b n logs entered same is = subst (IsUnlogged logs) (sym same) is
 
 all_but_last : (es : List Entry) (e : Entry) → take (length (es ++ e ∷ []) - 1) (es ++ e ∷ []) ≡ es
 all_but_last es e =
     let less : length (es ++ e ∷ []) - 1 ≡ length es = omega (arith, length_push es e) in
     ap (λ (n : ℕ). take n (es ++ e ∷ [])) less ∙ take-append_seam es (e ∷ [])
 
--- an advance was entered, of which no tick is made: what it tells is still to be told
-pub tells_end : (old new : PlayingView) (p q : PassView Entry) (n : ℕ) → old.at ≡ state_of old.book → EntersAlone old.book new.book p q (Advance n) (replies.Done n) → new ≡ record old { book = new.book; left = n } → TellsItsEnd n new
-tells_end old new p q n at is entered =
+-- an advance was entered, of which no tick is made: what it logs is still to be logged
+pub logs_end : (old new : PlayingView) (p q : PassView Entry) (n : ℕ) → old.at ≡ state_of old.book → EntersAlone old.book new.book p q (Advance n) (replies.Done n) → new ≡ record old { book = new.book; left = n } → LogsItsEnd n new
+logs_end old new p q n at is entered =
     let was = old.book in
     let now = new.book in
     let cpus = ap (λ (b : BookView). b.cpus) is.entered.book in
@@ -148,20 +148,20 @@ tells_end old new p q n at is entered =
     ap (λ (es : List Entry). take (length es - 1) es) history ∙ all_but_last was.history (entry_by p (Advance n) (replies.Done n)) in
     record {
       most = omega (arith, ap (λ (x : PlayingView). x.left) entered);
-      tells = ap (λ (x : PlayingView). told_by_ticks x.left x.at) entered
-          ∙ ap (told_by_ticks n) at
-          ∙ ap (λ (k : ℕ). told_by_ticks n (run_of k was.limit (calls_of was.history))) (sym cpus)
-          ∙ ap (λ (k : ℕ). told_by_ticks n (run_of now.cpus k (calls_of was.history))) (sym limit)
-          ∙ ap (λ (es : List Entry). told_by_ticks n (run_of now.cpus now.limit (calls_of es))) (sym cut);
+      has_logged = ap (λ (x : PlayingView). logged_by_ticks x.left x.at) entered
+          ∙ ap (logged_by_ticks n) at
+          ∙ ap (λ (k : ℕ). logged_by_ticks n (run_of k was.limit (calls_of was.history))) (sym cpus)
+          ∙ ap (λ (k : ℕ). logged_by_ticks n (run_of now.cpus k (calls_of was.history))) (sym limit)
+          ∙ ap (λ (es : List Entry). logged_by_ticks n (run_of now.cpus now.limit (calls_of es))) (sym cut);
     }
 
--- where the advance has no ticks, nothing is told
-pub none_tell : (n : ℕ) (books : List PlayingView) → n ≡ 0 → AreAllMade books → TellTheirEnds n books
-none_tell n books none made d x inside =
+-- where the advance has no ticks, nothing is logged
+pub none_log : (n : ℕ) (books : List PlayingView) → n ≡ 0 → AreAllMade books → LogTheirEnds n books
+none_log n books none made d x inside =
     let p = get_or books d x in
     record {
       most = omega (arith, made d x inside);
-      tells = ap (λ (k : ℕ). told_by_ticks k p.at) (made d x inside) ∙ ap (λ (k : ℕ). told_at_end k p.book.cpus p.book.limit p.book.history) (sym none);
+      has_logged = ap (λ (k : ℕ). logged_by_ticks k p.at) (made d x inside) ∙ ap (λ (k : ℕ). logged_at_end k p.book.cpus p.book.limit p.book.history) (sym none);
     }
 
 -- the first so many of the books
@@ -315,7 +315,7 @@ histories_left id clients ending books r states alike count named report ended =
     each d x inside =
         let h = get_or r.histories.items d x in
         let y = nobody id in
-        let e = unheard_ending y in
+        let e = unstreamed_ending y in
         let f : EndingView → BookView = λ v. v.book in
         let there : d < length books = omega (arith, inside, many) in
         let ends : d < length ending = omega (arith, there, length_pieces (books_of ending) books alike, length-map ending f) in

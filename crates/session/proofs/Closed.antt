@@ -13,7 +13,7 @@ use Rattle.session.specs.SessionId.{SessionId}
 use Rattle.session.specs.private.Entering.{IsSessionBook}
 use Rattle.session.specs.private.Parts.{AreSessionBooks}
 use Rattle.session.specs.private.Closing.{IsEnded, HaveEnded}
-use Rattle.session.specs.private.Ending.{AreAllHeard, books_of, unheard_ending}
+use Rattle.session.specs.private.Ending.{AreAllStreamed, books_of, unstreamed_ending}
 
 -- by the place in a list with one element more
 pub by_place_more : {X : Type 0} (P : ℕ → X → Type 0) (xs : List X) (y : X)
@@ -85,19 +85,19 @@ ended_more books histories states b s x ended at last = record {
         subst (λ (v : SectionView). IsEnded (get_or books d c) v (get_or (states ++ x ∷ []) d y)) (sym (get_or_append_left histories (s ∷ []) t d before))
         (subst (λ (v : Domain). IsEnded (get_or books d c) (get_or histories d t) v) (sym (get_or_append_left states (x ∷ []) y d there)) (ended.each d c t y before))
 
--- ---- books that are ended, and not heard
+-- ---- books that are ended, and not streamed
 
-books_back : (books : List BookView) → books_of (map unheard_ending books) ≡ books
+books_back : (books : List BookView) → books_of (map unstreamed_ending books) ≡ books
 books_back [] = refl
 books_back (b ∷ books) = ap (λ (bs : List BookView). b ∷ bs) (books_back books)
 
-pub books_ended : (ending : List EndingView) (books : List BookView) → ending ≡ map unheard_ending books → books_of ending ≡ books
+pub books_ended : (ending : List EndingView) (books : List BookView) → ending ≡ map unstreamed_ending books → books_of ending ≡ books
 books_ended ending books is = ap books_of is ∙ books_back books
 
-none_heard : (books : List BookView) → AreAllHeard false (map unheard_ending books)
-none_heard [] d e inside = absurd (omega (arith, inside))
-none_heard (b ∷ books) zero e inside = refl
-none_heard (b ∷ books) (suc d) e inside = none_heard books d e (omega (arith, inside))
+none_streamed : (books : List BookView) → AreAllStreamed false (map unstreamed_ending books)
+none_streamed [] d e inside = absurd (omega (arith, inside))
+none_streamed (b ∷ books) zero e inside = refl
+none_streamed (b ∷ books) (suc d) e inside = none_streamed books d e (omega (arith, inside))
 
-pub all_unheard : (ending : List EndingView) (books : List BookView) → ending ≡ map unheard_ending books → AreAllHeard false ending
-all_unheard ending books is = subst (AreAllHeard false) (sym is) (none_heard books)
+pub all_unstreamed : (ending : List EndingView) (books : List BookView) → ending ≡ map unstreamed_ending books → AreAllStreamed false ending
+all_unstreamed ending books is = subst (AreAllStreamed false) (sym is) (none_streamed books)

@@ -55,7 +55,7 @@ was_listed id d number b p task named seen is =
 
 pub was_changed : (id : SessionId) (d : ℕ) (b : BookView) (p : PassView Entry) (a : AdmissionView) (now : ParamsView) → IsSessionBook id d b → IsSeenBook b p → IsStale b a now
     → WasChanged id d a.number (part_with p) (moving_as a) now
-was_changed id d b p a now named seen s = record { task = s.task; listed = was_listed id d a.number b p s.task named seen s.found; differs = s.differs; told = s.told }
+was_changed id d b p a now named seen s = record { task = s.task; listed = was_listed id d a.number b p s.task named seen s.found; differs = s.differs; logged = s.logged }
 
 -- why there is no room for a move
 pub no_place : (id : SessionId) (from to : ℕ) (s : Sides) (a : AdmissionView) → IsSessionBook id from s.from → IsSessionBook id to s.to → IsSeenBook s.from s.out → IsSeenBook s.to s.into
@@ -116,17 +116,17 @@ refused_by id from to old new a b ticket back blank refusal c given why = record
 
 -- ---- two passes of a client, cut apart at the later one
 
-set_behind : {X : Type 0} (xs : List X) (e : ℕ) (y : X) → set xs e y ≡ take e xs ++ set (drop e xs) 0 y
-set_behind [] zero y = refl
-set_behind [] (suc e) y = refl
-set_behind (x ∷ xs) zero y = refl
-set_behind (x ∷ xs) (suc e) y = ap (λ l. x ∷ l) (set_behind xs e y)
+set_after : {X : Type 0} (xs : List X) (e : ℕ) (y : X) → set xs e y ≡ take e xs ++ set (drop e xs) 0 y
+set_after [] zero y = refl
+set_after [] (suc e) y = refl
+set_after (x ∷ xs) zero y = refl
+set_after (x ∷ xs) (suc e) y = ap (λ l. x ∷ l) (set_after xs e y)
 
 pub set_up : {X : Type 0} (xs : List X) (d e : ℕ) (y z : X) → d < e → set (set xs d y) e z ≡ set (take e xs) d y ++ set (drop e xs) 0 z
 set_up [] d zero y z less = absurd (omega (arith, less))
 set_up [] zero (suc e) y z less = refl
 set_up [] (suc d) (suc e) y z less = refl
-set_up (x ∷ xs) zero (suc e) y z less = ap (λ l. y ∷ l) (set_behind xs e z)
+set_up (x ∷ xs) zero (suc e) y z less = ap (λ l. y ∷ l) (set_after xs e z)
 set_up (x ∷ xs) (suc d) (suc e) y z less = ap (λ l. x ∷ l) (set_up xs d e y z (omega (arith, less)))
 set_up (x ∷ xs) d zero y z less = absurd (omega (arith, less))
 
@@ -134,7 +134,7 @@ pub set_down : {X : Type 0} (xs : List X) (d e : ℕ) (y z : X) → e < d → se
 set_down [] zero e y z less = absurd (omega (arith, less))
 set_down [] (suc d) zero y z less = refl
 set_down [] (suc d) (suc e) y z less = refl
-set_down (x ∷ xs) (suc d) zero y z less = ap (λ l. z ∷ l) (set_behind xs d y)
+set_down (x ∷ xs) (suc d) zero y z less = ap (λ l. z ∷ l) (set_after xs d y)
 set_down (x ∷ xs) (suc d) (suc e) y z less = ap (λ l. x ∷ l) (set_down xs d e y z (omega (arith, less)))
 set_down (x ∷ xs) zero e y z less = absurd (omega (arith, less))
 
@@ -148,7 +148,7 @@ high_at ps high e x inside is =
     let zero_more : e + 0 ≡ e = omega arith in
     ap (λ (l : List (PassView Entry)). get_or l 0 x) is ∙ get_or-drop e ps 0 x ∙ ap (λ (k : ℕ). get_or ps k x) zero_more ∙ get_or_default ps e x (get_or high 0 x) inside
 
--- the two parts, and what is behind them in the memory that they were cut from, are the whole
+-- the two parts, and what is after them in the memory that they were cut from, are the whole
 rejoined : (ps a b whole : List (PassView Entry)) (n : ℕ) → a ++ b ≡ whole → n ≡ length whole → take n (a ++ b ++ drop (length (a ++ b)) ps) ≡ whole
 rejoined ps a b whole n is count =
     ap (λ (l : List (PassView Entry)). take n (l ++ drop (length l) ps)) is

@@ -206,7 +206,8 @@ gets_hand gate spines spine i None (Some y) p g new is = absurd g
 gets_hand gate spines spine i (Some z) None p g new is = absurd g
 gets_hand gate spines spine i (Some z) (Some y) p g new is = hand_more gate spines spine i z y p is new g.0 g.2
 
--- while a book's passes are dealt, from the last on: the hands of the passes that are left are as they were, and the others have theirs
+-- while a book's passes are dealt, from the last on: the hands of the passes that are left are as
+-- they were, and the others have theirs
 pub record Dealing (was hands : List (Option Hand)) (all left : List (PassView Entry)) : Type 0 where
   pub count : length hands ≡ length was
   pub few : length left ≤ length hands
@@ -311,7 +312,7 @@ are_named o gate books sets clients is count number are d x inside =
       place = omega (arith, here, ap length is, length_sets 0 o.domains.items);
     }
 
--- ---- the books behind their locks
+-- ---- the books after their locks
 
 pub one_more : (books left : List BookView) (b : BookView) → books ≡ left ++ b ∷ [] → length books ≡ length left + 1
 one_more books left b is = ap length is ∙ length_push left b

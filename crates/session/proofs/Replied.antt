@@ -108,15 +108,15 @@ same_regraded old new p q number params (Err e) entered full = same_stays old ne
 
 -- ---- what the word has to do with the reply to a regrade
 
-among : {X : Type 0} (P : X → Type 0) (before : List X) (x : X) (behind : List X) → All P (before ++ x ∷ behind) → P x
-among P before x behind all =
-    subst P (get_or-append-add before (x ∷ behind) 0 x) (all (length before + 0) x (omega (arith, length-append before (x ∷ behind))))
+among : {X : Type 0} (P : X → Type 0) (before : List X) (x : X) (following : List X) → All P (before ++ x ∷ following) → P x
+among P before x following all =
+    subst P (get_or-append-add before (x ∷ following) 0 x) (all (length before + 0) x (omega (arith, length-append before (x ∷ following))))
 
 asks_word : (b : BookView) (number bw : ℕ) (tickets : List Held) (word : Option ℕ) → All (λ h. IsTicketOf b.gate b.domain h.ticket) b.tickets → AsksTheWord number bw b.tickets tickets word → AsksWord b.gate b.domain bw word
 asks_word b number bw tickets word all asked =
     let P : Held → Type 0 = λ h. IsTicketOf b.gate b.domain h.ticket in
     let x : Held = record { number = number; ticket = asked.was } in
-    record { was = asked.was; becomes = asked.becomes; own = among P asked.before x asked.behind (subst (All P) asked.old_tickets all); answered = asked.answered }
+    record { was = asked.was; becomes = asked.becomes; own = among P asked.before x asked.following (subst (All P) asked.old_tickets all); answered = asked.answered }
 
 none_asked : (gate : GateId) (d bw : ℕ) (word : Option ℕ) (reply other : Reply) → word ≡ None → reply ≡ other → other ≢ replies.Changed → IsByWord gate d bw word reply
 none_asked gate d bw (Some seen) reply other none is differ = absurd cc

@@ -67,43 +67,43 @@ one_sees_all id d part saw one client =
 
 pub refusal_seen : (id : SessionId) (d : ℕ) (b : BookView) (p : PassView Entry) (answer : Answer)
     → IsSessionBook id d b → IsSeenBook b p → IsWhyNotMade b answer → RefusalWasSeen id d (part_with p) answer
-refusal_seen id d b p (Ok reply) named seen told = tt
-refusal_seen id d b p (Err refusals.Full) named seen told = saw_full id d b p named seen told
-refusal_seen id d b p (Err refusals.Enomem) named seen told = saw_room id d b p named seen told
-refusal_seen id d b p (Err refusals.Twice) named seen told = tt
-refusal_seen id d b p (Err (refusals.Busy n)) named seen told = tt
-refusal_seen id d b p (Err refusals.Eperm) named seen told = tt
-refusal_seen id d b p (Err (refusals.Einval k)) named seen told = tt
-refusal_seen id d b p (Err refusals.Esrch) named seen told = tt
-refusal_seen id d b p (Err (refusals.Stale now)) named seen told = tt
-refusal_seen id d b p (Err refusals.SameDomain) named seen told = tt
+refusal_seen id d b p (Ok reply) named seen logged = tt
+refusal_seen id d b p (Err refusals.Full) named seen logged = saw_full id d b p named seen logged
+refusal_seen id d b p (Err refusals.Enomem) named seen logged = saw_room id d b p named seen logged
+refusal_seen id d b p (Err refusals.Twice) named seen logged = tt
+refusal_seen id d b p (Err (refusals.Busy n)) named seen logged = tt
+refusal_seen id d b p (Err refusals.Eperm) named seen logged = tt
+refusal_seen id d b p (Err (refusals.Einval k)) named seen logged = tt
+refusal_seen id d b p (Err refusals.Esrch) named seen logged = tt
+refusal_seen id d b p (Err (refusals.Stale now)) named seen logged = tt
+refusal_seen id d b p (Err refusals.SameDomain) named seen logged = tt
 
 answer_seen : (id : SessionId) (d : ℕ) (b : BookView) (p : PassView Entry) (call : Call) (answer : Answer)
     → IsSessionBook id d b → IsSeenBook b p → IsCallAnswered b call answer → AnswerWasSeen id d (part_with p) call answer
-answer_seen id d b p call (Ok reply) named seen told = would_reply id d b p call reply named seen told
-answer_seen id d b p call (Err refusal) named seen told = refusal_seen id d b p (Err refusal) named seen told
+answer_seen id d b p call (Ok reply) named seen logged = would_reply id d b p call reply named seen logged
+answer_seen id d b p call (Err refusal) named seen logged = refusal_seen id d b p (Err refusal) named seen logged
 
 admission_seen : (id : SessionId) (d : ℕ) (b : BookView) (p : PassView Entry) (call : Call) (answer : Answer)
     → IsSessionBook id d b → IsSeenBook b p → IsAdmissionAnswered b call answer → AdmissionWasSeen id d (part_with p) call answer
-admission_seen id d b p call (Ok reply) named seen told = would_reply id d b p call reply named seen told
+admission_seen id d b p call (Ok reply) named seen logged = would_reply id d b p call reply named seen logged
 admission_seen id d b p call (Err refusals.Full) named seen (inl full) = inl (saw_full id d b p named seen full)
 admission_seen id d b p call (Err refusals.Full) named seen (inr is) = inr (would_reply id d b p call replies.Full named seen is)
-admission_seen id d b p call (Err refusals.Twice) named seen told = would_reply id d b p call replies.Twice named seen told
-admission_seen id d b p call (Err refusals.Enomem) named seen told = absurd told
-admission_seen id d b p call (Err (refusals.Busy n)) named seen told = absurd told
-admission_seen id d b p call (Err refusals.Eperm) named seen told = absurd told
-admission_seen id d b p call (Err (refusals.Einval k)) named seen told = absurd told
-admission_seen id d b p call (Err refusals.Esrch) named seen told = absurd told
-admission_seen id d b p call (Err (refusals.Stale now)) named seen told = absurd told
-admission_seen id d b p call (Err refusals.SameDomain) named seen told = absurd told
+admission_seen id d b p call (Err refusals.Twice) named seen logged = would_reply id d b p call replies.Twice named seen logged
+admission_seen id d b p call (Err refusals.Enomem) named seen logged = absurd logged
+admission_seen id d b p call (Err (refusals.Busy n)) named seen logged = absurd logged
+admission_seen id d b p call (Err refusals.Eperm) named seen logged = absurd logged
+admission_seen id d b p call (Err (refusals.Einval k)) named seen logged = absurd logged
+admission_seen id d b p call (Err refusals.Esrch) named seen logged = absurd logged
+admission_seen id d b p call (Err (refusals.Stale now)) named seen logged = absurd logged
+admission_seen id d b p call (Err refusals.SameDomain) named seen logged = absurd logged
 
 pub seen_as : (id : SessionId) (d : ℕ) (b : BookView) (p : PassView Entry) (ask : Ask) (answer : Answer)
     → IsSessionBook id d b → IsSeenBook b p → IsBookAnswer b ask answer → WasSeenFor id d (part_with p) ask answer
-seen_as id d b p (asks.Admit prepared ticket) answer named seen told = admission_seen id d b p (admission prepared) answer named seen told
-seen_as id d b p (asks.Regrade number params) answer named seen told = refusal_seen id d b p answer named seen told
-seen_as id d b p (asks.Wake number) answer named seen told = answer_seen id d b p (calls.Wake number) answer named seen told
-seen_as id d b p (asks.Leave number) answer named seen told = answer_seen id d b p (calls.Leave number) answer named seen told
-seen_as id d b p (asks.Limit piece limit) answer named seen told = refusal_seen id d b p answer named seen told
+seen_as id d b p (asks.Admit prepared ticket) answer named seen logged = admission_seen id d b p (admission prepared) answer named seen logged
+seen_as id d b p (asks.Regrade number params) answer named seen logged = refusal_seen id d b p answer named seen logged
+seen_as id d b p (asks.Wake number) answer named seen logged = answer_seen id d b p (calls.Wake number) answer named seen logged
+seen_as id d b p (asks.Leave number) answer named seen logged = answer_seen id d b p (calls.Leave number) answer named seen logged
+seen_as id d b p (asks.Limit piece limit) answer named seen logged = refusal_seen id d b p answer named seen logged
 
 -- of an admission that the gate had granted
 pub entry_seen : (id : SessionId) (d : ℕ) (part : ClientPart) (call : Call) (answer : Answer) (next : Option BlankView)

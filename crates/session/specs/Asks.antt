@@ -109,7 +109,7 @@ pub record IsGivenBackAfter (piece : BlankView) (d bw : ℕ) (back : BlankView) 
   pub given : IsGive ticket back
 
 -- an admission of so much to a domain, with what is in hand before and after. EBUSY of the gate is
--- its answer to this very piece; without memory the gate was not asked; Full is told without a
+-- its answer to this very piece; without memory the gate was not asked; Full is logged without a
 -- piece too, where there was none; and whatever else the domain refused, the gate had granted, and
 -- it was given back
 abbrev pub AsksGate : GateId → ℕ → ℕ → Option BlankView → Answer → Option BlankView → Type 0
@@ -183,12 +183,12 @@ client_pass_in c d = slice_index_or c.passes d []
 abbrev pub part_in : ClientView → ℕ → ClientPart
 part_in c d = record { client = c.number; entries = client_pass_in c d }
 
--- behind its entries in a domain stand those of these calls
+-- after its entries in a domain stand those of these calls
 abbrev pub followed_by : ClientView → ℕ → List Made → List Entry
 followed_by c d made =
     client_pass_in c d ++ entries_from c.number (length (client_pass_in c d)) made
 
--- in each domain these calls stand behind what the client had entered, in their order, and nothing
+-- in each domain these calls stand after what the client had entered, in their order, and nothing
 -- else does
 pub record Makes (c c' : ClientView) (made : ℕ → List Made) : Type 0 where
   pub number : c'.number ≡ c.number

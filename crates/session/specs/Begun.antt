@@ -1,13 +1,13 @@
 -- A run of which client 1's advance is entered in every book before its ticks are made (own).
 use Rattle.std.specs.Prelude.{◌≡◌, ℕ, ◌<◌, ◌≤◌, Bool, List, [], length, map, All, slice_index_or}
-use Rattle.domain_run.specs.Happened.{told_by_ticks}
+use Rattle.domain_run.specs.Happened.{logged_by_ticks}
 use Rattle.calls_text.specs.SectionView.{SectionView}
 use Rattle.call_book.specs.Book.{BookView}
 use Rattle.call_book.specs.Playing.{PlayingView, HasWholeRun}
 use Rattle.session.specs.SessionId.{SessionId}
 use Rattle.session.specs.Asks.{ClientView}
 use Rattle.session.specs.Report.{IsHistoryOf}
-use Rattle.session.specs.RunEnd.{EndsWith, HaveAdvanced, told_at_end}
+use Rattle.session.specs.RunEnd.{EndsWith, HaveAdvanced, logged_at_end}
 
 -- the history of a book, as a session's end leaves it
 abbrev pub section_of : BookView → SectionView
@@ -38,26 +38,26 @@ abbrev pub HaveWholeRuns : List PlayingView → Type 0
 HaveWholeRuns books = All HasWholeRun books
 
 -- what happens in a book is logged if it is wanted, and the log is empty
-pub record IsUntold (wanted : Bool) (p : PlayingView) : Type 0 where
+pub record IsUnlogged (wanted : Bool) (p : PlayingView) : Type 0 where
   pub logs : p.logs ≡ wanted
-  pub told : p.told ≡ []
+  pub logged : p.logged ≡ []
 
-abbrev pub AreUntold : Bool → List PlayingView → Type 0
-AreUntold wanted books = All (IsUntold wanted) books
+abbrev pub AreUnlogged : Bool → List PlayingView → Type 0
+AreUnlogged wanted books = All (IsUnlogged wanted) books
 
 -- at most so many ticks of a book are left, and they tell what so many ticks at the end of its
--- history tell
-pub record TellsItsEnd (ticks : ℕ) (p : PlayingView) : Type 0 where
+-- history log
+pub record LogsItsEnd (ticks : ℕ) (p : PlayingView) : Type 0 where
   pub most : p.left ≤ ticks
-  pub tells : told_by_ticks p.left p.at
-      ≡ told_at_end ticks p.book.cpus p.book.limit p.book.history
+  pub has_logged : logged_by_ticks p.left p.at
+      ≡ logged_at_end ticks p.book.cpus p.book.limit p.book.history
 
-abbrev pub TellTheirEnds : ℕ → List PlayingView → Type 0
-TellTheirEnds ticks books = All (TellsItsEnd ticks) books
+abbrev pub LogTheirEnds : ℕ → List PlayingView → Type 0
+LogTheirEnds ticks books = All (LogsItsEnd ticks) books
 
 -- the run is begun, by clients that had entered so much: client 1's advance of the whole duration
 -- is the last entry of each history, and nothing else was entered; at hand and to come are the
--- switches of the run of each history, and what the advance tells is still to be told
+-- switches of the run of each history, and what the advance logs is still to be logged
 pub record IsRunBegun (id : SessionId) (duration : ℕ) (logs : Bool) (clients : List ClientView)
     (books : List PlayingView) (rest : UnderWayView) : Type 0 where
   pub advanced : HaveAdvanced duration clients rest.clients
@@ -67,5 +67,5 @@ pub record IsRunBegun (id : SessionId) (duration : ℕ) (logs : Bool) (clients :
   pub ends : (d : ℕ) (x : BookView) → d < length rest.books
       → EndsWith duration (slice_index_or rest.books d x).history
   pub whole : HaveWholeRuns books
-  pub untold : AreUntold logs books
-  pub tell : TellTheirEnds duration books
+  pub unlogged : AreUnlogged logs books
+  pub say : LogTheirEnds duration books

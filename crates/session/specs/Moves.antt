@@ -43,7 +43,7 @@ pub record WasChanged (id : SessionId) (d number : ℕ) (part : ClientPart) (was
   pub task : Moving
   pub listed : WasListed id d number part task
   pub differs : task ≢ was
-  pub told : now ≡ task.params
+  pub logged : now ≡ task.params
 
 -- ---- the answers
 

@@ -1,16 +1,18 @@
 -- How a run of a scenario ends: client 1 advances each domain, and all books are closed (own).
 use Rattle.std.specs.Prelude.{◌≡◌, ℕ, ◌+◌, ◌-◌, ◌<◌, ◌==◌, ◌&&◌, nat_lt, if◌then◌else◌, Bool, true, false, IsTrue, List, [], ◌∷◌}
-use Rattle.std.specs.Prelude.{◌++◌, length, take, Some, slice_index_or}
+use Rattle.std.specs.Prelude.{◌++◌, length, map, take, All, Some, slice_index_or}
 use Rattle.domain_run.specs.declared.call.Call.TheVariants.{Advance}
 use Rattle.domain_run.specs.declared.call.Reply.TheVariants as replies
 use Rattle.domain_run.specs.declared.happened.Happened.{Happened}
-use Rattle.domain_run.specs.Happened.{told_by_ticks}
+use Rattle.domain_run.specs.Happened.{logged_by_ticks}
 use Rattle.domain_run.specs.Log.{LogView}
 use Rattle.domain_run.specs.Domain.{Domain}
 use Rattle.domain_run.specs.Passing.{without_switches}
 use Rattle.domain_run.specs.Run.{run_of}
 use Rattle.run_figures.specs.Accounting.{AccountingView}
-use Rattle.heard_run.specs.Heard.{heard_of}
+use Rattle.streamed_run.specs.Streamed.{streamed_of}
+use Rattle.chart_pieces.specs.declared.window.Window.{Window}
+use Rattle.chart_pieces.specs.Drawing.{DrawingView}
 use Rattle.calls_text.specs.declared.section.Entry.{Entry}
 use Rattle.calls_text.specs.Histories.{calls_of}
 use Rattle.calls_text.specs.SectionView.{SectionView}
@@ -19,7 +21,7 @@ use Rattle.session.specs.declared.fault.EndFault.{EndFault}
 use Rattle.session.specs.declared.fault.EndFault.TheVariants.{Full, Memory}
 use Rattle.session.specs.declared.report.Finished.{Finished}
 use Rattle.session.specs.declared.report.Wanted.{Wanted}
-use Rattle.session.specs.declared.report.Wanted.TheVariants.{Switches, Happened as WhatHappened, Figures, Jobs}
+use Rattle.session.specs.declared.report.Wanted.TheVariants.{Switches, Happened as WhatHappened, Figures, Jobs, Chart}
 use Rattle.session.specs.SessionId.{SessionId, IsDomainIndex}
 use Rattle.session.specs.Asks.{ClientView, Made, Makes}
 use Rattle.session.specs.Report.{IsHistoryOf, IsSessionReport}
@@ -47,14 +49,14 @@ EndsWith duration history = 0 < duration → IsEnd duration history
 
 -- what so many ticks at the end of a domain's history tell: from the state that all entries but the
 -- last lead to
-abbrev pub told_at_end : ℕ → ℕ → ℕ → List Entry → List Happened
-told_at_end ticks cpus limit entries =
-    told_by_ticks ticks (run_of cpus limit (calls_of (take (length entries - 1) entries)))
+abbrev pub logged_at_end : ℕ → ℕ → ℕ → List Entry → List Happened
+logged_at_end ticks cpus limit entries =
+    logged_by_ticks ticks (run_of cpus limit (calls_of (take (length entries - 1) entries)))
 
--- a log that keeps what it is told where that is wanted, and has exactly this then
-pub record IsLogOf (wanted : Bool) (told : List Happened) (log : LogView) : Type 0 where
+-- a log that keeps what it logs where that is wanted, and has exactly this then
+pub record IsLogOf (wanted : Bool) (logged : List Happened) (log : LogView) : Type 0 where
   pub alike : log.wanted ≡ wanted
-  pub has : IsTrue wanted → log.happened ≡ told
+  pub has : IsTrue wanted → log.happened ≡ logged
 
 -- ---- what it leaves
 
@@ -75,33 +77,41 @@ abbrev pub run_in : SectionView → Domain
 run_in h = run_of h.cpus h.limit (calls_of h.entries)
 
 -- the states are the runs of the histories; the log of each domain has what client 1's advance
--- tells, where that is wanted, and nothing where the duration is 0
-pub record AreLogged (duration : ℕ) (wanted : Bool) (f : Finished) : Type 0 where
+-- logs, where that is wanted, and nothing where the duration is 0
+pub record AreRunsLogged (duration : ℕ) (wanted : Bool) (f : Finished) : Type 0 where
   pub runs : AreRuns f.report.histories.items f.states.items
   pub logs_count : length f.logs.items ≡ length f.report.histories.items
   pub logs : (d : ℕ) (s : SectionView) (x : LogView) → d < length f.report.histories.items
       → let h = slice_index_or f.report.histories.items d s in
-      IsLogOf wanted (told_at_end duration h.cpus h.limit h.entries)
+      IsLogOf wanted (logged_at_end duration h.cpus h.limit h.entries)
       (slice_index_or f.logs.items d x)
 
--- the states are those runs without their switches; all that was heard of each is its switches, and
--- what client 1's advance tells
-pub record AreHeard (duration : ℕ) (f : Finished) : Type 0 where
+-- the states are those runs without their switches; all that was streamed of each is its switches,
+-- and what client 1's advance logs
+pub record AreStreamed (duration : ℕ) (f : Finished) (accountings : List AccountingView)
+    : Type 0 where
   pub runs : (d : ℕ) (s : SectionView) (x : Domain) → d < length f.report.histories.items
       → slice_index_or f.states.items d x
       ≡ without_switches (run_in (slice_index_or f.report.histories.items d s))
-  pub heard_count : length f.heard.items ≡ length f.report.histories.items
-  pub heard : (d : ℕ) (s : SectionView) (x : AccountingView) → d < length f.report.histories.items
+  pub streamed_count : length accountings ≡ length f.report.histories.items
+  pub streamed : (d : ℕ) (s : SectionView) (x : AccountingView)
+      → d < length f.report.histories.items
       → let h = slice_index_or f.report.histories.items d s in
-      slice_index_or f.heard.items d x
-      ≡ heard_of (run_in h) (told_at_end duration h.cpus h.limit h.entries)
+      slice_index_or accountings d x
+      ≡ streamed_of (run_in h) (logged_at_end duration h.cpus h.limit h.entries)
+
+-- all of that is drawn, in this window
+pub record AreRunsDrawn (window : Window) (duration : ℕ) (f : Finished) : Type 0 where
+  pub same_window : All (λ (d : DrawingView). d.window ≡ window) f.drawn.items
+  pub drawn : AreStreamed duration f (map (λ (d : DrawingView). d.streamed) f.drawn.items)
 
 -- by what is wanted
 abbrev pub IsLeftAs : ℕ → Wanted → Finished → Type 0
-IsLeftAs duration Switches f = AreLogged duration false f
-IsLeftAs duration WhatHappened f = AreLogged duration true f
-IsLeftAs duration Figures f = AreHeard duration f
-IsLeftAs duration Jobs f = AreHeard duration f
+IsLeftAs duration Switches f = AreRunsLogged duration false f
+IsLeftAs duration WhatHappened f = AreRunsLogged duration true f
+IsLeftAs duration Figures f = AreStreamed duration f f.streamed.items
+IsLeftAs duration Jobs f = AreStreamed duration f f.streamed.items
+IsLeftAs duration (Chart window) f = AreRunsDrawn window duration f
 
 -- what the end of a run leaves, by clients that had entered so much
 pub record IsFinished (id : SessionId) (duration : ℕ) (wanted : Wanted) (clients : List ClientView)

@@ -77,7 +77,7 @@ AdmissionWasSeen id d part call (Err refusals.Twice) = WouldReply id d part call
 AdmissionWasSeen id d part call (Err _) = ⊥
 
 -- the same, by what is in hand then. The gate's EBUSY and ENOMEM come before the lock, and Full is
--- told without a piece too, where there was none: nothing was seen then
+-- logged without a piece too, where there was none: nothing was seen then
 abbrev pub EntryWasSeen : SessionId → ℕ → ClientPart → Call → Result Reply Refusal
     → Option BlankView → Type 0
 EntryWasSeen id d part call (Ok reply) next = WouldReply id d part call reply

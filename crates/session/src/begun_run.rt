@@ -5,7 +5,7 @@ ghost use Rattle.std.specs.Prelude.{◌≡◌, ◌<◌, ◌≤◌, Bool, [], len
 ghost use Rattle.std.specs.Vec.Iter.{into_iter_items};
 ghost use Rattle.session.specs.SessionId.{IsSession};
 ghost use Rattle.session.specs.Asks.{Makes};
-ghost use Rattle.session.specs.Begun.{played_books, section_of, AreAllMade, AreBookHistories, AreUntold, HaveWholeRuns, IsRunBegun, TellTheirEnds};
+ghost use Rattle.session.specs.Begun.{played_books, section_of, AreAllMade, AreBookHistories, AreUnlogged, HaveWholeRuns, IsRunBegun, LogTheirEnds};
 ghost use Rattle.session.specs.Report.{IsHistoryOf, IsSessionReport};
 ghost use Rattle.session.specs.RunEnd.{advance_of, FirstIsOne, IsFullWith, IsRunStopped};
 ghost use Rattle.session.specs.private.Begun.{unplayed, without_pieces};
@@ -13,6 +13,7 @@ ghost use Rattle.session.specs.private.Closing.{IsClosingRoom};
 ghost use Rattle.session.specs.private.Ending.{books_of, AllEnd, IsFullAmong};
 ghost use Rattle.session.specs.private.Entering.{IsSessionBook};
 ghost use Rattle.session.specs.private.Parts.{AreBlanksOf, AreSessionBooks};
+ghost use Rattle.limits.specs.Limits.{max_advance};
 
 use crate::client::Client;
 use crate::closing_session::{Ending, Remains, Room, Unlocked};
@@ -133,15 +134,15 @@ fn begin_all<N: Names>(
     requires whole { HaveWholeRuns books.old.items }
     requires first { client.old.number ≡ 1 }
     requires some { 0 < duration }
-    requires most { duration ≤ 60000000 }
+    requires most { duration ≤ max_advance }
     ensures named { AreSessionBooks N.id (played_books books.new.items) }
     ensures count { length books.new.items ≡ length books.old.items }
     ensures made { OnOk result (Makes client.old client.new (λ d. advance_of duration 1)) }
     ensures ends { OnOk result (AllEnd duration (played_books books.new.items)) }
     ensures whole { HaveWholeRuns books.new.items }
-    ensures untold { (logs : Bool) → AreUntold logs books.old.items
-        → AreUntold logs books.new.items }
-    ensures tell { OnOk result (TellTheirEnds duration books.new.items) }
+    ensures unlogged { (logs : Bool) → AreUnlogged logs books.old.items
+        → AreUnlogged logs books.new.items }
+    ensures say { OnOk result (LogTheirEnds duration books.new.items) }
     ensures full { OnErr result
         (IsFullAmong duration (played_books books.new.items) client.old client.new) }
 {
@@ -163,15 +164,15 @@ fn begin<N: Names>(
     requires made { AreAllMade books.old.items }
     requires whole { HaveWholeRuns books.old.items }
     requires first { client.old.number ≡ 1 }
-    requires most { duration ≤ 60000000 }
+    requires most { duration ≤ max_advance }
     ensures named { AreSessionBooks N.id (played_books books.new.items) }
     ensures count { length books.new.items ≡ length books.old.items }
     ensures made { OnOk result (Makes client.old client.new (λ d. advance_of duration 1)) }
     ensures ends { OnOk result (AllEnd duration (played_books books.new.items)) }
     ensures whole { HaveWholeRuns books.new.items }
-    ensures untold { (logs : Bool) → AreUntold logs books.old.items
-        → AreUntold logs books.new.items }
-    ensures tell { OnOk result (TellTheirEnds duration books.new.items) }
+    ensures unlogged { (logs : Bool) → AreUnlogged logs books.old.items
+        → AreUnlogged logs books.new.items }
+    ensures say { OnOk result (LogTheirEnds duration books.new.items) }
     ensures full { OnErr result
         (IsFullAmong duration (played_books books.new.items) client.old client.new) }
 {
@@ -213,9 +214,9 @@ fn agree_with_all<N: Names>(books: &mut Vec<PlayingBook>, clients: &mut Vec<Clie
 /// client 1 enter an advance of the whole duration, in microseconds, as the last entry of each
 /// book; no call is made where the duration is 0. No tick is made yet. Each pass is compared with
 /// its book. From here on the histories are those of the whole run, and nothing is refused:
-/// [`PlayingBook::fill`] makes ticks whose switches are wanted, [`PlayingBook::fill_told`] ticks of
-/// which also what happens is wanted, if the books have logs, and [`finish_end`] makes those that
-/// are left and ends the session. [`shut_end`] ends it at any time, whatever is left.
+/// [`PlayingBook::fill`] makes ticks whose switches are wanted, [`PlayingBook::fill_logged`] ticks
+/// of which also what happens is wanted, if the books have logs, and [`finish_end`] makes those
+/// that are left and ends the session. [`shut_end`] ends it at any time, whatever is left.
 ///
 /// # Errors
 /// [`EndFault::Full`] where the history of a domain has no room for the advance.
@@ -230,7 +231,7 @@ pub fn begin_end<N: Names>(
 ) -> Result<RunBegun<N>, EndFault>
     requires some { 0 < length clients.items }
     requires first { FirstIsOne clients.items }
-    requires duration { duration ≤ 60000000 }
+    requires duration { duration ≤ max_advance }
     ensures ok { IfOk result
         (λ r. IsRunBegun N.id duration logs clients.items r.books.items r.rest) }
     ensures err { IfErr result (IsRunStopped (IsFullWith N.id duration clients.items)) }

@@ -1,4 +1,4 @@
-//! The books of a session, each behind a lock whose type tells its domain.
+//! The books of a session, each after a lock whose type tells its domain.
 
 ghost use Rattle.std.specs.Prelude.{◌≡◌, ◌≤◌, ◌+◌, min, nat_lt, is_some, length, [], IfSome, vec_capacity};
 ghost use Rattle.session.specs.private.Parts.{AreSessionBooks};
@@ -11,7 +11,7 @@ use call_book::Domain;
 use std::marker::PhantomData;
 use std::sync::{Mutex, Wait};
 
-/// The domains of a session, each behind a lock whose type tells its place.
+/// The domains of a session, each after a lock whose type tells its place.
 pub(crate) struct Books<N: Names> {
     pub(crate) book0: Option<Mutex<LockedBook<N, 0>>>,
     pub(crate) book1: Option<Mutex<LockedBook<N, 1>>>,
@@ -49,7 +49,7 @@ macro_rules! at_place {
 
 pub(crate) use at_place;
 
-/// Puts the last book behind its lock, where it is that of this place. The books are those of the
+/// Puts the last book after its lock, where it is that of this place. The books are those of the
 /// first domains: at most one more than the place before, and at most as many after.
 fn locked<N: Names, const D: usize>(books: &mut Vec<BoxedDomain>) -> Option<Mutex<LockedBook<N, D>>>
     requires named { AreSessionBooks N.id books.old.items }

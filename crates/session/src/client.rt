@@ -4,19 +4,19 @@ ghost use Rattle.std.specs.Prelude.{◌≡◌, Bool, Some, None, IfSome, IfNone,
 ghost use Rattle.attr_check.specs.Accepted.{accepted, params_of};
 ghost use Rattle.domain_run.specs.declared.call.Call.TheVariants as calls;
 ghost use Rattle.domain_run.specs.Domain.{IsLimit};
-ghost use Rattle.domain_run.specs.Log.{Tells};
+ghost use Rattle.domain_run.specs.Log.{HasLogged};
 ghost use Rattle.calls_text.specs.Limits.{IsCall};
 ghost use Rattle.call_book.specs.Book.{IsMember, IsFull, admission, own_entries};
 ghost use Rattle.call_book.specs.Playing.{HasWholeRun};
-ghost use Rattle.session.specs.Begun.{IsUntold, TellsItsEnd};
+ghost use Rattle.session.specs.Begun.{IsUnlogged, LogsItsEnd};
 ghost use Rattle.session.specs.SessionId.{IsSession, IsDomainIndex, cpu_set_of, spine_of};
 ghost use Rattle.session.specs.Seen.{AnswerWasSeen, EntryWasSeen, RefusalWasSeen};
 ghost use Rattle.session.specs.Asks.{Asks, admit_call, client_pass_in, part_in, Makes, made_by, MakesRegrade, MakesLimit, MakesAdvance, RefusesOnlyFull, RefusesOnlyFullOrMemory, IsLastFound, blank_or_new, AsksGate, IsHandAfter};
 ghost use Rattle.session.specs.Clients.{IsNew};
 ghost use Rattle.session.specs.private.Parts.{IsHand};
 ghost use Rattle.session.specs.private.Entering.{IsAdvancedFor, IsAsk, IsDoneFor, IsEntryVerdict, IsSessionBook};
-ghost use Rattle.session.specs.RunEnd.{IsRunStopped, told_at_end};
-ghost use Rattle.session.specs.private.Ending.{MakesAll, IsEndBy, IsHeardOf};
+ghost use Rattle.session.specs.RunEnd.{IsRunStopped, logged_at_end};
+ghost use Rattle.session.specs.private.Ending.{MakesAll, IsEndBy, IsStreamedOf};
 
 use crate::books::at_place;
 use crate::fault::EndFault;
@@ -28,9 +28,10 @@ use crate::shared::{Shared, Shares};
 use attr_check::{Params, check};
 use bw_gate::{Blank, Gate, Take, used_of};
 use call_book::{
-    AdvanceError, Domain, EndingBook, Full, HeardAdvance, NoMemory, Pass, PlayingBook, Prepared,
-    prepare,
+    AdvanceError, Domain, DrawnAdvance, EndingBook, Full, NoMemory, Pass, PlayingBook, Prepared,
+    StreamedAdvance, prepare,
 };
+use chart_pieces::{Drawing, Window};
 use domain_run::{Log, Reply};
 use rtapp_scenario::TaskSpec;
 use run_figures::Accounting;
@@ -39,16 +40,30 @@ use std::marker::{Model, PhantomData};
 use std::sync::{Mutex, Wait};
 use std::thread::Threads;
 
-/// What was heard, where all ticks were made.
-fn all_heard(heard: HeardAdvance, ticks: u64) -> Result<Accounting, EndFault>
-    ensures ok { IfOk result (λ a. (heard.ticks ≡ ticks) × (a ≡ heard.accounting)) }
+/// What was streamed, where all ticks were made.
+fn all_streamed(streamed: StreamedAdvance, ticks: u64) -> Result<Accounting, EndFault>
+    ensures ok { IfOk result (λ a. (streamed.ticks ≡ ticks) × (a ≡ streamed.accounting)) }
     ensures err { IfErr result (IsRunStopped ⊥) }
 {
-    if heard.ticks == ticks {
-        Ok(heard.accounting)
+    if streamed.ticks == ticks {
+        Ok(streamed.accounting)
     } else {
         // For the prover alone: dropped by a call, and not field by field.
-        drop(heard.accounting);
+        drop(streamed.accounting);
+        Err(EndFault::Memory)
+    }
+}
+
+/// What was drawn, if all ticks were made.
+fn all_drawn(drawn: DrawnAdvance, ticks: u64) -> Result<Drawing, EndFault>
+    ensures ok { IfOk result (λ d. (drawn.ticks ≡ ticks) × (d ≡ drawn.drawing)) }
+    ensures err { IfErr result (IsRunStopped ⊥) }
+{
+    if drawn.ticks == ticks {
+        Ok(drawn.drawing)
+    } else {
+        // For the prover alone: dropped by a call, and not field by field.
+        drop(drawn.drawing);
         Err(EndFault::Memory)
     }
 }
@@ -189,8 +204,8 @@ impl<N: Names> Client<N> {
         ensures made { OnOk result (MakesAll self.old self.new place ticks) }
         ensures ends { OnOk result (IsEndBy self.old.number ticks book.new.book.history) }
         ensures whole { HasWholeRun book.old → HasWholeRun book.new }
-        ensures untold { (logs : Bool) → IsUntold logs book.old → IsUntold logs book.new }
-        ensures tells { OnOk result (HasWholeRun book.old → TellsItsEnd ticks book.new) }
+        ensures unlogged { (logs : Bool) → IsUnlogged logs book.old → IsUnlogged logs book.new }
+        ensures has_logged { OnOk result (HasWholeRun book.old → LogsItsEnd ticks book.new) }
         ensures full { OnErr result (IsFull book.new.book × (self.new ≡ self.old)) }
     {
         // For the prover alone: a look at the domain brings that it is the run of the history.
@@ -198,8 +213,8 @@ impl<N: Names> Client<N> {
         book.begin_advance(&mut self.passes[place], ticks)
     }
 
-    /// Makes exactly so many ticks of a domain that stands behind no lock, 1 to 60000000, as one
-    /// entry of its book; the log is told what happens in them. `Full` where the book is full:
+    /// Makes exactly so many ticks of a domain that stands after no lock, 1 to 60000000, as one
+    /// entry of its book; the log records what happens in them. `Full` where the book is full:
     /// nothing has changed. `Memory` where there was no memory for all ticks: an entry of those
     /// that were made stands, where there were any.
     pub(crate) fn advance_book<R: Threads + Wait>(
@@ -218,22 +233,22 @@ impl<N: Names> Client<N> {
         ensures domains { length self.old.passes ≡ length N.id.cpu_sets }
         ensures made { OnOk result (MakesAll self.old self.new place ticks) }
         ensures ends { OnOk result (IsEndBy self.old.number ticks domain.new.history) }
-        ensures told { let told = told_at_end ticks domain.new.cpus domain.new.limit
+        ensures logged { let logged = logged_at_end ticks domain.new.cpus domain.new.limit
             domain.new.history in
-            OnOk result (Tells log.old told log.new) }
+            OnOk result (HasLogged log.old logged log.new) }
         ensures err { IfErr result (IsRunStopped (IsFull domain.new × (self.new ≡ self.old))) }
     {
-        match domain.advance_told(rt, &mut self.passes[place], gate, ticks, log) {
+        match domain.advance_logged(rt, &mut self.passes[place], gate, ticks, log) {
             Ok(Reply::Done { ticks: made }) if made == ticks => Ok(()),
             Err(AdvanceError::Full) => Err(EndFault::Full),
             _ => Err(EndFault::Memory),
         }
     }
 
-    /// As [`Client::advance_book`], of a book at its end: an accounting hears its switches, and
+    /// As [`Client::advance_book`], of a book at its end: an accounting takes its switches, and
     /// what happens in these ticks, and the book keeps neither. The accounting keeps the jobs of
     /// each task, if `jobs` asks for them.
-    pub(crate) fn hear_book(
+    pub(crate) fn stream_book(
         &mut self,
         gate: &Gate,
         book: &mut EndingBook,
@@ -243,18 +258,48 @@ impl<N: Names> Client<N> {
     ) -> Result<Accounting, EndFault>
         requires gate { gate.now ≡ N.id.gate }
         requires named { IsSessionBook N.id place book.old.book }
-        requires unheard { book.old.heard ≡ false }
+        requires unstreamed { book.old.streamed ≡ false }
         requires call { IsCall (calls.Advance ticks) }
         ensures named { IsSessionBook N.id place book.new.book }
         ensures domains { length self.old.passes ≡ length N.id.cpu_sets }
         ensures made { OnOk result (MakesAll self.old self.new place ticks) }
         ensures ends { OnOk result (IsEndBy self.old.number ticks book.new.book.history) }
-        ensures forgotten { OnOk result (book.new.heard ≡ true) }
-        ensures heard { IfOk result (λ a. IsHeardOf ticks book.new.book a) }
+        ensures forgotten { OnOk result (book.new.streamed ≡ true) }
+        ensures streamed { IfOk result (λ a. IsStreamedOf ticks book.new.book a) }
         ensures err { IfErr result (IsRunStopped (IsFull book.new.book × (self.new ≡ self.old))) }
     {
-        match book.advance_heard(&mut self.passes[place], gate, ticks, jobs) {
-            Ok(heard) => all_heard(heard, ticks),
+        match book.advance_streamed(&mut self.passes[place], gate, ticks, jobs) {
+            Ok(streamed) => all_streamed(streamed, ticks),
+            Err(AdvanceError::Full) => Err(EndFault::Full),
+            Err(AdvanceError::Memory) => Err(EndFault::Memory),
+        }
+    }
+
+    /// As [`Client::advance_book`], of a book at its end: draws its switches, and what happens in
+    /// these ticks, in this window. The book keeps neither.
+    pub(crate) fn draw_book(
+        &mut self,
+        gate: &Gate,
+        book: &mut EndingBook,
+        place: usize,
+        ticks: u64,
+        window: Window,
+    ) -> Result<Drawing, EndFault>
+        requires gate { gate.now ≡ N.id.gate }
+        requires named { IsSessionBook N.id place book.old.book }
+        requires undrawn { book.old.streamed ≡ false }
+        requires call { IsCall (calls.Advance ticks) }
+        ensures named { IsSessionBook N.id place book.new.book }
+        ensures domains { length self.old.passes ≡ length N.id.cpu_sets }
+        ensures made { OnOk result (MakesAll self.old self.new place ticks) }
+        ensures ends { OnOk result (IsEndBy self.old.number ticks book.new.book.history) }
+        ensures forgotten { OnOk result (book.new.streamed ≡ true) }
+        ensures window { IfOk result (λ d. d.window ≡ window) }
+        ensures drawn { IfOk result (λ d. IsStreamedOf ticks book.new.book d.streamed) }
+        ensures err { IfErr result (IsRunStopped (IsFull book.new.book × (self.new ≡ self.old))) }
+    {
+        match book.advance_drawn(&mut self.passes[place], gate, ticks, window) {
+            Ok(drawn) => all_drawn(drawn, ticks),
             Err(AdvanceError::Full) => Err(EndFault::Full),
             Err(AdvanceError::Memory) => Err(EndFault::Memory),
         }

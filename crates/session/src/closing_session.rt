@@ -8,7 +8,7 @@ ghost use Rattle.session.specs.Asks.{client_pass_in};
 ghost use Rattle.session.specs.Report.{IsHistoryOf, IsSessionReport, sum_left};
 ghost use Rattle.session.specs.private.Entering.{IsSessionBook};
 ghost use Rattle.session.specs.private.Parts.{AreSessionBooks, AreBlanksOf, AreHands};
-ghost use Rattle.session.specs.private.Ending.{books_of, unheard_ending};
+ghost use Rattle.session.specs.private.Ending.{books_of, unstreamed_ending};
 ghost use Rattle.session.specs.private.Closing.{AreTicketsOf, AreHistories, AreSums, IsClosingRoom, IsEnded, HaveEnded};
 
 use crate::client::Client;
@@ -291,7 +291,7 @@ pub(crate) struct Remains {
 fn end_all(books: Vec<Domain>, ending: &mut Vec<EndingBook>)
     requires empty { ending.old.items ≡ [] }
     requires room { length books.items ≤ vec_capacity ending.old }
-    ensures { ending.new.items ≡ map unheard_ending books.items }
+    ensures { ending.new.items ≡ map unstreamed_ending books.items }
 {
     let mut rest = books.into_iter();
     while let Some(book) = rest.next() {
@@ -300,7 +300,7 @@ fn end_all(books: Vec<Domain>, ending: &mut Vec<EndingBook>)
     rest.destroy_empty();
 }
 
-/// A session whose domains stand behind no lock any more, with all room that its end needs. It is
+/// A session whose domains stand after no lock any more, with all room that its end needs. It is
 /// neither cloned nor dropped, but ended.
 pub(crate) struct Unlocked<N: Names> {
     pub(crate) gate: Gate,
@@ -351,9 +351,9 @@ impl<N: Names> Unlocked<N> {
         }
     }
 
-    /// No call is made on any book any more, but one last advance of each that is heard.
+    /// No call is made on any book any more, but one last advance of each that is streamed.
     pub(crate) fn end(self) -> Ending<N>
-        ensures { result.books.items ≡ map unheard_ending self.books.items }
+        ensures { result.books.items ≡ map unstreamed_ending self.books.items }
     {
         let Unlocked {
             gate,

@@ -3,8 +3,9 @@
 ghost use Rattle.std.specs.Prelude.{◌≡◌, ◌<◌, ◌≤◌, true, false, [], length, vec_capacity, IfOk, IfErr, OnOk};
 ghost use Rattle.session.specs.Asks.{Makes};
 ghost use Rattle.session.specs.private.Parts.{AreSessionBooks};
-ghost use Rattle.session.specs.private.Ending.{AllEnd, AllTellEnds, AreAllHeard, AreEndLogs, AreHeardEnds, AreOpenLogs, AreToldAs, IsFullAmong, books_of};
+ghost use Rattle.session.specs.private.Ending.{AllEnd, AllLogEnds, AreAllStreamed, AreDrawnEnds, AreEndLogs, AreStreamedEnds, AreOpenLogs, AreLoggedAs, IsFullAmong, books_of};
 ghost use Rattle.session.specs.RunEnd.{advance_of, FirstIsOne, IsFinished, IsFullWith, IsLogOf, IsRunStopped};
+ghost use Rattle.limits.specs.Limits.{max_advance};
 
 use crate::client::Client;
 use crate::closing_session::{Ending, Remains, Unlocked};
@@ -14,21 +15,23 @@ use crate::report::{Finished, Wanted};
 use crate::session::Session;
 use bw_gate::Gate;
 use call_book::{Domain, EndingBook, NoMemory};
+use chart_pieces::{Drawing, Window};
 use domain_run::Log;
 use run_figures::Accounting;
 use std::alloc::Global;
 use std::sync::Wait;
 use std::thread::Threads;
 
-/// What is told of the runs of the domains: by a log of each, or by what an accounting of each
-/// heard.
+/// What is kept of the runs of the domains: a log of each, what an accounting of each streamed, or
+/// a drawing of each.
 #[derive(Drop)]
-pub(crate) struct Told {
+pub(crate) struct Recorded {
     pub(crate) logs: Vec<Log>,
-    pub(crate) heard: Vec<Accounting>,
+    pub(crate) streamed: Vec<Accounting>,
+    pub(crate) drawn: Vec<Drawing>,
 }
 
-/// A log that has nothing yet, and keeps what it is told where that is wanted.
+/// A log that has nothing yet, and keeps what it logs where that is wanted.
 fn open_log(alloc: Global, wanted: bool) -> Log
     ensures { IsLogOf wanted [] result }
 {
@@ -50,8 +53,8 @@ fn open_logs(alloc: Global, count: usize, wanted: bool) -> Result<Vec<Log>, NoMe
     Ok(logs)
 }
 
-/// Lets client 1 advance each domain by the whole duration. The log of each is told what happens in
-/// it.
+/// Lets client 1 advance each domain by the whole duration. The log of each records what happens
+/// in it.
 fn advance_all<N: Names, R: Threads + Wait>(
     rt: &R,
     gate: &Gate,
@@ -66,14 +69,14 @@ fn advance_all<N: Names, R: Threads + Wait>(
     requires domains { 0 < length N.id.cpu_sets }
     requires first { client.old.number ≡ 1 }
     requires some { 0 < duration }
-    requires most { duration ≤ 60000000 }
+    requires most { duration ≤ max_advance }
     requires logs { length logs.old.items ≡ length books.old.items }
     ensures named { AreSessionBooks N.id books.new.items }
     ensures count { length books.new.items ≡ length books.old.items }
     ensures made { OnOk result (Makes client.old client.new (λ d. advance_of duration 1)) }
     ensures ends { OnOk result (AllEnd duration books.new.items) }
     ensures logs { length logs.new.items ≡ length logs.old.items }
-    ensures told { OnOk result (AllTellEnds duration books.new.items logs.old.items
+    ensures logged { OnOk result (AllLogEnds duration books.new.items logs.old.items
         logs.new.items) }
     ensures err { IfErr result (IsRunStopped
         (IsFullAmong duration books.new.items client.old client.new)) }
@@ -85,7 +88,7 @@ fn advance_all<N: Names, R: Threads + Wait>(
     Ok(())
 }
 
-/// The same, with logs that keep what they are told where that is wanted; and no call where the
+/// The same, with logs that keep what they are logged where that is wanted; and no call where the
 /// duration is 0. All room for the logs' list is made before the first call.
 fn advance<N: Names, R: Threads + Wait>(
     rt: &R,
@@ -94,9 +97,9 @@ fn advance<N: Names, R: Threads + Wait>(
     client: &mut Client<N>,
     duration: u64,
     wanted: bool,
-) -> Result<Told, EndFault>
+) -> Result<Recorded, EndFault>
     requires first { client.old.number ≡ 1 }
-    requires most { duration ≤ 60000000 }
+    requires most { duration ≤ max_advance }
     ensures made { OnOk result (Makes client.old client.new (λ d. advance_of duration 1)) }
     ensures ends { OnOk result (AllEnd duration unlocked.new.books.items) }
     ensures logs { let books = unlocked.new.books.items in
@@ -106,9 +109,10 @@ fn advance<N: Names, R: Threads + Wait>(
 {
     let mut logs = open_logs(alloc, unlocked.books.len(), wanted)?;
     if duration == 0 {
-        return Ok(Told {
+        return Ok(Recorded {
             logs,
-            heard: Vec::new(alloc),
+            streamed: Vec::new(alloc),
+            drawn: Vec::new(alloc),
         });
     }
     advance_all(
@@ -119,119 +123,224 @@ fn advance<N: Names, R: Threads + Wait>(
         duration,
         &mut logs,
     )?;
-    Ok(Told {
+    Ok(Recorded {
         logs,
-        heard: Vec::new(alloc),
+        streamed: Vec::new(alloc),
+        drawn: Vec::new(alloc),
     })
 }
 
-/// Lets client 1 advance each domain by the whole duration, and an accounting of each hear it. It
+/// Lets client 1 advance each domain by the whole duration, and an accounting of each take it. It
 /// keeps the jobs of each task, if `jobs` asks for them.
-fn hear_all<N: Names>(
+fn stream_all<N: Names>(
     gate: &Gate,
     books: &mut Vec<EndingBook>,
     client: &mut Client<N>,
     duration: u64,
     jobs: bool,
-    heard: &mut Vec<Accounting>,
+    streamed: &mut Vec<Accounting>,
 ) -> Result<(), EndFault>
     requires gate { gate.now ≡ N.id.gate }
     requires named { AreSessionBooks N.id (books_of books.old.items) }
     requires count { length books.old.items ≡ length N.id.cpu_sets }
-    requires unheard { AreAllHeard false books.old.items }
+    requires unstreamed { AreAllStreamed false books.old.items }
     requires domains { 0 < length N.id.cpu_sets }
     requires first { client.old.number ≡ 1 }
     requires some { 0 < duration }
-    requires most { duration ≤ 60000000 }
-    requires empty { heard.old.items ≡ [] }
-    requires room { length books.old.items ≤ vec_capacity heard.old }
+    requires most { duration ≤ max_advance }
+    requires empty { streamed.old.items ≡ [] }
+    requires room { length books.old.items ≤ vec_capacity streamed.old }
     ensures named { AreSessionBooks N.id (books_of books.new.items) }
     ensures count { length books.new.items ≡ length books.old.items }
     ensures made { OnOk result (Makes client.old client.new (λ d. advance_of duration 1)) }
     ensures ends { OnOk result (AllEnd duration (books_of books.new.items)) }
-    ensures forgotten { OnOk result (AreAllHeard true books.new.items) }
-    ensures heard { OnOk result
-        (AreHeardEnds duration (books_of books.new.items) heard.new.items) }
+    ensures forgotten { OnOk result (AreAllStreamed true books.new.items) }
+    ensures streamed { OnOk result
+        (AreStreamedEnds duration (books_of books.new.items) streamed.new.items) }
     ensures err { IfErr result
         (IsRunStopped (IsFullAmong duration (books_of books.new.items) client.old client.new)) }
 {
     for place in 0..books.len() {
-        let accounting = client.hear_book(gate, &mut books[place], place, duration, jobs)?;
-        heard.push_reserved(accounting);
+        let accounting = client.stream_book(gate, &mut books[place], place, duration, jobs)?;
+        streamed.push_reserved(accounting);
     }
     Ok(())
 }
 
-/// Lets an accounting of each domain hear the switches of its run. No call is made.
-fn hear_still(
+/// Streams to an accounting of each domain the switches of its run. No call is made.
+fn stream_still(
     books: &mut Vec<EndingBook>,
     jobs: bool,
-    heard: &mut Vec<Accounting>,
+    streamed: &mut Vec<Accounting>,
 ) -> Result<(), NoMemory>
-    requires unheard { AreAllHeard false books.old.items }
-    requires empty { heard.old.items ≡ [] }
-    requires room { length books.old.items ≤ vec_capacity heard.old }
+    requires unstreamed { AreAllStreamed false books.old.items }
+    requires empty { streamed.old.items ≡ [] }
+    requires room { length books.old.items ≤ vec_capacity streamed.old }
     ensures books { books_of books.new.items ≡ books_of books.old.items }
-    ensures forgotten { OnOk result (AreAllHeard true books.new.items) }
-    ensures heard { OnOk result (AreHeardEnds 0 (books_of books.new.items) heard.new.items) }
+    ensures forgotten { OnOk result (AreAllStreamed true books.new.items) }
+    ensures streamed { OnOk result
+        (AreStreamedEnds 0 (books_of books.new.items) streamed.new.items) }
 {
     for place in 0..books.len() {
-        heard.push_reserved(books[place].hear(jobs)?);
+        streamed.push_reserved(books[place].stream(jobs)?);
     }
     Ok(())
 }
 
-/// The run of each domain is heard; no call is made where the duration is 0.
-fn hear<N: Names>(
+/// The run of each domain is streamed; no call is made where the duration is 0.
+fn stream<N: Names>(
     alloc: Global,
     ending: &mut Ending<N>,
     client: &mut Client<N>,
     duration: u64,
     jobs: bool,
-) -> Result<Told, EndFault>
-    requires unheard { AreAllHeard false ending.old.books.items }
+) -> Result<Recorded, EndFault>
+    requires unstreamed { AreAllStreamed false ending.old.books.items }
     requires first { client.old.number ≡ 1 }
-    requires most { duration ≤ 60000000 }
+    requires most { duration ≤ max_advance }
     ensures made { OnOk result (Makes client.old client.new (λ d. advance_of duration 1)) }
     ensures ends { OnOk result (AllEnd duration (books_of ending.new.books.items)) }
-    ensures forgotten { OnOk result (AreAllHeard true ending.new.books.items) }
-    ensures heard { let books = books_of ending.new.books.items in
-        IfOk result (λ t. AreHeardEnds duration books t.heard.items) }
+    ensures forgotten { OnOk result (AreAllStreamed true ending.new.books.items) }
+    ensures streamed { let books = books_of ending.new.books.items in
+        IfOk result (λ t. AreStreamedEnds duration books t.streamed.items) }
     ensures err { let books = books_of ending.new.books.items in
         IfErr result (IsRunStopped (IsFullAmong duration books client.old client.new)) }
 {
-    let Ok(mut heard) = Vec::with_capacity(alloc, ending.books.len()) else {
+    let Ok(mut streamed) = Vec::with_capacity(alloc, ending.books.len()) else {
         return Err(EndFault::Memory);
     };
     if duration == 0 {
-        hear_still(&mut ending.books, jobs, &mut heard)?;
-        return Ok(Told {
+        stream_still(&mut ending.books, jobs, &mut streamed)?;
+        return Ok(Recorded {
             logs: Vec::new(alloc),
-            heard,
+            streamed,
+            drawn: Vec::new(alloc),
         });
     }
-    hear_all(
+    stream_all(
         &ending.gate,
         &mut ending.books,
         client,
         duration,
         jobs,
-        &mut heard,
+        &mut streamed,
     )?;
-    Ok(Told {
+    Ok(Recorded {
         logs: Vec::new(alloc),
-        heard,
+        streamed,
+        drawn: Vec::new(alloc),
     })
 }
 
-/// A session whose domains were advanced, and what is told of it; or why not all were.
-struct Advanced<N: Names> {
-    ending: Ending<N>,
-    told: Result<Told, EndFault>,
+/// Lets client 1 advance each domain by the whole duration, and draws it in this window.
+fn draw_all<N: Names>(
+    gate: &Gate,
+    books: &mut Vec<EndingBook>,
+    client: &mut Client<N>,
+    duration: u64,
+    window: Window,
+    drawn: &mut Vec<Drawing>,
+) -> Result<(), EndFault>
+    requires gate { gate.now ≡ N.id.gate }
+    requires named { AreSessionBooks N.id (books_of books.old.items) }
+    requires count { length books.old.items ≡ length N.id.cpu_sets }
+    requires undrawn { AreAllStreamed false books.old.items }
+    requires domains { 0 < length N.id.cpu_sets }
+    requires first { client.old.number ≡ 1 }
+    requires some { 0 < duration }
+    requires most { duration ≤ max_advance }
+    requires empty { drawn.old.items ≡ [] }
+    requires room { length books.old.items ≤ vec_capacity drawn.old }
+    ensures named { AreSessionBooks N.id (books_of books.new.items) }
+    ensures count { length books.new.items ≡ length books.old.items }
+    ensures made { OnOk result (Makes client.old client.new (λ d. advance_of duration 1)) }
+    ensures ends { OnOk result (AllEnd duration (books_of books.new.items)) }
+    ensures forgotten { OnOk result (AreAllStreamed true books.new.items) }
+    ensures drawn { OnOk result
+        (AreDrawnEnds window duration (books_of books.new.items) drawn.new.items) }
+    ensures err { IfErr result
+        (IsRunStopped (IsFullAmong duration (books_of books.new.items) client.old client.new)) }
+{
+    for place in 0..books.len() {
+        let drawing = client.draw_book(gate, &mut books[place], place, duration, window)?;
+        drawn.push_reserved(drawing);
+    }
+    Ok(())
 }
 
-/// Lets client 1 advance each domain, which a log is told where that is wanted.
-fn advance_told<N: Names, R: Threads + Wait>(
+/// Draws the switches of the run of each domain in this window. No call is made.
+fn draw_still(
+    books: &mut Vec<EndingBook>,
+    window: Window,
+    drawn: &mut Vec<Drawing>,
+) -> Result<(), NoMemory>
+    requires undrawn { AreAllStreamed false books.old.items }
+    requires empty { drawn.old.items ≡ [] }
+    requires room { length books.old.items ≤ vec_capacity drawn.old }
+    ensures books { books_of books.new.items ≡ books_of books.old.items }
+    ensures forgotten { OnOk result (AreAllStreamed true books.new.items) }
+    ensures drawn { OnOk result
+        (AreDrawnEnds window 0 (books_of books.new.items) drawn.new.items) }
+{
+    for place in 0..books.len() {
+        drawn.push_reserved(books[place].draw(window)?);
+    }
+    Ok(())
+}
+
+/// Draws the run of each domain in this window. No call is made if the duration is 0.
+fn draw<N: Names>(
+    alloc: Global,
+    ending: &mut Ending<N>,
+    client: &mut Client<N>,
+    duration: u64,
+    window: Window,
+) -> Result<Recorded, EndFault>
+    requires undrawn { AreAllStreamed false ending.old.books.items }
+    requires first { client.old.number ≡ 1 }
+    requires most { duration ≤ max_advance }
+    ensures made { OnOk result (Makes client.old client.new (λ d. advance_of duration 1)) }
+    ensures ends { OnOk result (AllEnd duration (books_of ending.new.books.items)) }
+    ensures forgotten { OnOk result (AreAllStreamed true ending.new.books.items) }
+    ensures drawn { let books = books_of ending.new.books.items in
+        IfOk result (λ t. AreDrawnEnds window duration books t.drawn.items) }
+    ensures err { let books = books_of ending.new.books.items in
+        IfErr result (IsRunStopped (IsFullAmong duration books client.old client.new)) }
+{
+    let Ok(mut drawn) = Vec::with_capacity(alloc, ending.books.len()) else {
+        return Err(EndFault::Memory);
+    };
+    if duration == 0 {
+        draw_still(&mut ending.books, window, &mut drawn)?;
+        return Ok(Recorded {
+            logs: Vec::new(alloc),
+            streamed: Vec::new(alloc),
+            drawn,
+        });
+    }
+    draw_all(
+        &ending.gate,
+        &mut ending.books,
+        client,
+        duration,
+        window,
+        &mut drawn,
+    )?;
+    Ok(Recorded {
+        logs: Vec::new(alloc),
+        streamed: Vec::new(alloc),
+        drawn,
+    })
+}
+
+/// A session whose domains were advanced, and what is logged of it; or why not all were.
+struct Advanced<N: Names> {
+    ending: Ending<N>,
+    logged: Result<Recorded, EndFault>,
+}
+
+/// Lets client 1 advance each domain, which a log is logged where that is wanted.
+fn advance_logged<N: Names, R: Threads + Wait>(
     rt: &R,
     alloc: Global,
     mut unlocked: Unlocked<N>,
@@ -240,23 +349,23 @@ fn advance_told<N: Names, R: Threads + Wait>(
     wanted: bool,
 ) -> Advanced<N>
     requires first { client.old.number ≡ 1 }
-    requires most { duration ≤ 60000000 }
-    ensures made { OnOk result.told (Makes client.old client.new (λ d. advance_of duration 1)) }
-    ensures ends { OnOk result.told (AllEnd duration (books_of result.ending.books.items)) }
-    ensures unheard { AreAllHeard false result.ending.books.items }
+    requires most { duration ≤ max_advance }
+    ensures made { OnOk result.logged (Makes client.old client.new (λ d. advance_of duration 1)) }
+    ensures ends { OnOk result.logged (AllEnd duration (books_of result.ending.books.items)) }
+    ensures unstreamed { AreAllStreamed false result.ending.books.items }
     ensures logs { let books = books_of result.ending.books.items in
-        IfOk result.told (λ t. AreEndLogs wanted duration books t.logs.items) }
+        IfOk result.logged (λ t. AreEndLogs wanted duration books t.logs.items) }
     ensures err { let books = books_of result.ending.books.items in
-        IfErr result.told (IsRunStopped (IsFullAmong duration books client.old client.new)) }
+        IfErr result.logged (IsRunStopped (IsFullAmong duration books client.old client.new)) }
 {
-    let told = advance(rt, alloc, &mut unlocked, client, duration, wanted);
+    let logged = advance(rt, alloc, &mut unlocked, client, duration, wanted);
     let ending = unlocked.end();
-    Advanced { ending, told }
+    Advanced { ending, logged }
 }
 
-/// Lets client 1 advance each domain, which an accounting hears. It keeps the jobs of each task, if
+/// Lets client 1 advance each domain, which an accounting takes. It keeps the jobs of each task, if
 /// `jobs` asks for them.
-fn advance_heard<N: Names>(
+fn advance_streamed<N: Names>(
     alloc: Global,
     unlocked: Unlocked<N>,
     client: &mut Client<N>,
@@ -264,21 +373,44 @@ fn advance_heard<N: Names>(
     jobs: bool,
 ) -> Advanced<N>
     requires first { client.old.number ≡ 1 }
-    requires most { duration ≤ 60000000 }
-    ensures made { OnOk result.told (Makes client.old client.new (λ d. advance_of duration 1)) }
-    ensures ends { OnOk result.told (AllEnd duration (books_of result.ending.books.items)) }
-    ensures heard { OnOk result.told (AreAllHeard true result.ending.books.items) }
+    requires most { duration ≤ max_advance }
+    ensures made { OnOk result.logged (Makes client.old client.new (λ d. advance_of duration 1)) }
+    ensures ends { OnOk result.logged (AllEnd duration (books_of result.ending.books.items)) }
+    ensures streamed { OnOk result.logged (AreAllStreamed true result.ending.books.items) }
     ensures all { let books = books_of result.ending.books.items in
-        IfOk result.told (λ t. AreHeardEnds duration books t.heard.items) }
+        IfOk result.logged (λ t. AreStreamedEnds duration books t.streamed.items) }
     ensures err { let books = books_of result.ending.books.items in
-        IfErr result.told (IsRunStopped (IsFullAmong duration books client.old client.new)) }
+        IfErr result.logged (IsRunStopped (IsFullAmong duration books client.old client.new)) }
 {
     let mut ending = unlocked.end();
-    let told = hear(alloc, &mut ending, client, duration, jobs);
-    Advanced { ending, told }
+    let logged = stream(alloc, &mut ending, client, duration, jobs);
+    Advanced { ending, logged }
 }
 
-/// Lets client 1 advance each domain, and has told of it what is wanted.
+/// Lets client 1 advance each domain, and draws it in this window.
+fn advance_drawn<N: Names>(
+    alloc: Global,
+    unlocked: Unlocked<N>,
+    client: &mut Client<N>,
+    duration: u64,
+    window: Window,
+) -> Advanced<N>
+    requires first { client.old.number ≡ 1 }
+    requires most { duration ≤ max_advance }
+    ensures made { OnOk result.logged (Makes client.old client.new (λ d. advance_of duration 1)) }
+    ensures ends { OnOk result.logged (AllEnd duration (books_of result.ending.books.items)) }
+    ensures forgotten { OnOk result.logged (AreAllStreamed true result.ending.books.items) }
+    ensures drawn { let books = books_of result.ending.books.items in
+        IfOk result.logged (λ t. AreDrawnEnds window duration books t.drawn.items) }
+    ensures err { let books = books_of result.ending.books.items in
+        IfErr result.logged (IsRunStopped (IsFullAmong duration books client.old client.new)) }
+{
+    let mut ending = unlocked.end();
+    let logged = draw(alloc, &mut ending, client, duration, window);
+    Advanced { ending, logged }
+}
+
+/// Lets client 1 advance each domain, and has logged of it what is wanted.
 fn advance_as<N: Names, R: Threads + Wait>(
     rt: &R,
     alloc: Global,
@@ -288,19 +420,20 @@ fn advance_as<N: Names, R: Threads + Wait>(
     wanted: Wanted,
 ) -> Advanced<N>
     requires first { client.old.number ≡ 1 }
-    requires most { duration ≤ 60000000 }
-    ensures made { OnOk result.told (Makes client.old client.new (λ d. advance_of duration 1)) }
-    ensures ends { OnOk result.told (AllEnd duration (books_of result.ending.books.items)) }
-    ensures told { let books = result.ending.books.items in
-        IfOk result.told (AreToldAs duration wanted books) }
+    requires most { duration ≤ max_advance }
+    ensures made { OnOk result.logged (Makes client.old client.new (λ d. advance_of duration 1)) }
+    ensures ends { OnOk result.logged (AllEnd duration (books_of result.ending.books.items)) }
+    ensures logged { let books = result.ending.books.items in
+        IfOk result.logged (AreLoggedAs duration wanted books) }
     ensures err { let books = books_of result.ending.books.items in
-        IfErr result.told (IsRunStopped (IsFullAmong duration books client.old client.new)) }
+        IfErr result.logged (IsRunStopped (IsFullAmong duration books client.old client.new)) }
 {
     match wanted {
-        Wanted::Switches => advance_told(rt, alloc, unlocked, client, duration, false),
-        Wanted::Happened => advance_told(rt, alloc, unlocked, client, duration, true),
-        Wanted::Figures => advance_heard(alloc, unlocked, client, duration, false),
-        Wanted::Jobs => advance_heard(alloc, unlocked, client, duration, true),
+        Wanted::Switches => advance_logged(rt, alloc, unlocked, client, duration, false),
+        Wanted::Happened => advance_logged(rt, alloc, unlocked, client, duration, true),
+        Wanted::Figures => advance_streamed(alloc, unlocked, client, duration, false),
+        Wanted::Jobs => advance_streamed(alloc, unlocked, client, duration, true),
+        Wanted::Chart(window) => advance_drawn(alloc, unlocked, client, duration, window),
     }
 }
 
@@ -308,10 +441,11 @@ fn advance_as<N: Names, R: Threads + Wait>(
 /// microseconds, as the last entry of its book; no call is made where the duration is 0. Then all
 /// books are closed, also where an advance was not made: the pieces go home, and each pass is
 /// compared with its book. Where what happens is `wanted`, it stands in the log of each domain, in
-/// the order of "Happened", as far as it happened in that advance. If figures or jobs are wanted, an
-/// accounting of each domain heard that, and all switches of its run, while the advance was made:
-/// so neither takes memory that grows with the run, but for the jobs, and the states that are left
-/// have no switches.
+/// the order of "Happened", as far as it happened in that advance. If figures or jobs are wanted,
+/// an accounting of each domain streamed that, and all switches of its run, while the advance was
+/// made: so neither takes memory that grows with the run, but for the jobs, and the states that are
+/// left have no switches. The same holds for a chart: each domain is drawn while its advance is
+/// made, and the drawing keeps only what is in the window.
 ///
 /// # Errors
 /// [`EndFault::Full`] where the history of a domain has no room for the advance.
@@ -327,12 +461,12 @@ pub fn end_run<N: Names, R: Threads + Wait>(
 ) -> Result<Finished, EndFault>
     requires some { 0 < length clients.items }
     requires first { FirstIsOne clients.items }
-    requires duration { duration ≤ 60000000 }
+    requires duration { duration ≤ max_advance }
     ensures ok { IfOk result (IsFinished N.id duration wanted clients.items) }
     ensures err { IfErr result (IsRunStopped (IsFullWith N.id duration clients.items)) }
 {
     let unlocked = session.unlock(alloc)?;
-    let Advanced { ending, told } = advance_as(
+    let Advanced { ending, logged } = advance_as(
         rt,
         alloc,
         unlocked,
@@ -341,11 +475,16 @@ pub fn end_run<N: Names, R: Threads + Wait>(
         wanted,
     );
     let Remains { report, states } = ending.close(alloc, clients);
-    let Told { logs, heard } = told?;
+    let Recorded {
+        logs,
+        streamed,
+        drawn,
+    } = logged?;
     Ok(Finished {
         report,
         states,
         logs,
-        heard,
+        streamed,
+        drawn,
     })
 }

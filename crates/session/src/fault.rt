@@ -14,7 +14,7 @@ pub enum AdmitFault {
     Memory,
 }
 
-/// The system started no thread for a client: all that can be told once the first was started.
+/// The system started no thread for a client: all that can be logged once the first was started.
 #[derive(Clone, Copy)]
 pub(crate) struct NotStarted;
 

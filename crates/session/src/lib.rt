@@ -1,4 +1,4 @@
-//! A session: one gate with the domains that it admits to, each behind a lock of its own, for the
+//! A session: one gate with the domains that it admits to, each after a lock of its own, for the
 //! calls of many clients.
 //!
 //! A [`Session`] meets the definitions of which session it is (`specs/SessionId.antt`,

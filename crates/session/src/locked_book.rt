@@ -1,4 +1,4 @@
-//! One domain of a session, behind its lock, and what a client may ask of it.
+//! One domain of a session, after its lock, and what a client may ask of it.
 
 ghost use Rattle.std.specs.Prelude.{◌≡◌, Some, None, IfSome, IsSome, IfOk, IfErr, Ok, Err};
 ghost use Rattle.bw_gate.specs.Answers.{IsGive};
@@ -75,7 +75,7 @@ fn admit(
     ensures same { SameBook domain.old domain.new }
     ensures offered { IsOffered domain.old.cpus pass.old pass.new prepared result.answer }
     ensures given { IsGivenBack ticket result.answer result.blank }
-    ensures told { IsAdmissionAnswered domain.old (admission prepared) result.answer }
+    ensures logged { IsAdmissionAnswered domain.old (admission prepared) result.answer }
     ensures own { IfSome result.blank (λ b. b.gate ≡ gate.now) }
 {
     match domain.admit(pass, prepared, ticket) {
@@ -129,7 +129,7 @@ fn regrade<N: Names, const D: usize, R: Wait>(
     requires call { IsCall (calls.Regrade number params None) }
     ensures same { SameBook domain.old domain.new }
     ensures replied { IsRegradedBy N.id D pass.old pass.new number params result.answer }
-    ensures told { IsWhyNotMade domain.old result.answer }
+    ensures logged { IsWhyNotMade domain.old result.answer }
     ensures own { result.blank ≡ None }
 {
     outcome_of(domain.regrade(rt, pass, gate, number, params))
@@ -140,7 +140,7 @@ fn wake(domain: &mut Domain, pass: &mut Pass, number: u32) -> Outcome
     requires call { IsCall (calls.Wake number) }
     ensures same { SameBook domain.old domain.new }
     ensures replied { IsReplied pass.old pass.new (calls.Wake number) result.answer }
-    ensures told { IsCallAnswered domain.old (calls.Wake number) result.answer }
+    ensures logged { IsCallAnswered domain.old (calls.Wake number) result.answer }
     ensures own { result.blank ≡ None }
 {
     outcome_of(domain.wake(pass, number))
@@ -151,7 +151,7 @@ fn leave(domain: &mut Domain, pass: &mut Pass, number: u32) -> Outcome
     requires call { IsCall (calls.Leave number) }
     ensures same { SameBook domain.old domain.new }
     ensures replied { IsReplied pass.old pass.new (calls.Leave number) result.answer }
-    ensures told { IsCallAnswered domain.old (calls.Leave number) result.answer }
+    ensures logged { IsCallAnswered domain.old (calls.Leave number) result.answer }
     ensures own { result.blank ≡ None }
 {
     outcome_of(domain.leave(pass, number))
@@ -190,7 +190,7 @@ fn set_limit<N: Names, const D: usize, R: Wait>(
     requires limit { IsLimit limit }
     ensures same { SameBook domain.old domain.new }
     ensures limited { IsLimitedBy N.id D pass.old pass.new blank limit result.answer result.blank }
-    ensures told { IsWhyNotMade domain.old result.answer }
+    ensures logged { IsWhyNotMade domain.old result.answer }
     ensures some { IsSome result.blank }
     ensures own { IfSome result.blank (λ b. b.gate ≡ gate.now) }
 {
@@ -214,7 +214,7 @@ fn make_seen<N: Names, const D: usize, R: Wait>(
     ensures done { IsDone N.id D pass.old pass.new ask result.answer result.blank }
     ensures given { NoneIsKept ask result.answer result.blank }
     ensures none { LeavesNoBlank ask result.blank }
-    ensures told { IsBookAnswer domain.old ask result.answer }
+    ensures logged { IsBookAnswer domain.old ask result.answer }
     ensures own { IfSome result.blank (λ b. b.gate ≡ N.id.gate) }
 {
     match ask {
@@ -255,7 +255,7 @@ fn move_listed<N: Names, const D: usize, const E: usize>(
         (record { out = from_pass.old; into = to_pass.old })
         (record { out = from_pass.new; into = to_pass.new })
         prepared ticket result.1 result.0 }
-    ensures told { IsWhyNotMoved from.old to.old prepared result.0 }
+    ensures logged { IsWhyNotMoved from.old to.old prepared result.0 }
     ensures own { result.1.gate ≡ N.id.gate }
 {
     match move_task(from, from_pass, to, to_pass, prepared, ticket) {
@@ -289,7 +289,7 @@ fn move_listed<N: Names, const D: usize, const E: usize>(
 }
 
 impl<N: Names, const D: usize> LockedBook<N, D> {
-    /// Makes a call with a client's pass. A refusal is told of the book as it was.
+    /// Makes a call with a client's pass. A refusal is logged of the book as it was.
     pub(crate) fn make<R: Wait>(
         &mut self,
         rt: &R,
@@ -305,7 +305,7 @@ impl<N: Names, const D: usize> LockedBook<N, D> {
         ensures done { IsDone N.id D pass.old pass.new ask result.answer result.blank }
         ensures given { NoneIsKept ask result.answer result.blank }
         ensures none { LeavesNoBlank ask result.blank }
-        ensures told { IsBookAnswer self.old.domain.value ask result.answer }
+        ensures logged { IsBookAnswer self.old.domain.value ask result.answer }
         ensures seen { WasSeenFor N.id D (part_with pass.old) ask result.answer }
         ensures own { IfSome result.blank (λ b. b.gate ≡ N.id.gate) }
     {
@@ -327,7 +327,7 @@ impl<N: Names, const D: usize> LockedBook<N, D> {
         requires member { IsMember N.id.clients pass.old.client }
         requires call { IsCall (calls.Advance ticks) }
         ensures made { IsAdvancedBy pass.old pass.new ticks result }
-        ensures told { IsWhyNotMade self.old.domain.value result }
+        ensures logged { IsWhyNotMade self.old.domain.value result }
         ensures seen { RefusalWasSeen N.id D (part_with pass.old) result }
     {
         let domain = &mut *self.domain;
@@ -360,7 +360,7 @@ impl<N: Names, const D: usize> LockedBook<N, D> {
         domain.prepare_move(alloc, number)
     }
 
-    /// Moves a task to another domain with a client's passes of both. A refusal is told of both
+    /// Moves a task to another domain with a client's passes of both. A refusal is logged of both
     /// books as they were.
     pub(crate) fn move_to<const E: usize>(
         &mut self,
@@ -379,7 +379,7 @@ impl<N: Names, const D: usize> LockedBook<N, D> {
             (record { out = from_pass.old; into = to_pass.old })
             (record { out = from_pass.new; into = to_pass.new })
             prepared ticket result.1 result.0 }
-        ensures told { IsWhyNotMoved self.old.domain.value to.old.domain.value prepared
+        ensures logged { IsWhyNotMoved self.old.domain.value to.old.domain.value prepared
             result.0 }
         ensures own { result.1.gate ≡ N.id.gate }
     {

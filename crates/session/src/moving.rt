@@ -281,7 +281,7 @@ impl<N: Names> Client<N> {
     /// `Esrch`, `Stale`, `Twice` and `Busy`, with the sum of bandwidths. Each book has its entry
     /// then, a departure and an arrival, and the bandwidth in the domain that the task left is
     /// given back to the gate. After a refusal nothing stands in a book, nor does a ticket stay
-    /// behind; the piece is in hand, where there was one. It waits for the gate, as long as other
+    /// after; the piece is in hand, where there was one. It waits for the gate, as long as other
     /// clients come between, and for the locks of pool and domains, the lower domain's first.
     pub fn move_task<S: Shares<N>, R: Wait>(
         &mut self,

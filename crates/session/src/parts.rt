@@ -244,7 +244,7 @@ pub(crate) fn shut(alloc: Global, gate: &Gate, mut books: Vec<Domain>)
     books.destroy_empty();
 }
 
-/// The same of books that stand behind no lock yet.
+/// The same of books that stand after no lock yet.
 fn shut_boxed(alloc: Global, gate: &Gate, mut books: Vec<BoxedDomain>)
     requires { All (λ b. b.gate ≡ gate.now) books.items }
 {

@@ -1,4 +1,4 @@
-//! The pieces that no client and no domain holds, behind a lock that nobody outside this module can
+//! The pieces that no client and no domain holds, after a lock that nobody outside this module can
 //! take.
 
 ghost use Rattle.std.specs.Prelude.{◌≡◌, All, IfSome};

@@ -1,5 +1,6 @@
 use crate::refusal::Refusal;
 use call_book::Section;
+use chart_pieces::{Drawing, Window};
 use domain_run::{Log, State};
 use run_figures::Accounting;
 
@@ -27,10 +28,13 @@ pub enum Wanted {
     Switches,
     /// The states, with their switches, and what happened.
     Happened,
-    /// What figures are made of: the switches and what happened are heard, and let go of at once.
+    /// What figures are made of: the switches and what happened are streamed, and let go of at
+    /// once.
     Figures,
     /// As for figures, and the jobs of each task, which are kept in few bytes each.
     Jobs,
+    /// What the chart of this part of the run is made of. The rest of the run is not kept.
+    Chart(Window),
 }
 
 /// What a run in a session left, with the state of each domain and what happened in it, in their
@@ -39,13 +43,16 @@ pub enum Wanted {
 pub struct Finished {
     /// As the session's end gives it; nobody stands among the refused.
     pub report: Report,
-    /// The state of each domain, to which its history leads; without its switches if figures or
-    /// jobs were wanted.
+    /// The state of each domain, to which its history leads; without its switches if figures, jobs
+    /// or a chart were wanted.
     pub states: Vec<State>,
     /// One for each domain; it keeps what happened in the advance at the end where that was wanted,
-    /// else nothing. None if figures or jobs were wanted.
+    /// else nothing. None if figures, jobs or a chart were wanted.
     pub logs: Vec<Log>,
-    /// One for each domain if figures or jobs were wanted: it heard all switches of the run, and
+    /// One for each domain if figures or jobs were wanted: it streamed all switches of the run, and
     /// what happened in the advance at the end. Else none.
-    pub heard: Vec<Accounting>,
+    pub streamed: Vec<Accounting>,
+    /// One for each domain if a chart was wanted: it drew all switches of the run, and what
+    /// happened in the advance at the end. Else none.
+    pub drawn: Vec<Drawing>,
 }

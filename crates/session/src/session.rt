@@ -1,4 +1,4 @@
-//! A session: one gate, and the domains behind their locks.
+//! A session: one gate, and the domains after their locks.
 
 ghost use Rattle.std.specs.Prelude.{◌≡◌, ◌≤◌, ◌<◌, length, replicate, true, [], IfOk, vec_capacity};
 ghost use Rattle.session.specs.Clients.{IsHandedOut};
@@ -17,7 +17,7 @@ use call_book::{Domain, NoMemory};
 use std::alloc::Global;
 use std::marker::Model;
 
-/// One gate with the domains that it admits to, each behind its own lock, a pool of pieces, and the
+/// One gate with the domains that it admits to, each after its own lock, a pool of pieces, and the
 /// clients that were not handed out yet. It is neither cloned nor dropped, but closed, since its
 /// domains hold tickets. To a contract it is which of its clients, from 1 on, wait to be handed
 /// out.

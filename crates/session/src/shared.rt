@@ -1,4 +1,4 @@
-//! What the clients of a session share: its gate, its domains behind their locks, and a pool of
+//! What the clients of a session share: its gate, its domains after their locks, and a pool of
 //! pieces.
 
 ghost use Rattle.std.specs.Prelude.{◌≡◌, ◌==◌, map, Option, Some, None, Ok, Err, IfSome, IfOk, IfErr};
@@ -20,10 +20,10 @@ use rtapp_scenario::TaskSpec;
 use std::marker::Model;
 use std::sync::Wait;
 
-/// What all clients of a session share: one gate with the domains that it admits to, each behind
-/// its own lock, and a pool of pieces. Threads may borrow it side by side, each with a client of
-/// its own, while the session itself, which keeps the clients that wait, stays with one. To a
-/// contract it is its gate.
+/// What all clients of a session share: one gate with the domains that it admits to, each after its
+/// own lock, and a pool of pieces. Threads may borrow it side by side, each with a client of its
+/// own, while the session itself, which keeps the clients that wait, stays with one. To a contract
+/// it is its gate.
 pub struct Shared<N: Names> {
     pub(crate) gate: Gate,
     pub(crate) cpu_sets: Vec<Vec<u32>>,

@@ -184,7 +184,7 @@ written_as slots order now i n x all once is h slot =
     ∙ values_set slots order i x all once h
     ∙ ap (λ vs. set vs i x) is
 
--- the slot behind the others
+-- the slot after the others
 pub get_more : {X : Type 0} (slots : List X) (x : X)
     → slice_get (slots ++ x ∷ []) (length slots) ≡ Some x
 get_more [] x = refl

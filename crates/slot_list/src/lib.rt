@@ -1,5 +1,5 @@
 //! A list of at most 256 values that stay where they are: a removal moves a byte for each value
-//! behind it, and none of the values.
+//! after it, and none of the values.
 //!
 //! To the crates above it promises each call as an equation on the list ([`SlotList`]), and that
 //! only [`SlotList::open`] takes memory.
@@ -83,7 +83,7 @@ impl<T: Drop> SlotList<T> {
         })
     }
 
-    /// One value more, behind the others.
+    /// One value more, after the others.
     pub fn push(&mut self, value: T)
         requires few { length self.old < 256 }
         ensures { self.new ≡ self.old ++ value ∷ [] }

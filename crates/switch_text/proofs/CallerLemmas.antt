@@ -1,5 +1,5 @@
--- Laws of the trace text that callers may cite: the trace of one run, that only the names that occur matter, and what it
--- means that the entries are in order.
+-- Laws of the trace text that callers may cite: the trace of one run, that only the names that
+-- occur matter, and what it means that the entries are in order.
 use Rattle.std.proofs.Common.{◌≡◌, ℕ, suc, ◌+◌, Bool, true, false, cond, List, [], ◌∷◌, ◌++◌, map, Option, Some, None, get_or, refl, ap, ◌∙◌, append-nil, arith}
 use Rattle.std.specs.Prelude.{AllPairs, All, IsTrue, IfSome, filter, ◌&&◌, ◌==◌}
 use Rattle.std.specs.List.{AllByRecursion, AllZip, flat_map}

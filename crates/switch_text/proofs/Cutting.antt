@@ -1,4 +1,5 @@
--- THE CUT IN TIME: where some of the entries are before a time, and all others at it or later, the first are in order by themselves, and the others after them.
+-- THE CUT IN TIME: where some of the entries are before a time, and all others at it or later, the
+-- first are in order by themselves, and the others after them.
 use Rattle.std.proofs.Common.{◌≡◌, ℕ, ◌+◌, Bool, true, false, cond, not, Option, Some, None, List, [], ◌∷◌, ◌++◌, length, map, refl, sym, ap, ◌∙◌, append-nil, arith}
 use Rattle.std.specs.Prelude.{filter}
 use Rattle.std.specs.List.{AllByRecursion}
@@ -120,7 +121,8 @@ late_all cut (r ∷ rs) final =
     ∙ ap (λ (es : List Entry). es ++ late cut (all_entries (wholes rs))) (late_of cut r final.0)
     ∙ ap (λ (es : List Entry). entries_of (whole_of (run_from_cut cut r)) ++ es) (late_all cut rs final.1)
 
--- THE LAW: the entries of the whole runs in order are those before the cut in order, and then those of what is left
+-- THE LAW: the entries of the whole runs in order are those before the cut in order, and then those
+-- of what is left
 pub runs_cut : (cut : Option ℕ) (rs : List SlicedView) → AllByRecursion (IsFinal cut) rs
     → entries_in_order (all_entries (wholes rs)) ≡ entries_in_order (all_entries (runs_before cut rs)) ++ entries_in_order (all_entries (wholes (runs_from_cut cut rs)))
 runs_cut cut rs final =

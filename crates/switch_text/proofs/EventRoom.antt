@@ -7,7 +7,7 @@ use Rattle.domain_run.specs.declared.happened.What.TheVariants.{JobEnds, NextRel
 use Rattle.domain_run.specs.declared.happened.Happened.{Happened}
 use Rattle.switch_text.specs.Names.{Names, HasName}
 use Rattle.switch_text.specs.Line.{digits_in, task_part, cpu_part, time_part}
-use Rattle.switch_text.specs.ToldLine.{stands_in_front, event_fields, told_line_of}
+use Rattle.switch_text.specs.LoggedLine.{stands_in_front, event_fields, logged_line_of}
 use Rattle.switch_text.specs.private.Parts.{second_part}
 
 pub seconds_fit : (time : ℕ) → time < 2 ^ 64 → length (decimal (time / 1000000)) ≤ 14
@@ -27,8 +27,8 @@ HasName-in_front names (Released deadline) number h = tt
 HasName-in_front names (WokenSpent deadline) number h = tt
 
 -- a line, of the parts that are put down one after another
-pub told_line_of-by_parts : (names : ℕ → List ℕ) (base : ℕ) (h : Happened) (front : Option ℕ) (cpu : ℕ) (t1 t2 t3 t4 t5 : List ℕ) → front ≡ stands_in_front h.what h.number → cpu ≡ base + h.cpu
+pub logged_line_of-by_parts : (names : ℕ → List ℕ) (base : ℕ) (h : Happened) (front : Option ℕ) (cpu : ℕ) (t1 t2 t3 t4 t5 : List ℕ) → front ≡ stands_in_front h.what h.number → cpu ≡ base + h.cpu
     → t1 ≡ task_part names front → t2 ≡ t1 ++ cpu_part cpu → t3 ≡ t2 ++ second_part (h.time / 1000000) → t4 ≡ t3 ++ digits_in 6 (h.time % 1000000) → t5 ≡ t4 ++ event_fields names cpu h.number h.what
-    → t5 ≡ told_line_of names base h
-unfolding told_line_of time_part
-told_line_of-by_parts names base h front cpu t1 t2 t3 t4 t5 e f p1 p2 p3 p4 p5 = rw (p5, p4, p3, p2, p1, e, f) (simp append_assoc)
+    → t5 ≡ logged_line_of names base h
+unfolding logged_line_of time_part
+logged_line_of-by_parts names base h front cpu t1 t2 t3 t4 t5 e f p1 p2 p3 p4 p5 = rw (p5, p4, p3, p2, p1, e, f) (simp append_assoc)

@@ -9,21 +9,22 @@ use Rattle.domain_run.specs.declared.happened.Happened.{Happened}
 use Rattle.domain_run.specs.Switch.{Switch}
 use Rattle.counted_io.specs.Faults.{TakesFront}
 use Rattle.switch_text.specs.declared.run.Run.{Run}
-use Rattle.switch_text.specs.declared.told.Told.{Told}
+use Rattle.switch_text.specs.declared.logged.DomainEvents.{DomainEvents}
 use Rattle.switch_text.specs.Trace.{SwitchesView, entry_of, entries_of, header}
 use Rattle.switch_text.specs.Runs.{switches_view_of, views, IsPrintable}
-use Rattle.switch_text.specs.Events.{ToldView, Event, told_event, told_events, switch_event, switch_events, all_events, in_sequence, lines_of_events, events_of}
-use Rattle.switch_text.specs.Telling.{told_view, told_views, IsTold}
+use Rattle.switch_text.specs.Events.{LoggedView, Event, logged_event, logged_events, switch_event, switch_events, all_events, in_sequence, lines_of_events, events_of}
+use Rattle.switch_text.specs.EventLines.{logged_view, logged_views, IsLogged}
 use Rattle.switch_text.specs.private.Merging.{entries_left}
 use Rattle.switch_text.specs.private.Sending.{Sends}
-use Rattle.switch_text.specs.private.ToldMerging.{is_line_told, left_told}
+use Rattle.switch_text.specs.private.LoggedMerging.{is_line_logged, left_logged}
 use Rattle.switch_text.specs.private.EventMerging.{of_entry, left_events, IsEventStep}
 use Rattle.switch_text.proofs.Few.{few}
 use Rattle.switch_text.proofs.UnderWay.{sends_on, length-sent, left_of-start}
 use Rattle.switch_text.proofs.Sliced.{stops_all, front_more}
 use Rattle.switch_text.specs.private.EventSlicing.{sequence_lines}
 
--- after a first text the lines of events go out: so many bytes did, these wait, and the others are still to be made
+-- after a first text the lines of events go out: so many bytes did, these wait, and the others are
+-- still to be made
 pub record AreUnderWay (before after : Option (List ℕ)) (first : List ℕ) (all left : List Event) (sent : ℕ) (waiting : List ℕ) : Type 0 where
   pub sends : Sends before after (first ++ sequence_lines all) sent (waiting ++ sequence_lines left)
   pub bound : sent + length waiting + 512 * length left ≤ length first + 512 * length all
@@ -70,16 +71,16 @@ pub events_fit : (before after : Option (List ℕ)) (first : List ℕ) (all left
 events_fit before after first all left sent n waiting u short few le = let bound = u.bound in omega (arith, bound, short, few, le)
 
 -- the events text is the header, and then the lines
-pub events_are : (first : List ℕ) (runs : List SwitchesView) (told : List ToldView) → first ≡ header → first ++ sequence_lines (all_events runs told) ≡ events_of runs told
+pub events_are : (first : List ℕ) (runs : List SwitchesView) (logged : List LoggedView) → first ≡ header → first ++ sequence_lines (all_events runs logged) ≡ events_of runs logged
 unfolding events_of
-events_are first runs told is = ap (λ (xs : List ℕ). xs ++ sequence_lines (all_events runs told)) is
+events_are first runs logged is = ap (λ (xs : List ℕ). xs ++ sequence_lines (all_events runs logged)) is
 
 -- ---- at first all is left
 
-left_told-start : (told : List ToldView) (n : ℕ) → length told ≤ n → left_told told (replicate n 0) ≡ flat_map told_events told
-left_told-start [] n h = refl
-left_told-start (t ∷ ts) zero h = absurd (omega arith)
-left_told-start (t ∷ ts) (suc n) h = ap (λ (es : List Event). told_events t ++ es) (left_told-start ts n (omega arith))
+left_logged-start : (logged : List LoggedView) (n : ℕ) → length logged ≤ n → left_logged logged (replicate n 0) ≡ flat_map logged_events logged
+left_logged-start [] n h = refl
+left_logged-start (t ∷ ts) zero h = absurd (omega arith)
+left_logged-start (t ∷ ts) (suc n) h = ap (λ (es : List Event). logged_events t ++ es) (left_logged-start ts n (omega arith))
 
 switch_events-is : (r : SwitchesView) (ss : List Switch) → map of_entry (map (entry_of r) ss) ≡ map (switch_event r) ss
 switch_events-is r [] = refl
@@ -91,35 +92,35 @@ all_switches-are (r ∷ rs) =
     map-append of_entry (entries_of r) (flat_map entries_of rs) ∙ ap (λ (es : List Event). es ++ map of_entry (flat_map entries_of rs)) (switch_events-is r r.switches)
     ∙ ap (λ (es : List Event). switch_events r ++ es) (all_switches-are rs)
 
-pub left_events-start : (runs : List Run) (told : List Told) → length runs ≤ 8 → length told ≤ 8
-    → left_events runs told (record { switches = replicate 8 0; told = replicate 8 0 }) ≡ all_events (views runs) (told_views told)
-left_events-start runs told few_runs few_told =
-    ap (λ (es : List Event). es ++ map of_entry (entries_left (views runs) (replicate 8 0))) (left_told-start (told_views told) 8 (omega (arith, length-map told told_view)))
-    ∙ ap (λ (es : List Event). flat_map told_events (told_views told) ++ es) (ap (map of_entry) (left_of-start (views runs) 8 (omega (arith, length-map runs switches_view_of))) ∙ all_switches-are (views runs))
+pub left_events-start : (runs : List Run) (logged : List DomainEvents) → length runs ≤ 8 → length logged ≤ 8
+    → left_events runs logged (record { switches = replicate 8 0; logged = replicate 8 0 }) ≡ all_events (views runs) (logged_views logged)
+left_events-start runs logged few_runs few_logged =
+    ap (λ (es : List Event). es ++ map of_entry (entries_left (views runs) (replicate 8 0))) (left_logged-start (logged_views logged) 8 (omega (arith, length-map logged logged_view)))
+    ∙ ap (λ (es : List Event). flat_map logged_events (logged_views logged) ++ es) (ap (map of_entry) (left_of-start (views runs) 8 (omega (arith, length-map runs switches_view_of))) ∙ all_switches-are (views runs))
 
 -- ---- they are few enough to be counted
 
-length-shown : (hs : List Happened) → length (filter is_line_told hs) ≤ length hs
+length-shown : (hs : List Happened) → length (filter is_line_logged hs) ≤ length hs
 length-shown [] = omega arith
 length-shown (h ∷ hs) =
     let more = length-shown hs in
-    elim (is_line_told h) as (λ b. length (cond b (h ∷ filter is_line_told hs) (filter is_line_told hs)) ≤ length (h ∷ hs)) [ true ↦ omega arith | false ↦ omega arith ]
+    elim (is_line_logged h) as (λ b. length (cond b (h ∷ filter is_line_logged hs) (filter is_line_logged hs)) ≤ length (h ∷ hs)) [ true ↦ omega arith | false ↦ omega arith ]
 
-few_told : (t : Told) → IsTold t → length (told_events (told_view t)) ≤ 2 ^ 50
-few_told t good =
+few_logged : (t : DomainEvents) → IsLogged t → length (logged_events (logged_view t)) ≤ 2 ^ 50
+few_logged t good =
     let few : length t.happened.now ≤ 2 ^ 50 = good.few in
-    omega (arith, length-map (filter is_line_told t.happened.now) (told_event (told_view t)), length-shown t.happened.now, few)
+    omega (arith, length-map (filter is_line_logged t.happened.now) (logged_event (logged_view t)), length-shown t.happened.now, few)
 
-told_in : (told : List Told) → AllByRecursion IsTold told → length (flat_map told_events (told_views told)) ≤ length told * 2 ^ 50
-told_in [] all = omega arith
-told_in (t ∷ ts) all =
-    let more = told_in ts all.1 in
-    let here = few_told t all.0 in
-    omega (arith, length-append (told_events (told_view t)) (flat_map told_events (told_views ts)), more, here)
+logged_in : (logged : List DomainEvents) → AllByRecursion IsLogged logged → length (flat_map logged_events (logged_views logged)) ≤ length logged * 2 ^ 50
+logged_in [] all = omega arith
+logged_in (t ∷ ts) all =
+    let more = logged_in ts all.1 in
+    let here = few_logged t all.0 in
+    omega (arith, length-append (logged_events (logged_view t)) (flat_map logged_events (logged_views ts)), more, here)
 
-pub few_events : (runs : List Run) (told : List Told) → length runs ≤ 8 → length told ≤ 8 → All IsPrintable runs → All IsTold told → length (all_events (views runs) (told_views told)) ≤ 2 ^ 53 + 2 ^ 54
-few_events runs told few_runs few_tolds are_runs are_told =
-    let told_bound = told_in told (recursion_from_All IsTold told are_told) in
+pub few_events : (runs : List Run) (logged : List DomainEvents) → length runs ≤ 8 → length logged ≤ 8 → All IsPrintable runs → All IsLogged logged → length (all_events (views runs) (logged_views logged)) ≤ 2 ^ 53 + 2 ^ 54
+few_events runs logged few_runs few_tolds are_runs are_logged =
+    let logged_bound = logged_in logged (recursion_from_All IsLogged logged are_logged) in
     let run_bound = few runs few_runs are_runs in
     let same : length (flat_map switch_events (views runs)) ≡ length (flat_map entries_of (views runs)) = sym (ap length (all_switches-are (views runs))) ∙ length-map (flat_map entries_of (views runs)) of_entry in
-    omega (arith, length-append (flat_map told_events (told_views told)) (flat_map switch_events (views runs)), told_bound, run_bound, same)
+    omega (arith, length-append (flat_map logged_events (logged_views logged)) (flat_map switch_events (views runs)), logged_bound, run_bound, same)

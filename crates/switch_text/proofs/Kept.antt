@@ -60,7 +60,8 @@ unfolding coming_part
 coming_part-same f g cpu None h = refl
 coming_part-same f g cpu (Some n) h = rw h refl
 
--- texts serve under all names that give the same name to their task, and those of a task on all CPUs
+-- texts serve under all names that give the same name to their task, and those of a task on all
+-- CPUs
 pub IsReady-same : (f g : ℕ → List ℕ) (cpu : ℕ) (task : Option ℕ) (s : Slot) → IfSome task (λ n. f n ≡ g n) → IsSlotReady f cpu task s → IsSlotReady g cpu task s
 IsReady-same f g cpu task s same h = record {
   head = h.head ∙ task_part-same f g task same;
@@ -130,7 +131,7 @@ line_of-by_parts names base s cpu e =
 with_lane : (a b c d e f g h : List ℕ) → (a ++ (b ++ c) ++ d ++ e ++ f ++ g) ++ h ≡ (a ++ b ++ c ++ d ++ e ++ f ++ g) ++ h
 with_lane a b c d e f g h = simp append_assoc
 
--- behind what waited, the line of a switch
+-- after what waited, the line of a switch
 pub line_made : (run : Run) (names : ℕ → List ℕ) (s : Switch) (cpu : ℕ) (a b : Slot) (lane state batch mid after : List ℕ) → SameNames (name_of_task run.names.now) names s → cpu ≡ run.base + s.cpu
     → IsSlotReady names cpu s.prev a → IsSlotReady names cpu s.next b → lane ≡ cpu_part cpu ++ second_part (s.time / 1000000) → state ≡ state_part s.state
     → mid ≡ batch ++ (short_text_of a.head ++ lane ++ digits_in 6 (s.time % 1000000) ++ event_part ++ piece_text a.leaving ++ state) → after ≡ mid ++ piece_text b.coming

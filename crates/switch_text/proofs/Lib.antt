@@ -16,8 +16,8 @@ mod Slicing
 mod SliceFronts
 mod EventRoom
 mod EventOrder
-mod ToldAhead
-mod ToldFound
+mod LoggedAhead
+mod LoggedFound
 mod EventPick
 mod EventsUnderWay
 mod EventCutting

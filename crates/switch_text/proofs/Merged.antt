@@ -1,4 +1,5 @@
--- Several runs at once: what is left of each, and that its first entry comes next where its head wins.
+-- Several runs at once: what is left of each, and that its first entry comes next where its head
+-- wins.
 use Rattle.std.proofs.Common.{◌≡◌, ◌≢◌, ℕ, zero, suc, ◌+◌, ◌-◌, ◌^◌, ◌<◌, ◌≤◌, true, false, List, [], ◌∷◌, ◌++◌, length, map, drop, replicate, set, get_or, refl, sym, ap, subst, ◌∙◌, append_assoc, arith, inl, inr}
 use Rattle.std.specs.Prelude.{All}
 use Rattle.std.specs.List.{AllByRecursion}
@@ -61,14 +62,14 @@ none_left [] places h = refl
 none_left (r ∷ rs) [] h = refl
 none_left (r ∷ rs) (p ∷ ps) h = ap (λ (es : List Entry). es ++ entries_left rs ps) (h 0) ∙ none_left rs ps (λ j. h (suc j))
 
--- the first entry that is left of a run is the next of all, where it is earlier than all that is left of
--- the runs before it, and not later than what is left of those behind it
+-- the first entry that is left of a run is the next of all, where it is earlier than all that is
+-- left of the runs before it, and not later than what is left of those after it
 ahead_at : (runs : List SwitchesView) (places : List ℕ) (i : ℕ) (e : Entry) (rest : List Entry) → left_at runs places i ≡ e ∷ rest → left_at runs (places_stepped places i) i ≡ rest → AllByRecursion (λ x. is_earlier x e ≡ false) rest
     → ((j : ℕ) → j < i → AllByRecursion (λ x. is_earlier e x ≡ true) (left_at runs places j)) → ((j : ℕ) → i < j → AllByRecursion (λ x. is_earlier x e ≡ false) (left_at runs places j)) → IsEntryAhead runs places i e
-ahead_at [] places i e rest here next not_later before behind = absurd cc
-ahead_at (r ∷ rs) [] i e rest here next not_later before behind = absurd cc
-ahead_at (r ∷ rs) (p ∷ ps) zero e rest here next not_later before behind =
-    let others = all_left (λ x. is_earlier x e ≡ false) rs ps (λ j. behind (suc j) (omega arith)) in
+ahead_at [] places i e rest here next not_later before following = absurd cc
+ahead_at (r ∷ rs) [] i e rest here next not_later before following = absurd cc
+ahead_at (r ∷ rs) (p ∷ ps) zero e rest here next not_later before following =
+    let others = all_left (λ x. is_earlier x e ≡ false) rs ps (λ j. following (suc j) (omega arith)) in
     record {
       before = [];
       after = rest ++ entries_left rs ps;
@@ -78,8 +79,8 @@ ahead_at (r ∷ rs) (p ∷ ps) zero e rest here next not_later before behind =
       earlier = tt;
       not_later = AllByRecursion-append (λ x. is_earlier x e ≡ false) rest (entries_left rs ps) not_later others;
     }
-ahead_at (r ∷ rs) (p ∷ ps) (suc i) e rest here next not_later before behind =
-    let a = ahead_at rs ps i e rest here next not_later (λ j lt. before (suc j) (omega (arith, lt))) (λ j gt. behind (suc j) (omega (arith, gt))) in
+ahead_at (r ∷ rs) (p ∷ ps) (suc i) e rest here next not_later before following =
+    let a = ahead_at rs ps i e rest here next not_later (λ j lt. before (suc j) (omega (arith, lt))) (λ j gt. following (suc j) (omega (arith, gt))) in
     let front = drop p (entries_of r) in
     let inside : i < length rs = a.inside in
     record {
@@ -140,9 +141,9 @@ none_before (e ∷ es) h all late s =
     let no : is_head_sooner h (record { time = e.time; cpu = e.cpu }) ≡ false = grind (arith, nat_tests) in
     absurd cc
 
-none_behind : (es : List Entry) (h : Head) → AllByRecursion IsEarly es → h.time ≡ 2 ^ 64 - 1 → is_head_sooner (head_of es) h ≡ false → es ≡ []
-none_behind [] h all late s = refl
-none_behind (e ∷ es) h all late s =
+none_later : (es : List Entry) (h : Head) → AllByRecursion IsEarly es → h.time ≡ 2 ^ 64 - 1 → is_head_sooner (head_of es) h ≡ false → es ≡ []
+none_later [] h all late s = refl
+none_later (e ∷ es) h all late s =
     let early : e.time < 2 ^ 42 = all.0 in
     let yes : is_head_sooner (record { time = e.time; cpu = e.cpu }) h ≡ true = grind (arith, nat_tests) in
     absurd cc
@@ -168,7 +169,7 @@ none_at runs m few all are none j = elim (cases_lt j 8) [
       let early = early_at runs m.places j (recursion_from_All IsPrintable runs all) in
       elim (cases_lt j m.heads.first) [
         | inl less ↦ none_before es top early late (subst (λ (h : Head). is_head_sooner top h ≡ true) (are.heads j inside) (w.before j (omega arith) less))
-        | inr more ↦ none_behind es top early late (subst (λ (h : Head). is_head_sooner h top ≡ false) (are.heads j inside) (w.behind j more inside))
+        | inr more ↦ none_later es top early late (subst (λ (h : Head). is_head_sooner h top ≡ false) (are.heads j inside) (w.following j more inside))
       ]
 ]
 
@@ -201,7 +202,7 @@ left_placed runs places i run at =
     let inside : i < length runs = at.inside in
     left_at-is (views runs) places i (switches_view_of run) (omega (arith, length-map runs switches_view_of, inside)) at.room (ap switches_view_of at.is ∙ sym (get_or-map switches_view_of runs i run (switches_view_of run) inside))
 
--- the places behind the next
+-- the places after the next
 pub left_stepped : (runs : List Run) (places : List ℕ) (i : ℕ) (run : Run) → IsPlaced runs places i run → left_at (views runs) (places_stepped places i) i ≡ drop (get_or places i 0 + 1) (entries_of (switches_view_of run))
 left_stepped runs places i run at =
     let v = get_or places i 0 + 1 in
@@ -209,17 +210,17 @@ left_stepped runs places i run at =
     let moved : IsPlaced runs (set places i v) i run = record { inside = at.inside; room = omega (arith, length-set places i v, room); is = at.is } in
     left_placed runs (set places i v) i run moved ∙ ap (λ (k : ℕ). drop k (entries_of (switches_view_of run))) (get_or-set_same places i v 0 room)
 
--- all that is left before the winner is later, and none that is left behind it is earlier
+-- all that is left before the winner is later, and none that is left after it is earlier
 pub record GoesFirst (runs : List SwitchesView) (places : List ℕ) (i : ℕ) (e : Entry) : Type 0 where
   pub before : (j : ℕ) → j < i → AllByRecursion (λ x. is_earlier e x ≡ true) (left_at runs places j)
-  pub behind : (j : ℕ) → i < j → AllByRecursion (λ x. is_earlier x e ≡ false) (left_at runs places j)
+  pub following : (j : ℕ) → i < j → AllByRecursion (λ x. is_earlier x e ≡ false) (left_at runs places j)
 
-behind_first : (runs : List Run) (m : Merge) (e : Entry) (i : ℕ) → length runs ≤ 8 → AllByRecursion IsPrintable runs → AreHeads (views runs) m → Wins m.heads.heads 0 8 i → head_in m.heads.heads i ≡ record { time = e.time; cpu = e.cpu }
+later_first : (runs : List Run) (m : Merge) (e : Entry) (i : ℕ) → length runs ≤ 8 → AllByRecursion IsPrintable runs → AreHeads (views runs) m → Wins m.heads.heads 0 8 i → head_in m.heads.heads i ≡ record { time = e.time; cpu = e.cpu }
     → (j : ℕ) → i < j → AllByRecursion (λ x. is_earlier x e ≡ false) (left_at (views runs) m.places j)
-behind_first runs m e i few are heads w top j gt = elim (cases_lt j 8) [
+later_first runs m e i few are heads w top j gt = elim (cases_lt j 8) [
   | inl inside ↦
       not_later_by_head e (left_at (views runs) m.places j) (rising_at runs m.places j are)
-      (subst (λ (h : Head). is_head_sooner (head_of (left_at (views runs) m.places j)) h ≡ false) top (subst (λ (h : Head). is_head_sooner h (head_in m.heads.heads i) ≡ false) (heads.heads j inside) (w.behind j (omega (arith, gt)) inside)))
+      (subst (λ (h : Head). is_head_sooner (head_of (left_at (views runs) m.places j)) h ≡ false) top (subst (λ (h : Head). is_head_sooner h (head_in m.heads.heads i) ≡ false) (heads.heads j inside) (w.following j (omega (arith, gt)) inside)))
   | inr past ↦ subst (λ (es : List Entry). AllByRecursion (λ x. is_earlier x e ≡ false) es) (sym (left_at-past (views runs) m.places j (omega (arith, length-map runs switches_view_of, few, past)))) tt
 ]
 
@@ -235,13 +236,13 @@ first_of_several runs m e rest few all heads here =
           let inside : j < 8 = omega (arith, lt, high) in
           earlier_by_head e (left_at (views runs) m.places j) (rising_at runs m.places j are)
           (subst (λ (h : Head). is_head_sooner h (head_of (left_at (views runs) m.places j)) ≡ true) top (subst (λ (h : Head). is_head_sooner (head_in m.heads.heads i) h ≡ true) (heads.heads j inside) (w.before j (omega arith) lt)));
-      behind = behind_first runs m e i few are heads w top;
+      following = later_first runs m e i few are heads w top;
     }
 
 first_alone : (runs : List Run) (places : List ℕ) (e : Entry) (i : ℕ) → length runs ≤ 1 → i ≡ 0 → GoesFirst (views runs) places i e
 first_alone runs places e i one is = record {
   before = λ j lt. absurd (omega (arith, lt, is));
-  behind = λ j gt. subst (λ (es : List Entry). AllByRecursion (λ x. is_earlier x e ≡ false) es) (sym (left_at-past (views runs) places j (omega (arith, length-map runs switches_view_of, one, gt)))) tt;
+  following = λ j gt. subst (λ (es : List Entry). AllByRecursion (λ x. is_earlier x e ≡ false) es) (sym (left_at-past (views runs) places j (omega (arith, length-map runs switches_view_of, one, gt)))) tt;
 }
 
 goes_first : (runs : List Run) (m : Merge) (e : Entry) (rest : List Entry) → length runs ≤ 8 → All IsPrintable runs → IsMerge (views runs) m → left_at (views runs) m.places m.heads.first ≡ e ∷ rest → GoesFirst (views runs) m.places m.heads.first e
@@ -269,7 +270,7 @@ found_some runs m n few all merge is at place_in switch_is small =
     let first : GoesFirst (views runs) places i e = subst (λ (k : ℕ). GoesFirst (views runs) places k e) (sym is) (goes_first runs m e rest few all merge (subst (λ (k : ℕ). left_at (views runs) places k ≡ e ∷ rest) is here)) in
     record {
       ahead = ahead_at (views runs) places i e rest here (left_stepped runs places i run at)
-          (AllByRecursion-weaker (λ x. is_earlier e x ≡ true) (λ x. is_earlier x e ≡ false) rest (λ x q. not_later-from_earlier e x q) rise.0) first.before first.behind;
+          (AllByRecursion-weaker (λ x. is_earlier e x ≡ true) (λ x. is_earlier x e ≡ false) rest (λ x q. not_later-from_earlier e x q) rise.0) first.before first.following;
       printed = subst (λ (s : Switch). HasLine run.names.now run.base s) (sym switch_is) (line_at runs places i run all at place_in n.switch.now);
       run = record { inside = at.inside; is = at.is };
       among = record { place = p; inside = place_in; is = switch_is };
@@ -319,7 +320,7 @@ AreStarted-all runs heads i all are j lt = elim (cases_lt j i) [
   | inr past ↦ are.others j past lt ∙ sym (ap head_of (left_at-past (views runs) (replicate 8 0) j (omega (arith, length-map runs switches_view_of, all, past))))
 ]
 
--- the heads behind the next
+-- the heads after the next
 pub heads_stepped : (runs : List Run) (m : Merge) (i : ℕ) (run : Run) (head : Head) (heads : List Head) → AreHeads (views runs) m → IsPlaced runs m.places i run → i < length m.heads.heads
     → head ≡ head_of (drop (get_or m.places i 0 + 1) (entries_of (switches_view_of run))) → heads ≡ set m.heads.heads i head → (j : ℕ) → j < 8 → head_in heads j ≡ head_of (left_at (views runs) (places_stepped m.places i) j)
 heads_stepped runs m i run head heads are at inside is here j lt =

@@ -5,7 +5,7 @@ use Rattle.std.proofs.lemmas.List.{length-take-le, take-append-le}
 use Rattle.std.proofs.lemmas.Simd.{put_chunk_is}
 use lib.Lanes.{put_chunk}
 
--- behind a copy of more bytes, the front up to n bytes of what was copied
+-- after a copy of more bytes, the front up to n bytes of what was copied
 pub take-put_chunk_front : (a n : ℕ) (xs ys : List ℕ) → n ≤ length ys → a + length ys ≤ length xs → take (a + n) (put_chunk a xs ys) ≡ take a xs ++ take n ys
 take-put_chunk_front a n xs ys within room =
     let rest = drop (length ys) (drop a xs) in

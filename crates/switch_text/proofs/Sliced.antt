@@ -1,4 +1,4 @@
--- Lines of runs that go out behind what waits.
+-- Lines of runs that go out after what waits.
 use Rattle.std.proofs.Common.{◌≡◌, ℕ, ◌+◌, ◌<◌, ◌≤◌, ◌^◌, List, [], ◌∷◌, ◌++◌, length, take, replicate, Option, refl, sym, ap, subst, ◌∙◌, append-nil, arith}
 use Rattle.std.specs.List.{flat_map}
 use Rattle.std.specs.Io.KnownBytes.{Appends}
@@ -51,7 +51,7 @@ stops_all before mid after text left sent n s t =
       some_left = omega (arith, length-sent before mid text left sent s, t.some_left);
     }
 
--- the writer takes the front of what waits, and not all: so it does of that with more behind it
+-- the writer takes the front of what waits, and not all: so it does of that with more after it
 pub front_more : (before after : Option (List ℕ)) (text more : List ℕ) (n : ℕ) → TakesFront before after text n → TakesFront before after (text ++ more) n
 front_more before after text more n t =
     let some_left : n < length text = t.some_left in

@@ -33,7 +33,7 @@ IsSlicing-start before all waiting is = record {
   bound = omega (arith, ap length is, length-header);
 }
 
--- the lines before the cut go out behind what waits
+-- the lines before the cut go out after what waits
 pub IsSlicing-next : (before mid after : Option (List ℕ)) (all : List SwitchesView) (cut : Option ℕ) (rs : List SlicedView) (sent n : ℕ) (waiting left : List ℕ) → IsSlicing before mid all (wholes rs) sent waiting
     → AllByRecursion (IsFinal cut) rs → Sends mid after (waiting ++ lines_in (runs_before cut rs)) n left → n + length left ≤ length waiting + 512 * length (all_entries (runs_before cut rs))
     → IsSlicing before after all (wholes (runs_from_cut cut rs)) (sent + n) left
@@ -225,7 +225,7 @@ hand_before t r some past =
     let all = AllByRecursion-weaker (λ (s : Switch). s.time < t) (λ s. is_before_cut (Some t) s.time ≡ true) r.at_hand (λ s q. early_time t s.time q) (recursion_from_All (λ (s : Switch). s.time < t) r.at_hand past) in
     omega (arith, some, ap length (filter_every (λ (s : Switch). is_before_cut (Some t) s.time) r.at_hand all))
 
--- what a run tells when it has made more
+-- what a run logs when it has made more
 pub record IsFilled (next : Option ℕ) (r : SlicedView) : Type 0 where
   pub none : IfNone next (r.to_come ≡ [])
   pub some : IfSome next (λ t. 0 < length r.at_hand)
@@ -264,7 +264,7 @@ AreCutAt-more (Some a) None done r so_far more = record {
 }
 AreCutAt-more (Some a) (Some b) done r so_far more = both_cut a b (ltb b a) done r refl so_far more
 
--- ---- where there is no cut, all is at hand, and nothing is left behind it
+-- ---- where there is no cut, all is at hand, and nothing is left after it
 
 from_no_cut : (ss : List Switch) → switches_from_cut None ss ≡ []
 from_no_cut [] = refl

@@ -22,9 +22,9 @@ before_down : (cut : Option ℕ) (a b : ℕ) → a ≤ b → is_before_cut cut b
 before_down None a b h is = refl
 before_down (Some t) a b h is = grind (arith, nat_tests)
 
-behind_up : (cut : Option ℕ) (a b : ℕ) → a ≤ b → is_before_cut cut a ≡ false → is_before_cut cut b ≡ false
-behind_up None a b h is = is
-behind_up (Some t) a b h is = grind (arith, nat_tests)
+after_up : (cut : Option ℕ) (a b : ℕ) → a ≤ b → is_before_cut cut a ≡ false → is_before_cut cut b ≡ false
+after_up None a b h is = is
+after_up (Some t) a b h is = grind (arith, nat_tests)
 
 abbrev pub IsEarly : Option ℕ → Switch → Type 0
 IsEarly cut s = is_before_cut cut s.time ≡ true
@@ -83,7 +83,7 @@ others_late cut ss n s rise inside at is =
     from (suc k) d h =
         let pair = rise n (n + suc k) d (omega arith) h in
         let here : IsLate cut (get_or ss n d) = subst (IsLate cut) (sym at ∙ get_or_default ss n s d inside) is in
-        behind_up cut (get_or ss n d).time (get_or ss (n + suc k) d).time (time_rises (get_or ss n d) (get_or ss (n + suc k) d) pair) here
+        after_up cut (get_or ss n d).time (get_or ss (n + suc k) d).time (time_rises (get_or ss n d) (get_or ss (n + suc k) d) pair) here
 
 -- those up to a place
 pub firsts_early : (cut : Option ℕ) (ss : List Switch) (n : ℕ) → n ≤ length ss → ((k : ℕ) (d : Switch) → k < n → IsEarly cut (get_or ss k d)) → AllByRecursion (IsEarly cut) (take n ss)

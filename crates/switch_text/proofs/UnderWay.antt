@@ -35,7 +35,7 @@ length-header = refl
 pub sent_within : (before after : Option (List ℕ)) (waiting left : List ℕ) (n : ℕ) → Sends before after waiting n left → n ≤ length waiting
 sent_within before after waiting left n s = omega (arith, length-sent before after waiting left n s)
 
--- what is added behind the text is left, too
+-- what is added after the text is left, too
 pub Sends-more : (before after : Option (List ℕ)) (text left more : List ℕ) (n : ℕ) → Sends before after text n left → Sends before after (text ++ more) n (left ++ more)
 Sends-more before after text left more n s = record {
   gone = s.gone;

@@ -12,22 +12,22 @@ use Rattle.switch_text.specs.private.Winning.{is_head_sooner, head_in, Wins}
 sooner_trans : (a b c : Head) → is_head_sooner a b ≡ true → is_head_sooner b c ≡ true → is_head_sooner a c ≡ true
 sooner_trans a b c p q = grind (arith, nat_tests)
 
--- a is sooner than b, and b is not behind c
+-- a is sooner than b, and b is not after c
 sooner_then : (a b c : Head) → is_head_sooner a b ≡ true → is_head_sooner c b ≡ false → is_head_sooner a c ≡ true
 sooner_then a b c p q = grind (arith, nat_tests)
 
--- a is not behind b, and b is sooner than c
-not_behind_trans : (a b c : Head) → is_head_sooner b a ≡ false → is_head_sooner b c ≡ true → is_head_sooner c a ≡ false
-not_behind_trans a b c p q = grind (arith, nat_tests)
+-- a is not after b, and b is sooner than c
+not_after_trans : (a b c : Head) → is_head_sooner b a ≡ false → is_head_sooner b c ≡ true → is_head_sooner c a ≡ false
+not_after_trans a b c p q = grind (arith, nat_tests)
 
--- a is not behind b, and b is not behind c
-not_behind_twice : (a b c : Head) → is_head_sooner b a ≡ false → is_head_sooner c b ≡ false → is_head_sooner c a ≡ false
-not_behind_twice a b c p q = grind (arith, nat_tests)
+-- a is not after b, and b is not after c
+not_after_twice : (a b c : Head) → is_head_sooner b a ≡ false → is_head_sooner c b ≡ false → is_head_sooner c a ≡ false
+not_after_twice a b c p q = grind (arith, nat_tests)
 
 not_sooner_self : (a : Head) → is_head_sooner a a ≡ false
 not_sooner_self a = grind (arith, nat_tests)
 
--- ---- the winner of two ranges, one behind the other
+-- ---- the winner of two ranges, one after the other
 
 second_before : (heads : List Head) (from mid to a b : ℕ) → Wins heads from mid a → Wins heads mid to b → is_head_sooner (head_in heads b) (head_in heads a) ≡ true
     → (j : ℕ) → from ≤ j → j < b → is_head_sooner (head_in heads b) (head_in heads j) ≡ true
@@ -35,7 +35,7 @@ second_before heads from mid to a b wa wb s j ge lt = elim (cases_lt j mid) [
   | inr far ↦ wb.before j far lt
   | inl near ↦ elim (cases_lt j a) [
     | inl less ↦ sooner_trans (head_in heads b) (head_in heads a) (head_in heads j) s (wa.before j ge less)
-    | inr more ↦ sooner_then (head_in heads b) (head_in heads a) (head_in heads j) s (wa.behind j more near)
+    | inr more ↦ sooner_then (head_in heads b) (head_in heads a) (head_in heads j) s (wa.following j more near)
   ]
 ]
 
@@ -48,16 +48,16 @@ Wins-second heads from mid to a b wa wb s =
       low = omega (arith, low, high, next);
       high = wb.high;
       before = second_before heads from mid to a b wa wb s;
-      behind = wb.behind;
+      following = wb.following;
     }
 
-first_behind : (heads : List Head) (from mid to a b : ℕ) → Wins heads from mid a → Wins heads mid to b → is_head_sooner (head_in heads b) (head_in heads a) ≡ false
+first_after : (heads : List Head) (from mid to a b : ℕ) → Wins heads from mid a → Wins heads mid to b → is_head_sooner (head_in heads b) (head_in heads a) ≡ false
     → (j : ℕ) → a ≤ j → j < to → is_head_sooner (head_in heads j) (head_in heads a) ≡ false
-first_behind heads from mid to a b wa wb s j ge lt = elim (cases_lt j mid) [
-  | inl near ↦ wa.behind j ge near
+first_after heads from mid to a b wa wb s j ge lt = elim (cases_lt j mid) [
+  | inl near ↦ wa.following j ge near
   | inr far ↦ elim (cases_lt j b) [
-    | inl less ↦ not_behind_trans (head_in heads a) (head_in heads b) (head_in heads j) s (wb.before j far less)
-    | inr more ↦ not_behind_twice (head_in heads a) (head_in heads b) (head_in heads j) s (wb.behind j more lt)
+    | inl less ↦ not_after_trans (head_in heads a) (head_in heads b) (head_in heads j) s (wb.before j far less)
+    | inr more ↦ not_after_twice (head_in heads a) (head_in heads b) (head_in heads j) s (wb.following j more lt)
   ]
 ]
 
@@ -70,7 +70,7 @@ Wins-first heads from mid to a b wa wb s =
       low = wa.low;
       high = omega (arith, high, low, last);
       before = wa.before;
-      behind = first_behind heads from mid to a b wa wb s;
+      following = first_after heads from mid to a b wa wb s;
     }
 
 pub Wins-of_two : (heads : List Head) (a b : ℕ) (test : Bool) → test ≡ is_head_sooner (head_in heads b) (head_in heads a) → (from mid to : ℕ) → Wins heads from mid a → Wins heads mid to b → Wins heads from to (cond test b a)
@@ -83,7 +83,7 @@ Wins-alone heads i to is = record {
   low = omega arith;
   high = omega (arith, is);
   before = λ j ge lt. absurd (omega (arith, ge, lt));
-  behind = λ j ge lt.
+  following = λ j ge lt.
       let same : i ≡ j = omega (arith, ge, lt, is) in
       subst (λ (k : ℕ). is_head_sooner (head_in heads k) (head_in heads i) ≡ false) same (not_sooner_self (head_in heads i));
 }
@@ -122,5 +122,5 @@ Wins-set_other heads place head from to i apart w =
       low = w.low;
       high = w.high;
       before = λ j ge lt. rw (own, head_set_other heads place head j (apart j ge (omega (arith, lt, high)))) (w.before j ge lt);
-      behind = λ j ge lt. rw (own, head_set_other heads place head j (apart j (omega (arith, low, ge)) lt)) (w.behind j ge lt);
+      following = λ j ge lt. rw (own, head_set_other heads place head j (apart j (omega (arith, low, ge)) lt)) (w.following j ge lt);
     }

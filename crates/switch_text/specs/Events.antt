@@ -6,12 +6,12 @@ use Rattle.domain_run.specs.Switch.{Switch}
 use Rattle.domain_run.specs.declared.happened.Happened.{Happened}
 use Rattle.domain_run.specs.Happened.{kind_rank}
 use Rattle.switch_text.specs.Line.{switch_line}
-use Rattle.switch_text.specs.ToldLine.{has_line, told_line_of}
+use Rattle.switch_text.specs.LoggedLine.{has_line, logged_line_of}
 use Rattle.switch_text.specs.Trace.{SwitchesView, header}
 
 -- what happens in one domain: the CPU of the machine that is its CPU 0, the names of its tasks by
 -- number, and what happens to them
-pub record ToldView : Type 0 where
+pub record LoggedView : Type 0 where
   pub base : ℕ
   pub names : ℕ → List ℕ
   pub happened : List Happened
@@ -25,13 +25,13 @@ pub record Event : Type 0 where
   pub number : ℕ
   pub line : List ℕ
 
-abbrev pub told_event : ToldView → Happened → Event
-told_event t h = record {
+abbrev pub logged_event : LoggedView → Happened → Event
+logged_event t h = record {
   time = h.time;
   rank = kind_rank h.what;
   cpu = t.base + h.cpu;
   number = h.number;
-  line = told_line_of t.names t.base h;
+  line = logged_line_of t.names t.base h;
 }
 
 -- a switch comes after all that happens at its time
@@ -44,8 +44,8 @@ switch_event r s = record {
   line = switch_line r.names r.base s;
 }
 
-abbrev pub told_events : ToldView → List Event
-told_events t = map (told_event t) (filter (λ h. has_line h.what) t.happened)
+abbrev pub logged_events : LoggedView → List Event
+logged_events t = map (logged_event t) (filter (λ h. has_line h.what) t.happened)
 
 abbrev pub switch_events : SwitchesView → List Event
 switch_events r = map (switch_event r) r.switches
@@ -68,12 +68,12 @@ in_sequence [] = []
 in_sequence (e ∷ es) = with_event e (in_sequence es)
 
 -- all that happens and all switches
-abbrev pub all_events : List SwitchesView → List ToldView → List Event
-all_events runs told = flat_map told_events told ++ flat_map switch_events runs
+abbrev pub all_events : List SwitchesView → List LoggedView → List Event
+all_events runs logged = flat_map logged_events logged ++ flat_map switch_events runs
 
 unfoldable pub lines_of_events : List Event → List ℕ
 lines_of_events es = flat_map (λ e. e.line) es
 
 -- the header, and then the lines of all of them in their order
-unfoldable pub events_of : List SwitchesView → List ToldView → List ℕ
-events_of runs told = header ++ lines_of_events (in_sequence (all_events runs told))
+unfoldable pub events_of : List SwitchesView → List LoggedView → List ℕ
+events_of runs logged = header ++ lines_of_events (in_sequence (all_events runs logged))

@@ -3,9 +3,9 @@ pub mod Line
 pub mod Trace
 pub mod Runs
 pub mod SlicedTrace
-pub mod ToldLine
+pub mod LoggedLine
 pub mod Events
-pub mod Telling
+pub mod EventLines
 pub mod SlicedEvents
 pub mod Examples
 pub mod EventExamples

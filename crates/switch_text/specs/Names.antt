@@ -8,6 +8,7 @@ use Rattle.std.specs.declared.hash.FoldHasher.{FoldHasher}
 use Rattle.std.specs.declared.hash.BuildHasherDefault.{BuildHasherDefault}
 use Rattle.indexmap.specs.IndexMap.{IndexMap, get}
 use Rattle.domain_run.specs.Switch.{Switch}
+use Rattle.limits.specs.Limits.{clock_end}
 
 -- names by the tasks' numbers
 abbrev pub Names : Type 0
@@ -25,7 +26,7 @@ pub record HasName (names : Names) (number : ℕ) : Type 0 where
 -- what has a line: a time below 2^42, a CPU of the machine below 512, and names for who leaves and
 -- who comes
 pub record HasLine (names : Names) (base : ℕ) (s : Switch) : Type 0 where
-  pub time : s.time < 2 ^ 42
+  pub time : s.time < clock_end
   pub cpu : base + s.cpu < 512
   pub prev : IfSome s.prev (HasName names)
   pub next : IfSome s.next (HasName names)

@@ -8,5 +8,5 @@ pub mod Pieces
 pub mod Ready
 pub mod Sending
 pub mod Sliced
-pub mod ToldMerging
+pub mod LoggedMerging
 pub mod Winning

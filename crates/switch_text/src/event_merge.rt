@@ -2,21 +2,21 @@
 
 ghost use Rattle.std.specs.Prelude.{◌≡◌, ◌≤◌, length, replicate, All};
 ghost use Rattle.switch_text.specs.Runs.{views, IsPrintable};
-ghost use Rattle.switch_text.specs.Telling.{IsTold};
+ghost use Rattle.switch_text.specs.EventLines.{IsLogged};
 ghost use Rattle.switch_text.specs.private.EventMerging as merging;
 ghost use Rattle.switch_text.specs.private.EventMerging.{after_next, places_of, CanShow, CanStep, IsEventFound};
 ghost use Rattle.switch_text.specs.private.Winning.{IsMerge};
 
+use crate::logged::DomainEvents;
+use crate::logged_lines::has_a_line;
+use crate::logged_merge::{NextLogged, next_logged};
 use crate::merge::{Merge, Next};
 use crate::run::Run;
-use crate::told::Told;
-use crate::told_lines::has_a_line;
-use crate::told_merge::{NextTold, next_told};
 
 /// What comes next: something that happens, or a switch.
 #[derive(Clone, Copy)]
 pub(crate) enum NextEvent<'a, 'b, 'c, 'd> {
-    Told(NextTold<'a, 'b>),
+    DomainEvents(NextLogged<'a, 'b>),
     Switch(Next<'c, 'd>),
 }
 
@@ -24,7 +24,7 @@ pub(crate) enum NextEvent<'a, 'b, 'c, 'd> {
 #[derive(Drop)]
 pub(crate) struct EventMerge {
     pub(crate) switches: Merge,
-    pub(crate) told: [usize; 8],
+    pub(crate) logged: [usize; 8],
 }
 
 impl EventMerge {
@@ -33,12 +33,12 @@ impl EventMerge {
         requires few { length runs.now ≤ 8 }
         requires runs { All IsPrintable runs.now }
         ensures switches { result.switches.places ≡ replicate 8 0 }
-        ensures told { result.told ≡ replicate 8 0 }
+        ensures logged { result.logged ≡ replicate 8 0 }
         ensures heads { IsMerge (views runs.now) result.switches }
     {
         EventMerge {
             switches: Merge::start(runs),
-            told: [0; 8],
+            logged: [0; 8],
         }
     }
 
@@ -53,7 +53,7 @@ impl EventMerge {
         ensures heads { IsMerge (views runs.now) self.new.switches }
     {
         match next {
-            NextEvent::Told(next) => self.told[next.index] += 1,
+            NextEvent::DomainEvents(next) => self.logged[next.index] += 1,
             NextEvent::Switch(next) => self.switches.step(runs, next),
         }
     }
@@ -61,14 +61,14 @@ impl EventMerge {
 
 /// Whether it goes before the switch: a cut does, and all that happens before the switch or at its
 /// time.
-fn goes_first(happens: &NextTold<'_, '_>, switch: &Next<'_, '_>) -> bool
+fn goes_first(happens: &NextLogged<'_, '_>, switch: &Next<'_, '_>) -> bool
     ensures { result ≡ merging.goes_first happens.now switch.now }
 {
     !has_a_line(happens.happened.what) || happens.happened.time <= switch.switch.time()
 }
 
 fn first_of<'a, 'b, 'c, 'd>(
-    happens: Option<NextTold<'a, 'b>>,
+    happens: Option<NextLogged<'a, 'b>>,
     switch: Option<Next<'c, 'd>>,
 ) -> Option<NextEvent<'a, 'b, 'c, 'd>>
     ensures { result ≡ merging.first_event_of happens.entry switch.entry }
@@ -77,10 +77,10 @@ fn first_of<'a, 'b, 'c, 'd>(
         return Some(NextEvent::Switch(switch?));
     };
     let Some(switch) = switch else {
-        return Some(NextEvent::Told(happens));
+        return Some(NextEvent::DomainEvents(happens));
     };
     if goes_first(&happens, &switch) {
-        return Some(NextEvent::Told(happens));
+        return Some(NextEvent::DomainEvents(happens));
     }
     Some(NextEvent::Switch(switch))
 }
@@ -89,15 +89,18 @@ fn first_of<'a, 'b, 'c, 'd>(
 /// none where nothing is left; a cut, which has no line, at once.
 pub(crate) fn next_event<'a, 'b, 'c, 'd>(
     runs: &'c [Run<'d>],
-    told: &'a [Told<'b>],
+    logged: &'a [DomainEvents<'b>],
     merge: &EventMerge,
 ) -> Option<NextEvent<'a, 'b, 'c, 'd>>
     requires few_runs { length runs.now ≤ 8 }
-    requires few_told { length told.now ≤ 8 }
+    requires few_logged { length logged.now ≤ 8 }
     requires runs { All IsPrintable runs.now }
-    requires told { All IsTold told.now }
+    requires logged { All IsLogged logged.now }
     requires heads { IsMerge (views runs.now) merge.now.switches }
-    ensures { IsEventFound runs.now told.now (places_of merge.now) result }
+    ensures { IsEventFound runs.now logged.now (places_of merge.now) result }
 {
-    first_of(next_told(told, &merge.told), merge.switches.next(runs))
+    first_of(
+        next_logged(logged, &merge.logged),
+        merge.switches.next(runs),
+    )
 }

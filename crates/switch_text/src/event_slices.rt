@@ -7,11 +7,11 @@ ghost use Rattle.counted_io.specs.Sides.{inner_of, faults_of};
 ghost use Rattle.counted_io.specs.Faults.{one_more_unless, TakesFront};
 ghost use Rattle.switch_text.specs.Names.{name_of_task, SameNames};
 ghost use Rattle.switch_text.specs.Runs.{IsPrintable};
-ghost use Rattle.switch_text.specs.SlicedEvents.{SlicedEventsView, whole_told_run, told_runs, events_in, told_runs_text, without_fronts, is_told_by, IsAllAtHand};
-ghost use Rattle.switch_text.specs.Telling.{is_sooner_unless_cut, IsTold};
-ghost use Rattle.switch_text.specs.ToldLine.{has_line};
+ghost use Rattle.switch_text.specs.SlicedEvents.{SlicedEventsView, whole_logged_run, logged_runs, events_in, logged_runs_text, without_fronts, is_logged_by, IsAllAtHand};
+ghost use Rattle.switch_text.specs.EventLines.{is_sooner_unless_cut, IsLogged};
+ghost use Rattle.switch_text.specs.LoggedLine.{has_line};
 ghost use Rattle.switch_text.specs.private.EventSlicing as slicing;
-ghost use Rattle.switch_text.specs.private.EventSlicing.{lines_before_cut, told_before, told_from_cut, told_runs_before, told_run_from_cut, told_runs_from_cut, switches_part, names_told_by, AreEventsCutAt, IsToldFront};
+ghost use Rattle.switch_text.specs.private.EventSlicing.{lines_before_cut, logged_before, logged_from_cut, logged_runs_before, logged_run_from_cut, logged_runs_from_cut, switches_part, names_logged_by, AreEventsCutAt, IsLoggedFront};
 ghost use Rattle.switch_text.specs.private.Ready.{AreEnough, IsSlot, IsTexts};
 ghost use Rattle.switch_text.specs.private.Sending.{Sends};
 ghost use Rattle.switch_text.specs.private.Sliced.{IsFront};
@@ -19,10 +19,10 @@ ghost use Rattle.switch_text.specs.private.Sliced.{IsFront};
 use crate::batch::Batch;
 use crate::events::send_events;
 use crate::fault::WriteFault;
+use crate::logged::DomainEvents;
 use crate::ready::{Slot, Texts, TraceRoom, no_texts};
 use crate::run::Run;
 use crate::slices::{count_before, earlier};
-use crate::told::Told;
 use crate::writing::{header_text, stopped_after};
 use counted_io::Counted;
 use domain_run::Happened;
@@ -36,7 +36,8 @@ const RANK_OF_BEGINNINGS: u8 = 4;
 /// no cut is.
 pub trait EventSlices {
     /// The run: its first CPU of the machine, the names of the tasks of the whole run, the switches
-    /// at hand and those to come, and what is told of what happens and what is still to be told.
+    /// at hand and those to come, and what is logged of what happens and what is still to be
+    /// logged.
     ghost sliced: { Self → SlicedEventsView };
 
     /// What of it no call changes, such as the calls that the run is made of. No text shows it.
@@ -47,26 +48,26 @@ pub trait EventSlices {
     /// Makes more of the run, after what is at hand, until there is room for no more. Takes no
     /// memory. `None`: nothing is to come any more. `Some`: up to which time the run is made; of
     /// switches and of what happens at least one is at hand. The switches at hand are before that
-    /// time, and those to come are at that time or later. What ends a tick at that time is told,
-    /// and what begins one at that time is still to be told.
+    /// time, and those to come are at that time or later. What ends a tick at that time is logged,
+    /// and what begins one at that time is still to be logged.
     fn fill(&mut self) -> Option<u64>
-        ensures whole { whole_told_run (sliced self.new) ≡ whole_told_run (sliced self.old) }
+        ensures whole { whole_logged_run (sliced self.new) ≡ whole_logged_run (sliced self.old) }
         ensures none { IfNone result (IsAllAtHand (sliced self.new)) }
         ensures some { IfSome result
-            (λ _. 0 < length (sliced self.new).at_hand + length (sliced self.new).told) }
+            (λ _. 0 < length (sliced self.new).at_hand + length (sliced self.new).logged) }
         ensures past { IfSome result (λ time. All (λ s. s.time < time) (sliced self.new).at_hand) }
-        ensures told { IfSome result
-            (λ time. All (λ h. IsTrue (is_told_by time h)) (sliced self.new).told) }
+        ensures logged { IfSome result
+            (λ time. All (λ h. IsTrue (is_logged_by time h)) (sliced self.new).logged) }
         ensures later { IfSome result
             (λ time. All (λ s. time ≤ s.time) (sliced self.new).to_come) }
-        ensures untold { IfSome result
-            (λ time. All (λ h. is_told_by time h ≡ false) (sliced self.new).to_tell) }
+        ensures unlogged { IfSome result
+            (λ time. All (λ h. is_logged_by time h ≡ false) (sliced self.new).to_log) }
         ensures kept { kept self.new ≡ kept self.old };
 
-    /// Forgets the first `switches` of the switches at hand and the first `told` of what is told,
-    /// or all if they are fewer. Takes no memory.
-    fn forget_front(&mut self, switches: usize, told: usize)
-        ensures rest { sliced self.new ≡ without_fronts switches told (sliced self.old) }
+    /// Forgets the first `switches` of the switches at hand and the first `logged` of what is
+    /// logged, or all if they are fewer. Takes no memory.
+    fn forget_front(&mut self, switches: usize, logged: usize)
+        ensures rest { sliced self.new ≡ without_fronts switches logged (sliced self.old) }
         ensures kept { kept self.new ≡ kept self.old };
 
     /// The switches at hand, as they are written. Their names are those of the whole run.
@@ -77,38 +78,38 @@ pub trait EventSlices {
         ensures names { All (SameNames (name_of_task result.names.now) (sliced self.now).names)
             result.switches.now };
 
-    /// What is told of what happens, as it is written; no cut is in it. Its names are those of the
-    /// whole run.
-    fn told(&self) -> Told<'_>
-        ensures told { IsTold result }
+    /// What is logged of what happens, as it is written; no cut is in it. Its names are those of
+    /// the whole run.
+    fn logged(&self) -> DomainEvents<'_>
+        ensures logged { IsLogged result }
         ensures lines { All (λ h. IsTrue (has_line h.what)) result.happened.now }
         ensures base { result.base ≡ (sliced self.now).base }
-        ensures happened { result.happened.now ≡ (sliced self.now).told }
+        ensures happened { result.happened.now ≡ (sliced self.now).logged }
         ensures names { All
             (λ h. name_of_task result.names.now h.number ≡ (sliced self.now).names h.number)
             result.happened.now };
 }
 
 /// All runs make more. The cut is the least time up to which a run is made that has more to come:
-/// what is told by then, and the switches before it, are final. `None`: no run has more to come.
+/// what is logged by then, and the switches before it, are final. `None`: no run has more to come.
 fn fill_all<S: EventSlices>(slices: &mut [S]) -> Option<u64>
-    ensures whole { told_runs (map S.sliced slices.new) ≡ told_runs (map S.sliced slices.old) }
+    ensures whole { logged_runs (map S.sliced slices.new) ≡ logged_runs (map S.sliced slices.old) }
     ensures cut { AreEventsCutAt result (map S.sliced slices.new) }
     ensures kept { map S.kept slices.new ≡ map S.kept slices.old }
 {
     let mut cut = None;
     'runs: for slice in slices.iter_mut() {
         let made = slice.fill();
-        // For the prover alone: a look at what is told brings that all of it has a line.
-        let _ = slice.told();
+        // Only the proof needs this call: it shows that each logged event has a line.
+        let _ = slice.logged();
         cut = earlier(cut, made);
     }
     cut
 }
 
-/// Whether it is told by the cut, if there is one.
-fn is_told_before(happened: &Happened, cut: Option<u64>) -> bool
-    ensures { result ≡ slicing.is_told_before cut happened.now }
+/// Whether it is logged by the cut, if there is one.
+fn is_logged_before(happened: &Happened, cut: Option<u64>) -> bool
+    ensures { result ≡ slicing.is_logged_before cut happened.now }
 {
     match cut {
         None => true,
@@ -119,17 +120,17 @@ fn is_told_before(happened: &Happened, cut: Option<u64>) -> bool
     }
 }
 
-/// How much of what is told is told by the cut. It rises, so this is the first of it.
-fn count_told(happened: &[Happened], cut: Option<u64>) -> usize
+/// How much of what is logged is logged by the cut. It rises, so this is the first of it.
+fn count_logged(happened: &[Happened], cut: Option<u64>) -> usize
     requires rising { AllPairs (λ a b. IsTrue (is_sooner_unless_cut a b)) happened.now }
     requires lines { All (λ h. IsTrue (has_line h.what)) happened.now }
-    ensures front { take result happened.now ≡ told_before cut happened.now }
-    ensures rest { drop result happened.now ≡ told_from_cut cut happened.now }
+    ensures front { take result happened.now ≡ logged_before cut happened.now }
+    ensures rest { drop result happened.now ≡ logged_from_cut cut happened.now }
     ensures inside { result ≤ length happened.now }
 {
     let mut count = 0;
     'count: while count < happened.len() {
-        if !is_told_before(&happened[count], cut) {
+        if !is_logged_before(&happened[count], cut) {
             return count;
         }
         count += 1;
@@ -150,16 +151,16 @@ fn run_front<S: EventSlices>(slices: &S, cut: Option<u64>) -> Run<'_>
     }
 }
 
-/// What is told by the cut, as it is written.
-fn told_front<S: EventSlices>(slices: &S, cut: Option<u64>) -> Told<'_>
-    ensures front { IsToldFront cut (S.sliced slices.now) result }
+/// What is logged by the cut, as it is written.
+fn logged_front<S: EventSlices>(slices: &S, cut: Option<u64>) -> DomainEvents<'_>
+    ensures front { IsLoggedFront cut (S.sliced slices.now) result }
 {
-    let told = slices.told();
-    let count = count_told(told.happened, cut);
-    Told {
-        base: told.base,
-        names: told.names,
-        happened: &told.happened[..count],
+    let logged = slices.logged();
+    let count = count_logged(logged.happened, cut);
+    DomainEvents {
+        base: logged.base,
+        names: logged.names,
+        happened: &logged.happened[..count],
     }
 }
 
@@ -178,19 +179,19 @@ fn run_fronts<S: EventSlices>(slices: &[S], cut: Option<u64>) -> [Run<'_>; 8]
     runs
 }
 
-/// Of each run what is told by the cut. The other places repeat the first one.
-fn told_fronts<S: EventSlices>(slices: &[S], cut: Option<u64>) -> [Told<'_>; 8]
+/// Of each run what is logged by the cut. The other places repeat the first one.
+fn logged_fronts<S: EventSlices>(slices: &[S], cut: Option<u64>) -> [DomainEvents<'_>; 8]
     requires some { 0 < length slices.now }
     requires few { length slices.now ≤ 8 }
     ensures long { length result ≡ 8 }
-    ensures fronts { (i : ℕ) (s : S) (t : Told) → i < length slices.now
-        → IsToldFront cut (S.sliced (slice_index_or slices.now i s)) (slice_index_or result i t) }
+    ensures fronts { (i : ℕ) (s : S) (t : DomainEvents) → i < length slices.now
+        → IsLoggedFront cut (S.sliced (slice_index_or slices.now i s)) (slice_index_or result i t) }
 {
-    let mut told = [told_front(&slices[0], cut); 8];
+    let mut logged = [logged_front(&slices[0], cut); 8];
     'runs: for i in 0..slices.len() {
-        told[i] = told_front(&slices[i], cut);
+        logged[i] = logged_front(&slices[i], cut);
     }
-    told
+    logged
 }
 
 /// The room for what lines say of tasks, for as many tasks as the runs have names at first.
@@ -217,7 +218,7 @@ fn send_fronts<S: EventSlices, W: Write>(
 ) -> Result<usize, usize>
     ghost names: { ℕ → ℕ → List ℕ }
     requires few { length slices.now ≤ 8 }
-    requires named { names ≡ names_told_by (told_runs (map S.sliced slices.now)) }
+    requires named { names ≡ names_logged_by (logged_runs (map S.sliced slices.now)) }
     requires many { AreEnough slots.old }
     requires slots { All (IsSlot names) slots.old }
     requires texts { IsTexts texts.old }
@@ -228,13 +229,13 @@ fn send_fronts<S: EventSlices, W: Write>(
         (batch.old ++ lines_before_cut cut (map S.sliced slices.now))
         n batch.new) }
     ensures bound { IfOk result (λ n. n + length batch.new ≤ length batch.old
-        + 512 * length (events_in (told_runs_before cut (map S.sliced slices.now)))) }
+        + 512 * length (events_in (logged_runs_before cut (map S.sliced slices.now)))) }
     ensures room { OnOk result (length batch.new ≤ 65536) }
     ensures err { IfErr result (TakesFront
         (W.contents (inner_of writer.old)) (W.contents (inner_of writer.new))
         (batch.old ++ lines_before_cut cut (map S.sliced slices.now))) }
     ensures stopped { IfErr result (λ n. n ≤ length batch.old
-        + 512 * length (events_in (told_runs_before cut (map S.sliced slices.now)))) }
+        + 512 * length (events_in (logged_runs_before cut (map S.sliced slices.now)))) }
     ensures many { AreEnough slots.new }
     ensures slots { All (IsSlot names) slots.new }
     ensures texts { IsTexts texts.new }
@@ -244,24 +245,24 @@ fn send_fronts<S: EventSlices, W: Write>(
         return Ok(0);
     }
     let runs = run_fronts(slices, cut);
-    let told = told_fronts(slices, cut);
+    let logged = logged_fronts(slices, cut);
     let len = slices.len();
-    send_events(&runs[..len], &told[..len], slots, texts, batch, writer)
+    send_events(&runs[..len], &logged[..len], slots, texts, batch, writer)
 }
 
 /// Forgets what is before the cut.
 fn forget_before<S: EventSlices>(slices: &mut S, cut: Option<u64>)
-    ensures left { S.sliced slices.new ≡ told_run_from_cut cut (S.sliced slices.old) }
+    ensures left { S.sliced slices.new ≡ logged_run_from_cut cut (S.sliced slices.old) }
     ensures kept { S.kept slices.new ≡ S.kept slices.old }
 {
     let switches = count_before(slices.slice().switches, cut);
-    let told = count_told(slices.told().happened, cut);
-    slices.forget_front(switches, told);
+    let logged = count_logged(slices.logged().happened, cut);
+    slices.forget_front(switches, logged);
 }
 
 /// All runs forget what is before the cut.
 fn forget_all<S: EventSlices>(slices: &mut [S], cut: Option<u64>)
-    ensures left { map S.sliced slices.new ≡ told_runs_from_cut cut (map S.sliced slices.old) }
+    ensures left { map S.sliced slices.new ≡ logged_runs_from_cut cut (map S.sliced slices.old) }
     ensures kept { map S.kept slices.new ≡ map S.kept slices.old }
 {
     'runs: for slice in slices.iter_mut() {
@@ -287,15 +288,15 @@ pub fn write_event_slices<S: EventSlices, W: Write>(
     writer: &mut Counted<W>,
 ) -> Result<(), WriteFault>
     requires few { length slices.old ≤ 8 }
-    requires countable { length (events_in (told_runs (map S.sliced slices.old))) < 2 ^ 55 }
+    requires countable { length (events_in (logged_runs (map S.sliced slices.old))) < 2 ^ 55 }
     requires faults { faults_of writer.old < 2 ^ 63 }
     ensures ok { OnOk result (Appends
         (W.contents (inner_of writer.old)) (W.contents (inner_of writer.new))
-        (told_runs_text (told_runs (map S.sliced slices.old)))) }
+        (logged_runs_text (logged_runs (map S.sliced slices.old)))) }
     ensures err { IfErr result (λ f. TakesFront
         (W.contents (inner_of writer.old)) (W.contents (inner_of writer.new))
-        (told_runs_text (told_runs (map S.sliced slices.old))) f.written) }
-    ensures made { OnOk result (events_in (told_runs (map S.sliced slices.new)) ≡ []) }
+        (logged_runs_text (logged_runs (map S.sliced slices.old))) f.written) }
+    ensures made { OnOk result (events_in (logged_runs (map S.sliced slices.new)) ≡ []) }
     ensures kept { map S.kept slices.new ≡ map S.kept slices.old }
     ensures faults { faults_of writer.new ≡ one_more_unless (is_ok result) (faults_of writer.old) }
 {

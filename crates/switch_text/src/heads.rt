@@ -42,7 +42,7 @@ pub(crate) struct Heads {
     pub(crate) first: usize,
 }
 
-/// Of two places the one whose head comes first. They may be the winners of two ranges, one behind
+/// Of two places the one whose head comes first. They may be the winners of two ranges, one after
 /// the other.
 #[inline(always)]
 fn winner(heads: &[Head; 8], a: usize, b: usize) -> usize

@@ -11,7 +11,8 @@
 //! has laws of the text for callers: the trace of one run is its lines as they stand, only the
 //! names that occur matter, and what it means that the entries are in order.
 //!
-//! Meets the definition "Events text" in the same way: a line (`specs/ToldLine.antt`) and the whole
+//! Meets the definition "Events text" in the same way: a line (`specs/LoggedLine.antt`) and the
+//! whole
 //! text (`specs/Events.antt`, with worked rows in `specs/EventExamples.antt`), which
 //! [`write_events_in`] appends, or stops as [`write_trace`] does. It stands here, since its lines
 //! of switches are put together from the texts that are kept for the trace's. Laws for callers are
@@ -28,15 +29,15 @@ mod events;
 mod fault;
 mod heads;
 mod lines;
+mod logged;
+mod logged_lines;
+mod logged_merge;
 mod merge;
 mod piece;
 mod putting;
 mod ready;
 mod run;
 mod slices;
-mod told;
-mod told_lines;
-mod told_merge;
 mod writing;
 
 pub use counted_io::{Counted, ReadFault};
@@ -44,9 +45,9 @@ pub use event_slices::{EventSlices, write_event_slices};
 pub use events::write_events_in;
 pub use fault::WriteFault;
 pub use lines::line;
+pub use logged::DomainEvents;
+pub use logged_lines::logged_line;
 pub use ready::TraceRoom;
 pub use run::Run;
 pub use slices::{Slices, write_slices, write_slices_apart};
-pub use told::Told;
-pub use told_lines::told_line;
 pub use writing::{write_text, write_trace, write_trace_in};

@@ -25,7 +25,7 @@ fn put_right(out: &mut [u8], at: usize, width: usize, text: &ShortPiece) -> usiz
     text.put(out, at)
 }
 
-/// With spaces behind it, where it is shorter than the width.
+/// With spaces after it, where it is shorter than the width.
 #[inline(always)]
 fn put_left(out: &mut [u8], at: usize, width: usize, text: &ShortPiece) -> usize
     requires width { width ≤ 16 }
@@ -132,7 +132,7 @@ pub(crate) fn put_cpu(out: &mut [u8], at: usize, cpu: u32) -> usize
     put(out, at, b"] d..2. ")
 }
 
-/// The second, and the point behind it.
+/// The second, and the point after it.
 pub(crate) fn put_second(out: &mut [u8], at: usize, second: u64) -> usize
     requires small { second < 10000000 }
     requires room { at + 48 ≤ length out.old }
@@ -221,7 +221,7 @@ pub(crate) fn put_coming(
 
 /// Writes the line of a switch to the front of the buffer, its LF included, and gives the line's
 /// length, at most 256 bytes (ftrace's event sched_switch; widths, prefix and the letters of the
-/// states are this project's own). What stands behind the line is left open. Takes no memory.
+/// states are this project's own). What stands after the line is left open. Takes no memory.
 ///
 /// `base` is the CPU of the machine that is the domain's CPU 0; `names` has the tasks' names by
 /// number. The caller sees to it that the switch's time is below 2^42 us and its CPU of the machine

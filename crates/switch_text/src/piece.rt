@@ -37,7 +37,7 @@ impl Piece {
         Piece { bytes, len }
     }
 
-    /// Copies it to a place that has room for 64 bytes, and gives the place behind the text.
+    /// Copies it to a place that has room for 64 bytes, and gives the place after the text.
     #[inline(always)]
     pub(crate) fn put(&self, out: &mut [u8], at: usize) -> usize
         requires { at + 64 ≤ length out.old }
@@ -116,7 +116,7 @@ impl ShortPiece {
         self.len
     }
 
-    /// Copies it to a place that has room for 32 bytes, and gives the place behind the text.
+    /// Copies it to a place that has room for 32 bytes, and gives the place after the text.
     #[inline(always)]
     pub(crate) fn put(&self, out: &mut [u8], at: usize) -> usize
         requires { at + 32 ≤ length out.old }

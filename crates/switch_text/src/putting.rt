@@ -4,7 +4,7 @@ ghost use Rattle.std.specs.Prelude.{◌≡◌, ◌+◌, ◌≤◌, ◌++◌, len
 
 use itoa::Buffer;
 
-/// Copies a text to a place of the line, and gives the place behind it. So do the others that put.
+/// Copies a text to a place of the line, and gives the place after it. So do the others that put.
 #[inline(always)]
 pub(crate) fn put(out: &mut [u8], at: usize, text: &[u8]) -> usize
     requires { at + length text.now ≤ length out.old }

@@ -73,9 +73,6 @@ pub(crate) struct Lane {
 pub(crate) struct Texts {
     pub(crate) lanes: [Lane; LANES],
     pub(crate) middles: Middles,
-    // Of switches that were looked at ahead. Nobody asks for it: it is kept so that no compiler
-    // leaves the look out.
-    pub(crate) seen: u64,
 }
 
 /// Room for what lines say of tasks and idle CPUs while one trace is written: some 410 KiB, of
@@ -180,7 +177,6 @@ pub(crate) fn no_texts() -> Texts
     Texts {
         lanes: [lane; LANES],
         middles,
-        seen: 0,
     }
 }
 

@@ -24,7 +24,6 @@ use crate::ready::{
 };
 use crate::run::Run;
 use counted_io::Counted;
-use domain_run::Switch;
 use std::io::Write;
 
 #[tactic(auto, unfolding(crate::specs::Trace::header))]
@@ -108,43 +107,9 @@ pub(crate) fn together(sent: usize, more: usize) -> usize
     sent + more
 }
 
-/// How many switches of a run are looked at ahead at a time.
-const AHEAD: usize = 64;
-
-// Something of the switches of a run from a place on: of each fourth one, since four stand in a
-// line of the cache.
-fn seen_from(switches: &[Switch], place: usize) -> u64
-    requires { place + 64 ≤ length switches.now }
-{
-    let mut seen = 0;
-    for line in 0..AHEAD / 4 {
-        seen ^= switches[place + 4 * line].time();
-    }
-    seen
-}
-
-// For speed alone: of several runs the switches stand far apart in memory, and the processor waits
-// for each line of them that it has not fetched. So now and then it is asked for the next lines of
-// a run, all at once.
-#[inline(always)]
-fn look_ahead(runs: &[Run<'_>], merge: &Merge, next: &Next<'_, '_>, texts: &mut Texts)
-    requires index { next.now.index < 8 }
-    requires texts { IsTexts texts.old }
-    ensures { IsTexts texts.new }
-{
-    if runs.len() < 2 {
-        return;
-    }
-    let switches = next.run.switches;
-    let place = merge.places[next.index];
-    if place % AHEAD == 0 && switches.len() > 2 * AHEAD && place < switches.len() - 2 * AHEAD {
-        texts.seen ^= seen_from(switches, place + AHEAD);
-    }
-}
-
-/// The lines of runs, by time and CPU, go out behind what waits: how many bytes went out, also
-/// where the writer failed. What is left waits. The texts of tasks that are kept are those by the
-/// names of whole runs, of which these may be slices.
+/// The lines of runs, by time and CPU, go out after what waits: how many bytes went out, also where
+/// the writer failed. What is left waits. The texts of tasks that are kept are those by the names
+/// of whole runs, of which these may be slices.
 #[inline(always)]
 pub(crate) fn send_runs<W: Write>(
     runs: &[Run<'_>],
@@ -188,7 +153,6 @@ pub(crate) fn send_runs<W: Write>(
             Err(n) => return Err(together(sent, n)),
         }
         append_line(runs, &next, slots, texts, batch);
-        look_ahead(runs, &merge, &next, texts);
     }
     Ok(sent)
 }

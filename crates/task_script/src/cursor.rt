@@ -1,10 +1,11 @@
 //! The cursor that goes through a script (own). It sees a script from outside, as what it may read.
 
-ghost use Rattle.std.specs.Prelude.{◌≡◌, ◌<◌, ◌≤◌, ◌+◌, ◌^◌, IsSome, IfSome, Some};
+ghost use Rattle.std.specs.Prelude.{◌≡◌, ◌<◌, ◌≤◌, ◌+◌, IsSome, IfSome, Some};
 ghost use Rattle.task_script.specs.script.ScriptView.{IsEvent, IsScript};
 ghost use Rattle.task_script.specs.script.Unrolled.{event_at};
 ghost use Rattle.task_script.specs.script.Segments.{begun_at, at_next_event, kept_cursor, given_by, given_at, is_timer_over, passes_late_timer, next_segment, work_in, GivesAsWritten, IsSegment, next_ask};
 ghost use Rattle.task_script.specs.private.Progress.{timer_passed, at_reference, work_at};
+ghost use Rattle.limits.specs.Limits.{deadline_end, max_script_number};
 
 mod moving;
 
@@ -63,7 +64,7 @@ impl Script {
 
 fn is_late_at(event: Option<Event>, reference: u64, time: u64) -> bool
     requires event { IfSome event IsEvent }
-    requires early { reference < 2 ^ 48 }
+    requires early { reference < deadline_end }
     ensures { result ≡ is_timer_over event reference time }
 {
     match event {
@@ -77,7 +78,7 @@ fn is_late_at(event: Option<Event>, reference: u64, time: u64) -> bool
 fn work_at(event: Option<Event>) -> Option<u64>
     requires { IfSome event IsEvent }
     ensures work { result ≡ work_at event }
-    ensures within { IfSome result (λ n. (0 < n) × (n ≤ 1000000000)) }
+    ensures within { IfSome result (λ n. (0 < n) × (n ≤ max_script_number)) }
 {
     match event {
         Some(Event::Run(n)) => Some(n),
@@ -103,7 +104,7 @@ impl Cursor {
 
     /// Whether it would pass a timer that is late, asked at this time, in microseconds.
     pub fn passes_late_timer(&self, time: u64) -> bool
-        requires { self.now.reference < 2 ^ 48 }
+        requires { self.now.reference < deadline_end }
         ensures { result ≡ passes_late_timer self.now time }
     {
         is_late_at(self.event(), self.reference, time)
@@ -125,10 +126,10 @@ impl Cursor {
     /// it would give no work. It stays where it is.
     #[inline(always)]
     pub fn next_work(&self, time: u64) -> Option<u64>
-        requires early { time < 2 ^ 48 }
-        requires reference { self.now.reference < 2 ^ 48 }
+        requires early { time < deadline_end }
+        requires reference { self.now.reference < deadline_end }
         ensures work { result ≡ work_in (next_segment self.now time).segment }
-        ensures within { IfSome result (λ n. (0 < n) × (n ≤ 1000000000)) }
+        ensures within { IfSome result (λ n. (0 < n) × (n ≤ max_script_number)) }
     {
         match self.coming {
             Some(Event::Run(n)) => Some(n),
@@ -162,8 +163,8 @@ impl Cursor {
     /// Goes behind the work that it gives next, asked at this time, as [`Cursor::next`] does.
     #[inline(always)]
     pub fn pass_work(&mut self, time: u64)
-        requires early { time < 2 ^ 48 }
-        requires reference { self.old.reference < 2 ^ 48 }
+        requires early { time < deadline_end }
+        requires reference { self.old.reference < deadline_end }
         requires work { IsSome (work_in (next_segment self.old time).segment) }
         ensures cursor { self.new ≡ (next_segment self.old time).cursor }
         ensures in_order { self.old.reference ≤ time → self.new.reference ≤ time }
@@ -175,13 +176,13 @@ impl Cursor {
     // The event that it gives: behind a timer that is late.
     #[inline(always)]
     fn look(&mut self, time: u64) -> Option<Event>
-        requires early { time < 2 ^ 48 }
-        requires reference { self.old.reference < 2 ^ 48 }
+        requires early { time < deadline_end }
+        requires reference { self.old.reference < deadline_end }
         ensures cursor { self.new ≡ timer_passed self.old time }
         ensures value { result ≡ event_at self.new.script self.new.place }
         ensures within { IsScript self.old.script }
         ensures event { IfSome result IsEvent }
-        ensures early { self.new.reference < 2 ^ 48 }
+        ensures early { self.new.reference < deadline_end }
         ensures in_order { self.old.reference ≤ time → self.new.reference ≤ time }
     {
         let event = self.event();
@@ -194,8 +195,8 @@ impl Cursor {
     // What its event gives. It stands there still, but a timer has set the reference.
     #[inline(always)]
     fn segment_of(&mut self, event: Event, time: u64) -> Segment
-        requires early { time < 2 ^ 48 }
-        requires reference { self.old.reference < 2 ^ 48 }
+        requires early { time < deadline_end }
+        requires reference { self.old.reference < deadline_end }
         requires event { IsEvent event }
         ensures segment { result ≡ (given_by self.old time (Some event)).segment }
         ensures cursor { self.new ≡ at_reference self.old
@@ -218,8 +219,8 @@ impl Cursor {
     // What it gives at its event, which was looked at.
     #[inline(always)]
     fn give(&mut self, event: Option<Event>, time: u64) -> Segment
-        requires early { time < 2 ^ 48 }
-        requires reference { self.old.reference < 2 ^ 48 }
+        requires early { time < deadline_end }
+        requires reference { self.old.reference < deadline_end }
         requires here { event ≡ event_at self.old.script self.old.place }
         requires event { IfSome event IsEvent }
         ensures segment { result ≡ (given_at self.old time).segment }
@@ -245,8 +246,8 @@ impl Cursor {
     /// segment [`Segment::Until`]; so asked, it is never behind the next ask. Takes no memory.
     #[inline(always)]
     pub fn next(&mut self, time: u64) -> Segment
-        requires early { time < 2 ^ 48 }
-        requires reference { self.old.reference < 2 ^ 48 }
+        requires early { time < deadline_end }
+        requires reference { self.old.reference < deadline_end }
         ensures segment { result ≡ (next_segment self.old time).segment }
         ensures cursor { self.new ≡ (next_segment self.old time).cursor }
         ensures within { IsSegment result }

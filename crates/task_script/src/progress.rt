@@ -7,6 +7,7 @@ ghost use Rattle.task_script.specs.script.Later.{place_on};
 ghost use Rattle.task_script.specs.script.ScriptView.{IsEvent, IsPhase, IsScript, phase_len, round_len};
 ghost use Rattle.task_script.specs.script.Unrolled.{event_at};
 ghost use Rattle.task_script.specs.private.Progress as spec;
+ghost use Rattle.limits.specs.Limits.{max_script_number};
 
 use crate::phase::{Event, Phase};
 use crate::script::Script;
@@ -95,7 +96,7 @@ pub(crate) fn event_of(script: &Script, progress: Progress) -> Option<Event>
 }
 
 fn next_round(rounds: Option<u32>, round: u32) -> u32
-    requires { IfSome rounds (λ n. round < 1000000000) }
+    requires { IfSome rounds (λ n. round < max_script_number) }
     ensures { result ≡ spec.next_round rounds round }
 {
     match rounds {

@@ -76,7 +76,7 @@ fn long_text(alloc: Global) -> Result<String, AllocError> {
 }
 
 #[test]
-fn a_fault_behind_a_long_text(rt: HostRuntime) -> Result<(), Fail> {
+fn a_fault_after_a_long_text(rt: HostRuntime) -> Result<(), Fail> {
     let text = long_text(rt.alloc())?;
     let given = printed(rt.alloc(), text.as_bytes())?;
     assert!(rt; given.as_str() == "json 10 at 8402");

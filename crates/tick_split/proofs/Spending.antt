@@ -7,12 +7,12 @@ use Rattle.std.proofs.lemmas.Int.{ints}
 use Rattle.std.proofs.lemmas.Grind.{div_ceil_times}
 use Rattle.std.proofs.lemmas.List.Elements.{All-head, All-tail}
 use Rattle.std.proofs.Math.Nat.{mul-le-mul_left}
-use Rattle.attr_check.specs.Ratio.{unit}
 use Rattle.cbs_rules.specs.Budget.{above_zero}
 use Rattle.grub_rules.specs.Rate.{div_up, charged_bw}
 use Rattle.tick_split.specs.declared.element.Plan.{Plan}
 use Rattle.tick_split.specs.Planning.{IsPlannable, IsPlanned}
 use Rattle.tick_split.specs.private.Planned.{rate_in_plan, planned}
+use Rattle.limits.specs.Limits.{unit}
 
 from_one : (q r a : ℕ) → 0 < a → a ≤ q * r → 1 ≤ q
 from_one zero r a some h = omega (arith, some, h)

@@ -3,6 +3,8 @@
 use Rattle.std.specs.Prelude.{ℕ, pos, ◌≡◌, ◌<◌, ◌≤◌, ◌*◌, ◌^◌, ◌-ℤ◌, ◌<ℤ◌, ◌≤ℤ◌}
 use Rattle.tick_split.specs.declared.element.Plan.{Plan}
 use Rattle.grub_rules.specs.Rate as rates
+use Rattle.limits.specs.Limits as limits
+use Rattle.limits.specs.Limits.{unit}
 
 -- within the limits that a domain keeps, with budget left
 pub record IsPlannable (p : Plan) : Type 0 where
@@ -10,8 +12,8 @@ pub record IsPlannable (p : Plan) : Type 0 where
   pub sum : p.sum ≤ 2 ^ 26
   pub some_cpu : 0 < p.cpus
   pub most_cpus : p.cpus ≤ 64
-  pub least_limit : 10485 ≤ p.limit
-  pub most_limit : p.limit ≤ 1048576
+  pub least_limit : limits.least_limit ≤ p.limit
+  pub most_limit : p.limit ≤ unit
   pub some_left : pos 0 <ℤ p.left
   pub most_left : p.left ≤ℤ pos (2 ^ 63)
 

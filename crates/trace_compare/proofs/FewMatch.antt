@@ -5,6 +5,7 @@ use Rattle.std.specs.Option.{option_map_or}
 use Rattle.std.proofs.lemmas.Grind.{common_steps}
 use Rattle.std.proofs.lemmas.List.{length-take, length-drop}
 use Rattle.std.proofs.lemmas.List.Sums.{sum_by-le-sum_by, sum_by-take-drop, sum_by_more}
+use Rattle.trace_compare.specs.declared.clock.ClockShift.{ClockShift}
 use Rattle.trace_compare.specs.declared.run.Run.{Run}
 use Rattle.trace_compare.specs.declared.task.TaskRuns.{TaskRuns}
 use Rattle.trace_compare.specs.Pairs.{fits, Split, split_at, partners, count_matched}
@@ -24,13 +25,13 @@ few_match fit (m ∷ ms) rs = one_and_rest fit ms rs (split_at (fit m) rs) (λ x
 pub rest_match : (fit : Run → Run → Bool) (ms rs : List Run) (i j : ℕ) → i ≤ length ms → count_matched (partners fit (drop i ms) (drop j rs)) + i ≤ length ms
 rest_match fit ms rs i j within = omega (arith, few_match fit (drop i ms) (drop j rs), length-drop i ms, within)
 
-pub score_most : (within share shift : ℕ) (t : TaskRuns) → task_score within share shift t ≤ most_of share t
+pub score_most : (within share : ℕ) (shift : ClockShift) (t : TaskRuns) → task_score within share shift t ≤ most_of share t
 score_most within share shift t =
     let few = few_match (fits within shift) (take share t.model.items) (take (4 * share + 50) t.recorded.items) in
     grind (arith, common_steps, few, length-take share t.model.items)
 
 -- the score of all tasks, where those before the i-th have this total, the i-th has less than is needed of it, and the others have at most `left`
-module _ (within share shift : ℕ) (tasks : List TaskRuns) where
+module _ (within share : ℕ) (shift : ClockShift) (tasks : List TaskRuns) where
   abbrev score : TaskRuns → ℕ
   score t = task_score within share shift t
 

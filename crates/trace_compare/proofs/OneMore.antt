@@ -13,6 +13,7 @@ use Rattle.trace_compare.specs.Tasks.{AreSoundRuns}
 use Rattle.trace_compare.specs.private.Behind.{Lists, AreRunsSettled}
 use Rattle.trace_compare.specs.Pairs.{fits, partners, left_over}
 use Rattle.trace_compare.specs.Compared.{AreMatched}
+use Rattle.trace_compare.specs.declared.clock.ClockShift.{ClockShift}
 use Rattle.trace_compare.specs.declared.pairs.Matching.{Matching}
 use Rattle.trace_compare.specs.declared.run.Run.{Run}
 use Rattle.trace_compare.specs.declared.task.TaskRuns.{TaskRuns}
@@ -25,7 +26,7 @@ pushed_holds P xs after x n many e all one j d h =
     (λ k b. subst (P k) (sym (get_or-append xs (x ∷ []) d k (omega (arith, many, b)))) (all k d b))
     (subst (P n) (sym (get_or_push xs x d n many)) one) j h)
 
-pub matched_more : (within shift : ℕ) (tasks : List TaskRuns) (n : ℕ) (ms after : List Matching) (m : Matching) (task : TaskRuns) → AreMatched within shift tasks n ms → after ≡ ms ++ m ∷ [] → n < length tasks → task ≡ get_or tasks n task → m.partners.items ≡ partners (fits within shift) task.model.items task.recorded.items → m.left.items ≡ left_over (fits within shift) task.model.items task.recorded.items → AreMatched within shift tasks (n + 1) after
+pub matched_more : (within : ℕ) (shift : ClockShift) (tasks : List TaskRuns) (n : ℕ) (ms after : List Matching) (m : Matching) (task : TaskRuns) → AreMatched within shift tasks n ms → after ≡ ms ++ m ∷ [] → n < length tasks → task ≡ get_or tasks n task → m.partners.items ≡ partners (fits within shift) task.model.items task.recorded.items → m.left.items ≡ left_over (fits within shift) task.model.items task.recorded.items → AreMatched within shift tasks (n + 1) after
 matched_more within shift tasks n ms after m task v e more here takes leaves =
     let same : (t : TaskRuns) → task ≡ get_or tasks n t = λ t. here ∙ get_or_default tasks n task t more in
     record {
@@ -60,7 +61,7 @@ pub least_here : (f : Run → ℕ) (xs : List Run) (i : ℕ) → ((j : ℕ) (d :
 least_here f xs i first j d h = below_more (λ k. f (get_or xs i d) ≤ f (get_or xs k d)) i (λ k b. let a = first k d b in omega (arith, a)) (omega arith) j h
 
 -- what each element gives, one after the other
-pub flat_told : {A : Type 0} (f : A → List ℕ) (before after : List ℕ) (xs : List A) (i : ℕ) (x : A) → i < length xs → x ≡ get_or xs i x → before ≡ flat_map f (take i xs) → after ≡ before ++ f x → after ≡ flat_map f (take (i + 1) xs)
+pub flat_told : {A B : Type 0} (f : A → List B) (before after : List B) (xs : List A) (i : ℕ) (x : A) → i < length xs → x ≡ get_or xs i x → before ≡ flat_map f (take i xs) → after ≡ before ++ f x → after ≡ flat_map f (take (i + 1) xs)
 flat_told f before after xs i x within here b a =
     a ∙ ap (λ ys. ys ++ f x) b ∙ ap (λ ys. flat_map f (take i xs) ++ ys) (sym (append-nil (f x))) ∙ sym (flat_map-append f (take i xs) (x ∷ []))
     ∙ ap (λ (y : _). flat_map f (take i xs ++ y ∷ [])) here ∙ ap (flat_map f) (sym (take_more xs i x within))

@@ -8,15 +8,15 @@ use Rattle.trace_compare.specs.declared.run.Run.{Run}
 use Rattle.trace_compare.specs.declared.task.TaskRuns.{TaskRuns}
 use Rattle.trace_compare.specs.Runs.{IsShort}
 use Rattle.trace_compare.specs.Tasks.{AreSoundRuns}
-use Rattle.trace_compare.specs.Pairs.{no_shift}
+use Rattle.trace_compare.specs.Clocks.{time_limit}
 use Rattle.trace_compare.specs.Differences.{all_runs, first_start, last_end}
 
 no_later : (time : ℕ) (rs : List Run) → fold (λ at r. min at r.start) time rs ≤ time
 no_later time [] = omega arith
 no_later time (r ∷ rs) = let rest = no_later (min time r.start) rs in omega (arith, rest)
 
-pub first_small : (tasks : List TaskRuns) → first_start tasks ≤ no_shift
-first_small tasks = no_later no_shift (all_runs tasks)
+pub first_small : (tasks : List TaskRuns) → first_start tasks ≤ time_limit
+first_small tasks = no_later time_limit (all_runs tasks)
 
 ends_small : (time : ℕ) (rs : List Run) → time < 2 ^ 61 → AllByRecursion IsShort rs → fold (λ at r. max at r.«end») time rs < 2 ^ 61
 ends_small time [] h short = h

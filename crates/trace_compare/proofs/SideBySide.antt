@@ -3,9 +3,10 @@ use Rattle.std.proofs.Common.{◌≡◌, ℕ, zero, suc, ◌+◌, ◌<◌, ◌�
 use Rattle.std.specs.Option.{option_map, option_map_or}
 use Rattle.std.specs.List.{AllByRecursion}
 use Rattle.std.proofs.lemmas.Bool.Decides.{nat_tests}
+use Rattle.trace_compare.specs.declared.clock.ClockShift.{ClockShift}
 use Rattle.trace_compare.specs.declared.run.Run.{Run}
 use Rattle.trace_compare.specs.Runs.{InTurn}
-use Rattle.trace_compare.specs.Pairs.{no_shift, is_near, fits, Split, later_by, split_at, partners, left_over, count_matched}
+use Rattle.trace_compare.specs.Pairs.{is_near, fits, Split, later_by, split_at, partners, left_over, count_matched}
 use Rattle.trace_compare.specs.private.Meetings.{IsTooEarly, IsLate}
 
 -- ---- one after the other
@@ -45,19 +46,19 @@ no_and true y (inl h) = absurd cc
 no_and true y (inr h) = h
 no_and false y h = refl
 
-early_fails : (within shift : ℕ) (m q r : Run) → IsTooEarly within shift m r → (m.start ≤ q.start) × (m.«end» ≤ q.«end») → fits within shift q r ≡ false
-early_fails within shift m q r (inl h) le = no_and _ _ (inl (far_fails within (q.start + shift) (r.start + no_shift) (inl (omega (arith, h, le.0)))))
-early_fails within shift m q r (inr h) le = no_and _ _ (inr (far_fails within (q.«end» + shift) (r.«end» + no_shift) (inl (omega (arith, h, le.1)))))
+early_fails : (within : ℕ) (shift : ClockShift) (m q r : Run) → IsTooEarly within shift m r → (m.start ≤ q.start) × (m.«end» ≤ q.«end») → fits within shift q r ≡ false
+early_fails within shift m q r (inl h) le = no_and _ _ (inl (far_fails within (q.start + shift.ahead) (r.start + shift.behind) (inl (omega (arith, h, le.0)))))
+early_fails within shift m q r (inr h) le = no_and _ _ (inr (far_fails within (q.«end» + shift.ahead) (r.«end» + shift.behind) (inl (omega (arith, h, le.1)))))
 
-late_fails : (within shift : ℕ) (m r q : Run) → IsLate within shift m r → (r.start ≤ q.start) × (r.«end» ≤ q.«end») → fits within shift m q ≡ false
-late_fails within shift m r q (inl h) le = no_and _ _ (inl (far_fails within (m.start + shift) (q.start + no_shift) (inr (omega (arith, h, le.0)))))
-late_fails within shift m r q (inr h) le = no_and _ _ (inr (far_fails within (m.«end» + shift) (q.«end» + no_shift) (inr (omega (arith, h, le.1)))))
+late_fails : (within : ℕ) (shift : ClockShift) (m r q : Run) → IsLate within shift m r → (r.start ≤ q.start) × (r.«end» ≤ q.«end») → fits within shift m q ≡ false
+late_fails within shift m r q (inl h) le = no_and _ _ (inl (far_fails within (m.start + shift.ahead) (q.start + shift.behind) (inr (omega (arith, h, le.0)))))
+late_fails within shift m r q (inr h) le = no_and _ _ (inr (far_fails within (m.«end» + shift.ahead) (q.«end» + shift.behind) (inr (omega (arith, h, le.1)))))
 
-all_early : (within shift : ℕ) (m r : Run) (qs : List Run) → IsTooEarly within shift m r → AllByRecursion (λ q. (m.start ≤ q.start) × (m.«end» ≤ q.«end»)) qs → AllByRecursion (λ q. fits within shift q r ≡ false) qs
+all_early : (within : ℕ) (shift : ClockShift) (m r : Run) (qs : List Run) → IsTooEarly within shift m r → AllByRecursion (λ q. (m.start ≤ q.start) × (m.«end» ≤ q.«end»)) qs → AllByRecursion (λ q. fits within shift q r ≡ false) qs
 all_early within shift m r [] h all = tt
 all_early within shift m r (q ∷ qs) h all = (early_fails within shift m q r h all.0, all_early within shift m r qs h all.1)
 
-all_late : (within shift : ℕ) (m r : Run) (qs : List Run) → IsLate within shift m r → AllByRecursion (λ q. (r.start ≤ q.start) × (r.«end» ≤ q.«end»)) qs → AllByRecursion (λ q. fits within shift m q ≡ false) qs
+all_late : (within : ℕ) (shift : ClockShift) (m r : Run) (qs : List Run) → IsLate within shift m r → AllByRecursion (λ q. (r.start ≤ q.start) × (r.«end» ≤ q.«end»)) qs → AllByRecursion (λ q. fits within shift m q ≡ false) qs
 all_late within shift m r [] h all = tt
 all_late within shift m r (q ∷ qs) h all = (late_fails within shift m r q h all.0, all_late within shift m r qs h all.1)
 
@@ -127,7 +128,7 @@ module _ (fit : Run → Run → Bool) where
 
 -- ---- the three steps on runs in turn
 
-module _ (within shift : ℕ) where
+module _ (within : ℕ) (shift : ClockShift) where
   pub partners_early : (m : Run) (ms : List Run) (r : Run) (rs : List Run) → InTurn (m ∷ ms) → IsTooEarly within shift m r → partners (fits within shift) (m ∷ ms) (r ∷ rs) ≡ partners (fits within shift) (m ∷ ms) rs
   partners_early m ms r rs t h = partners_skip (fits within shift) (m ∷ ms) r rs (all_early within shift m r (m ∷ ms) h (in_turn_all m ms t))
 

@@ -2,6 +2,7 @@
 use Rattle.std.proofs.Common.{◌≡◌, ℕ, ◌+◌, ◌-◌, ◌<◌, ◌≤◌, suc, Bool, true, List, [], ◌∷◌, ◌++◌, length, get_or, take, drop, Option, Some, None, sym, ap, ◌∙◌, subst, append_assoc}
 use Rattle.std.proofs.lemmas.List.{drop_more, drop_all, length-drop}
 use Rattle.std.proofs.Math.Seq.{take-length}
+use Rattle.trace_compare.specs.declared.clock.ClockShift.{ClockShift}
 use Rattle.trace_compare.specs.declared.run.Run.{Run}
 use Rattle.std.specs.Prelude.{All, IfSome}
 use Rattle.std.proofs.lemmas.List.Elements.{All-push}
@@ -17,7 +18,7 @@ no_run = record { start = 0; «end» = 0; cpu = 0 }
 pub turn_more : (ms : List Run) (i : ℕ) → i < length ms → InTurn (drop i ms) → InTurn (drop (i + 1) ms)
 turn_more ms i l t = rest_in_turn (get_or ms i no_run) (drop (i + 1) ms) (subst InTurn (drop_more ms i no_run l) t)
 
-module _ (within shift : ℕ) (ms rs : List Run) (i j : ℕ) (l : i < length ms) (k : j < length rs) where
+module _ (within : ℕ) (shift : ClockShift) (ms rs : List Run) (i j : ℕ) (l : i < length ms) (k : j < length rs) where
   abbrev m : Run
   m = get_or ms i no_run
 

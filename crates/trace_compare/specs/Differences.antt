@@ -1,10 +1,11 @@
 -- What is told of matched runs, and of those that are not (own).
 use Rattle.std.specs.Prelude.{ℕ, ◌+◌, ◌-◌, ◌<◌, ◌≤◌, slice_index_or, fold, min, sum_by, Bool, ◌&&◌, ◌==◌, nat_le, max, List, [], ◌∷◌, ◌++◌, filter, find, length, position, is_none, Option, None, Some}
 use Rattle.std.specs.List.{flat_map}
+use Rattle.trace_compare.specs.declared.clock.ClockShift.{ClockShift}
 use Rattle.trace_compare.specs.declared.run.Run.{Run}
 use Rattle.trace_compare.specs.declared.task.TaskRuns.{TaskRuns}
 use Rattle.trace_compare.specs.Runs.{length_of}
-use Rattle.trace_compare.specs.Pairs.{no_shift}
+use Rattle.trace_compare.specs.Clocks.{time_limit}
 
 -- a run with its partner, if it has one
 abbrev pub one_pair : Run → Option Run → List (Run × Run)
@@ -21,11 +22,11 @@ pairs_of (m ∷ ms) (p ∷ ps) = one_pair m p ++ pairs_of ms ps
 abbrev pub distance : ℕ → ℕ → ℕ
 distance a b = max (a - b) (b - a)
 
-abbrev pub start_apart : ℕ → Run × Run → ℕ
-start_apart shift p = distance (p.0.start + shift) (p.1.start + no_shift)
+abbrev pub start_apart : ClockShift → Run × Run → ℕ
+start_apart shift p = distance (p.0.start + shift.ahead) (p.1.start + shift.behind)
 
-abbrev pub end_apart : ℕ → Run × Run → ℕ
-end_apart shift p = distance (p.0.«end» + shift) (p.1.«end» + no_shift)
+abbrev pub end_apart : ClockShift → Run × Run → ℕ
+end_apart shift p = distance (p.0.«end» + shift.ahead) (p.1.«end» + shift.behind)
 
 -- how many matched runs were on the same CPU
 abbrev pub same_cpu : List (Run × Run) → ℕ
@@ -37,20 +38,21 @@ first_missing ps = position is_none ps
 
 -- a recorded run inside the model's time: it begins at or behind the model's first start and ends
 -- at or before the model's last end
-abbrev pub is_inside : ℕ → ℕ → ℕ → Run → Bool
+abbrev pub is_inside : ℕ → ℕ → ClockShift → Run → Bool
 is_inside from until shift r =
-    nat_le (from + shift) (r.start + no_shift) && nat_le (r.«end» + no_shift) (until + shift)
+    nat_le (from + shift.ahead) (r.start + shift.behind)
+    && nat_le (r.«end» + shift.behind) (until + shift.ahead)
 
 -- the first recorded run inside the model's time that no run of the model takes
-abbrev pub first_other : ℕ → ℕ → ℕ → List Run → Option Run
+abbrev pub first_other : ℕ → ℕ → ClockShift → List Run → Option Run
 first_other from until shift left = find (is_inside from until shift) left
 
 -- how far a recorded run is from one of the model: its start and its end together
-abbrev pub far_from : ℕ → Run → Run → ℕ
+abbrev pub far_from : ClockShift → Run → Run → ℕ
 far_from shift m r = start_apart shift (m, r) + end_apart shift (m, r)
 
 -- the place of the nearest run, the first of equals
-pub record IsNearest (shift : ℕ) (m : Run) (rs : List Run) (k : ℕ) : Type 0 where
+pub record IsNearest (shift : ClockShift) (m : Run) (rs : List Run) (k : ℕ) : Type 0 where
   pub within : k < length rs
   pub least : (j : ℕ) (d : Run) → j < length rs
       → far_from shift m (slice_index_or rs k d) ≤ far_from shift m (slice_index_or rs j d)
@@ -63,7 +65,7 @@ all_runs tasks = flat_map (λ t. t.model.items) tasks
 
 -- when the first of them begins, and 2^61 where there is none
 abbrev pub first_start : List TaskRuns → ℕ
-first_start tasks = fold (λ at r. min at r.start) no_shift (all_runs tasks)
+first_start tasks = fold (λ at r. min at r.start) time_limit (all_runs tasks)
 
 -- when the last of them ends, and 0 where there is none
 abbrev pub last_end : List TaskRuns → ℕ
@@ -82,5 +84,5 @@ abbrev pub taken_time : List (Option Run) → ℕ
 taken_time ps = min (sum_by taken_length ps) 18446744073709551615
 
 -- how many recorded runs inside the model's time no run of the model takes
-abbrev pub others : ℕ → ℕ → ℕ → List Run → ℕ
+abbrev pub others : ℕ → ℕ → ClockShift → List Run → ℕ
 others from until shift left = length (filter (is_inside from until shift) left)

@@ -1,4 +1,5 @@
 pub mod Runs
+pub mod Clocks
 pub mod Pairs
 pub mod Tasks
 pub mod Shift

@@ -1,22 +1,18 @@
 -- Which runs of the model and of the recording match (own).
 use Rattle.std.specs.Prelude.{ℕ, ◌+◌, Bool, ◌&&◌, nat_le, if◌then◌else◌, List, [], ◌∷◌, ◌++◌, length, filter, is_some, Option, None, Some}
 use Rattle.std.specs.Option.{option_map, option_map_or}
+use Rattle.trace_compare.specs.declared.clock.ClockShift.{ClockShift}
 use Rattle.trace_compare.specs.declared.run.Run.{Run}
 
 -- two times that are at most so far apart
 abbrev pub is_near : ℕ → ℕ → ℕ → Bool
 is_near within a b = nat_le a (b + within) && nat_le b (a + within)
 
--- a shift is a natural number: the recording's clock is ahead of the model's by the shift less 2^61
--- microseconds
-abbrev pub no_shift : ℕ
-no_shift = 2305843009213693952
-
 -- the starts are within so many microseconds of one another under the shift, and the ends
-abbrev pub fits : ℕ → ℕ → Run → Run → Bool
+abbrev pub fits : ℕ → ClockShift → Run → Run → Bool
 fits within shift m r =
-    is_near within (m.start + shift) (r.start + no_shift)
-    && is_near within (m.«end» + shift) (r.«end» + no_shift)
+    is_near within (m.start + shift.ahead) (r.start + shift.behind)
+    && is_near within (m.«end» + shift.ahead) (r.«end» + shift.behind)
 
 -- the elements before the first that passes, that one, and those behind it
 pub record Split : Type 0 where

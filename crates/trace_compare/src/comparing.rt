@@ -1,10 +1,12 @@
 //! All tasks of the model beside their recorded runs.
 
 ghost use Rattle.std.specs.Prelude.{◌<◌, ◌^◌, length, All, IfOk, IfSome};
+ghost use Rattle.trace_compare.specs.Clocks.{IsSmallShift};
 ghost use Rattle.trace_compare.specs.Tasks.{AreSoundRuns};
 ghost use Rattle.trace_compare.specs.Matched.{IsSoundMatching};
 ghost use Rattle.trace_compare.specs.Compared.{AreMatched, IsCompared};
 
+use crate::clock::ClockShift;
 use crate::pairs::{Matching, match_runs};
 use crate::shift::find_shift;
 use crate::task::TaskRuns;
@@ -13,8 +15,8 @@ use std::alloc::{AllocError, Global};
 /// The runs of all tasks, matched.
 #[derive(Drop)]
 pub struct Compared {
-    /// By how much the recording's clock is ahead, counted from -2^61 us.
-    pub shift: u64,
+    /// How far the recording's clock is ahead.
+    pub shift: ClockShift,
     /// Of each task which runs match.
     pub tasks: Vec<Matching>,
 }
@@ -23,11 +25,11 @@ pub struct Compared {
 fn match_all(
     alloc: Global,
     within: u64,
-    shift: u64,
+    shift: ClockShift,
     tasks: &[TaskRuns],
 ) -> Result<Vec<Matching>, AllocError>
     requires within { within < 2 ^ 61 }
-    requires shift { shift < 2 ^ 62 }
+    requires shift { IsSmallShift shift }
     requires tasks { All AreSoundRuns tasks.now }
     ensures matched { IfOk result (λ v. AreMatched within shift tasks.now
         (length tasks.now) v.items) }
@@ -58,15 +60,15 @@ fn match_all(
 pub fn compare(
     alloc: Global,
     within: u64,
-    asked: Option<u64>,
+    asked: Option<ClockShift>,
     tasks: &[TaskRuns],
 ) -> Result<Compared, AllocError>
     requires within { within < 2 ^ 61 }
-    requires asked { IfSome asked (λ s. s < 2 ^ 62) }
+    requires asked { IfSome asked IsSmallShift }
     requires tasks { All AreSoundRuns tasks.now }
     ensures compared { IfOk result (IsCompared within asked tasks.now) }
     ensures sound { IfOk result (λ c. All IsSoundMatching c.tasks.items) }
-    ensures small { IfOk result (λ c. c.shift < 2 ^ 62) }
+    ensures small { IfOk result (λ c. IsSmallShift c.shift) }
 {
     let shift = match asked {
         Some(shift) => shift,

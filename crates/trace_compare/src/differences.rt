@@ -1,13 +1,15 @@
 //! What is told of matched runs, and of those that are not.
 
 ghost use Rattle.std.specs.Prelude.{◌≡◌, ◌+◌, ◌<◌, ◌≤◌, ◌^◌, map, All, IfOk, IfSome, OnOk, ◌++◌};
+ghost use Rattle.trace_compare.specs.Clocks.{IsSmallShift};
 ghost use Rattle.trace_compare.specs.Runs.{IsShort};
 ghost use Rattle.trace_compare.specs.Tasks.{AreSoundRuns};
 ghost use Rattle.trace_compare.specs.Matched.{IsSoundMatching};
 ghost use Rattle.trace_compare.specs.Pairs.{count_matched};
 ghost use Rattle.trace_compare.specs.Differences.{pairs_of, distance, start_apart, end_apart, same_cpu, one_pair, first_missing, is_inside, first_other, others};
 
-use crate::pairs::{Matching, NO_SHIFT};
+use crate::clock::ClockShift;
+use crate::pairs::Matching;
 use crate::run::Run;
 use crate::task::TaskRuns;
 use std::alloc::{AllocError, Global};
@@ -28,21 +30,21 @@ pub fn missing_of(partners: &[Option<Run>]) -> Option<usize>
 
 /// Whether a recorded run lies inside the model's time, which is from its first start until its
 /// last end.
-fn lies_inside(from: u64, until: u64, shift: u64, run: &Run) -> bool
+pub fn lies_inside(from: u64, until: u64, shift: ClockShift, run: &Run) -> bool
     requires from { from ≤ 2 ^ 61 }
     requires until { until < 2 ^ 61 }
-    requires shift { shift < 2 ^ 62 }
+    requires shift { IsSmallShift shift }
     requires run { IsShort run.now }
     ensures { result ≡ is_inside from until shift run.now }
 {
-    from + shift <= run.start + NO_SHIFT && run.end + NO_SHIFT <= until + shift
+    from + shift.ahead <= run.start + shift.behind && run.end + shift.behind <= until + shift.ahead
 }
 
 /// The first recorded run inside the model's time that no run of the model takes.
-pub fn other_of(from: u64, until: u64, shift: u64, left: &[Run]) -> Option<Run>
+pub fn other_of(from: u64, until: u64, shift: ClockShift, left: &[Run]) -> Option<Run>
     requires from { from ≤ 2 ^ 61 }
     requires until { until < 2 ^ 61 }
-    requires shift { shift < 2 ^ 62 }
+    requires shift { IsSmallShift shift }
     requires left { All IsShort left.now }
     ensures { result ≡ first_other from until shift left.now }
 {
@@ -55,10 +57,10 @@ pub fn other_of(from: u64, until: u64, shift: u64, left: &[Run]) -> Option<Run>
 }
 
 /// How many recorded runs inside the model's time no run of the model takes.
-pub fn others_of(from: u64, until: u64, shift: u64, left: &[Run]) -> usize
+pub fn others_of(from: u64, until: u64, shift: ClockShift, left: &[Run]) -> usize
     requires from { from ≤ 2 ^ 61 }
     requires until { until < 2 ^ 61 }
-    requires shift { shift < 2 ^ 62 }
+    requires shift { IsSmallShift shift }
     requires left { All IsShort left.now }
     ensures { result ≡ others from until shift left.now }
 {
@@ -91,8 +93,13 @@ pub struct Apart {
 }
 
 /// Adds a run of the model with the recorded run that it takes, if it takes one.
-fn add_pair(found: &mut Apart, shift: u64, m: &Run, partner: Option<Run>) -> Result<(), AllocError>
-    requires shift { shift < 2 ^ 62 }
+fn add_pair(
+    found: &mut Apart,
+    shift: ClockShift,
+    m: &Run,
+    partner: Option<Run>,
+) -> Result<(), AllocError>
+    requires shift { IsSmallShift shift }
     requires model { IsShort m.now }
     requires partner { IfSome partner IsShort }
     requires few { found.old.same_cpu < 2 ^ 63 }
@@ -109,8 +116,10 @@ fn add_pair(found: &mut Apart, shift: u64, m: &Run, partner: Option<Run>) -> Res
         Some(r) => {
             found
                 .starts
-                .push(between(m.start + shift, r.start + NO_SHIFT))?;
-            found.ends.push(between(m.end + shift, r.end + NO_SHIFT))?;
+                .push(between(m.start + shift.ahead, r.start + shift.behind))?;
+            found
+                .ends
+                .push(between(m.end + shift.ahead, r.end + shift.behind))?;
             if m.cpu == r.cpu {
                 found.same_cpu += 1;
             }
@@ -125,11 +134,11 @@ fn add_pair(found: &mut Apart, shift: u64, m: &Run, partner: Option<Run>) -> Res
 /// Where a growth was refused.
 pub fn apart_of(
     alloc: Global,
-    shift: u64,
+    shift: ClockShift,
     model: &[Run],
     partners: &[Option<Run>],
 ) -> Result<Apart, AllocError>
-    requires shift { shift < 2 ^ 62 }
+    requires shift { IsSmallShift shift }
     requires model { All IsShort model.now }
     requires partners { All (λ p. IfSome p IsShort) partners.now }
     ensures starts { IfOk result (λ a. a.starts.items
@@ -157,11 +166,11 @@ pub fn apart_of(
 /// Where a growth was refused.
 pub fn apart_in(
     alloc: Global,
-    shift: u64,
+    shift: ClockShift,
     task: &TaskRuns,
     matching: &Matching,
 ) -> Result<Apart, AllocError>
-    requires shift { shift < 2 ^ 62 }
+    requires shift { IsSmallShift shift }
     requires task { AreSoundRuns task.now }
     requires matching { IsSoundMatching matching.now }
     ensures starts { IfOk result (λ a. a.starts.items

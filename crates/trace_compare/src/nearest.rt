@@ -1,28 +1,31 @@
 //! The nearest recorded run, and the model's time.
 
 ghost use Rattle.std.specs.Prelude.{◌≡◌, ◌<◌, ◌≤◌, ◌^◌, length, fold, min, max, All, IfSome, IfNone};
+ghost use Rattle.trace_compare.specs.Clocks.{IsSmallShift};
 ghost use Rattle.trace_compare.specs.Runs.{IsShort};
 ghost use Rattle.trace_compare.specs.Tasks.{AreSoundRuns};
 ghost use Rattle.trace_compare.specs.Differences.{far_from, IsNearest, first_start, last_end};
 
-use crate::pairs::NO_SHIFT;
+use crate::clock::{ClockShift, TIME_LIMIT};
 use crate::run::Run;
 use crate::task::TaskRuns;
 
 /// How far a recorded run is from one of the model.
-fn far(shift: u64, m: &Run, r: &Run) -> u64
-    requires shift { shift < 2 ^ 62 }
+fn far(shift: ClockShift, m: &Run, r: &Run) -> u64
+    requires shift { IsSmallShift shift }
     requires model { IsShort m.now }
     requires recorded { IsShort r.now }
     ensures { result ≡ far_from shift m.now r.now }
 {
-    (m.start + shift).abs_diff(r.start + NO_SHIFT) + (m.end + shift).abs_diff(r.end + NO_SHIFT)
+    let starts = (m.start + shift.ahead).abs_diff(r.start + shift.behind);
+    let ends = (m.end + shift.ahead).abs_diff(r.end + shift.behind);
+    starts + ends
 }
 
 /// The place of the recorded run that is nearest to one of the model, by its start and its end
 /// together; the first of equals.
-pub fn nearest_of(shift: u64, m: &Run, recorded: &[Run]) -> Option<usize>
-    requires shift { shift < 2 ^ 62 }
+pub fn nearest_of(shift: ClockShift, m: &Run, recorded: &[Run]) -> Option<usize>
+    requires shift { IsSmallShift shift }
     requires model { IsShort m.now }
     requires recorded { All IsShort recorded.now }
     ensures found { IfSome result (IsNearest shift m.now recorded.now) }
@@ -60,12 +63,12 @@ fn latest_of(mut time: u64, runs: &[Run]) -> u64
     time
 }
 
-/// When the model's first run begins, in microseconds; 2^61 where it has none.
+/// When the model's first run begins, in microseconds; [`TIME_LIMIT`] if it has none.
 pub fn first_start_of(tasks: &[TaskRuns]) -> u64
     ensures time { result ≡ first_start tasks.now }
     ensures small { result ≤ 2 ^ 61 }
 {
-    let mut time = NO_SHIFT;
+    let mut time = TIME_LIMIT;
     for task in tasks {
         time = earliest_of(time, task.model.as_slice());
     }

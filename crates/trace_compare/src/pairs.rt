@@ -1,16 +1,15 @@
 //! Which runs match.
 
 ghost use Rattle.std.specs.Prelude.{◌≡◌, ◌<◌, ◌≤◌, ◌^◌, length, All, IfOk, IfSome, IfNone};
+ghost use Rattle.trace_compare.specs.Clocks.{IsSmallShift};
 ghost use Rattle.trace_compare.specs.Runs.{IsShort, InTurn};
 ghost use Rattle.trace_compare.specs.private.Meetings.{IsMeeting};
 ghost use Rattle.trace_compare.specs.Matched.{IsSoundMatching};
 ghost use Rattle.trace_compare.specs.Pairs.{is_near, fits, partners, left_over, count_matched};
 
+use crate::clock::ClockShift;
 use crate::run::Run;
 use std::alloc::{AllocError, Global};
-
-/// A shift of 0: shifts are counted from -2^61 us, so that they are no negative numbers.
-pub const NO_SHIFT: u64 = 1 << 61;
 
 fn near(within: u64, a: u64, b: u64) -> bool
     requires within { within < 2 ^ 62 }
@@ -32,15 +31,15 @@ pub(crate) enum Meeting {
     Late,
 }
 
-fn how_they_meet(within: u64, shift: u64, m: &Run, r: &Run) -> Meeting
+fn how_they_meet(within: u64, shift: ClockShift, m: &Run, r: &Run) -> Meeting
     requires within { within < 2 ^ 61 }
-    requires shift { shift < 2 ^ 62 }
+    requires shift { IsSmallShift shift }
     requires model { IsShort m.now }
     requires recorded { IsShort r.now }
     ensures { IsMeeting within shift m.now r.now result }
 {
-    let (start, end) = (m.start + shift, m.end + shift);
-    let (recorded_start, recorded_end) = (r.start + NO_SHIFT, r.end + NO_SHIFT);
+    let (start, end) = (m.start + shift.ahead, m.end + shift.ahead);
+    let (recorded_start, recorded_end) = (r.start + shift.behind, r.end + shift.behind);
     if near(within, start, recorded_start) && near(within, end, recorded_end) {
         Meeting::Fit
     } else if recorded_start + within < start || recorded_end + within < end {
@@ -54,13 +53,13 @@ fn how_they_meet(within: u64, shift: u64, m: &Run, r: &Run) -> Meeting
 /// `needed` do. It ends as soon as too many do not match.
 pub(crate) fn matched_if(
     within: u64,
-    shift: u64,
+    shift: ClockShift,
     ms: &[Run],
     rs: &[Run],
     needed: usize,
 ) -> Option<usize>
     requires within { within < 2 ^ 61 }
-    requires shift { shift < 2 ^ 62 }
+    requires shift { IsSmallShift shift }
     requires model { All IsShort ms.now }
     requires recorded { All IsShort rs.now }
     requires model_turn { InTurn ms.now }
@@ -111,12 +110,12 @@ pub struct Matching {
 pub(crate) fn match_runs(
     alloc: Global,
     within: u64,
-    shift: u64,
+    shift: ClockShift,
     ms: &[Run],
     rs: &[Run],
 ) -> Result<Matching, AllocError>
     requires within { within < 2 ^ 61 }
-    requires shift { shift < 2 ^ 62 }
+    requires shift { IsSmallShift shift }
     requires model { All IsShort ms.now }
     requires recorded { All IsShort rs.now }
     requires model_turn { InTurn ms.now }

@@ -1,14 +1,15 @@
 //! The shift of the recording's clock.
 
-ghost use Rattle.std.specs.Prelude.{◌≡◌, ◌+◌, ◌-◌, ◌*◌, ◌<◌, ◌≤◌, ◌^◌, ◌++◌, length, take, map, sum_by, All, IfOk, IfSome, IfNone, OnOk};
+ghost use Rattle.std.specs.Prelude.{◌≡◌, ◌*◌, ◌<◌, ◌≤◌, ◌^◌, ◌++◌, length, take, map, sum_by, All, IfOk, IfSome, IfNone, OnOk};
 ghost use Rattle.std.specs.List.{flat_map};
 ghost use Rattle.trace_compare.specs.Runs.{IsShort};
 ghost use Rattle.trace_compare.specs.Tasks.{AreSoundRuns};
-ghost use Rattle.trace_compare.specs.Pairs.{no_shift};
+ghost use Rattle.trace_compare.specs.Clocks.{shift_between, IsSmallShift};
 ghost use Rattle.trace_compare.specs.Shift.{shifts_of, task_score, IsBestOf, IsShift};
 ghost use Rattle.trace_compare.specs.private.Choices.{IsBetter, most_of};
 
-use crate::pairs::{NO_SHIFT, matched_if};
+use crate::clock::{ClockShift, NO_SHIFT};
+use crate::pairs::matched_if;
 use crate::run::Run;
 use crate::task::TaskRuns;
 use std::alloc::{AllocError, Global};
@@ -35,13 +36,13 @@ fn front(runs: &[Run], most: usize) -> &[Run]
 fn score_of_task(
     within: u64,
     share: usize,
-    shift: u64,
+    shift: ClockShift,
     task: &TaskRuns,
     needed: usize,
 ) -> Option<usize>
     requires within { within < 2 ^ 61 }
     requires share { share ≤ 4096 }
-    requires shift { shift < 2 ^ 62 }
+    requires shift { IsSmallShift shift }
     requires task { AreSoundRuns task.now }
     ensures some { IfSome result (λ n. n ≡ task_score within share shift task.now) }
     ensures few { IfSome result (λ n. n ≤ most_of share task.now) }
@@ -78,13 +79,13 @@ fn most_of_tasks(share: usize, tasks: &[TaskRuns]) -> usize
 fn score_if(
     within: u64,
     share: usize,
-    shift: u64,
+    shift: ClockShift,
     tasks: &[TaskRuns],
     needed: usize,
 ) -> Option<usize>
     requires within { within < 2 ^ 61 }
     requires share { share ≤ 4096 }
-    requires shift { shift < 2 ^ 62 }
+    requires shift { IsSmallShift shift }
     requires few { length tasks.now ≤ 256 }
     requires tasks { All AreSoundRuns tasks.now }
     ensures some { IfSome result (λ n. n ≡ sum_by (task_score within share shift) tasks.now) }
@@ -104,23 +105,26 @@ fn score_if(
 }
 
 /// The shift from a start of the model to a recorded one.
-fn shift_to(start: u64, run: &Run) -> u64
+fn shift_to(start: u64, run: &Run) -> ClockShift
     requires start { start < 2 ^ 61 }
     requires run { IsShort run.now }
-    ensures value { result ≡ run.now.start + no_shift - start }
-    ensures small { result < 2 ^ 62 }
+    ensures value { result ≡ shift_between start run.now.start }
+    ensures small { IsSmallShift result }
 {
-    run.start + NO_SHIFT - start
+    ClockShift {
+        ahead: run.start.saturating_sub(start),
+        behind: start.saturating_sub(run.start),
+    }
 }
 
 /// Adds the shifts from a start of the model to each of the recorded ones.
-fn push_from(shifts: &mut Vec<u64>, start: u64, runs: &[Run]) -> Result<(), AllocError>
+fn push_from(shifts: &mut Vec<ClockShift>, start: u64, runs: &[Run]) -> Result<(), AllocError>
     requires start { start < 2 ^ 61 }
     requires runs { All IsShort runs.now }
     ensures shifts { OnOk result (shifts.new.items
-        ≡ shifts.old.items ++ map (λ r. r.start + no_shift - start) runs.now) }
-    ensures small { All (λ s. s < 2 ^ 62) shifts.old.items
-        → All (λ s. s < 2 ^ 62) shifts.new.items }
+        ≡ shifts.old.items ++ map (λ r. shift_between start r.start) runs.now) }
+    ensures small { All IsSmallShift shifts.old.items
+        → All IsSmallShift shifts.new.items }
 {
     for run in runs {
         shifts.push(shift_to(start, run))?;
@@ -129,11 +133,11 @@ fn push_from(shifts: &mut Vec<u64>, start: u64, runs: &[Run]) -> Result<(), Allo
 }
 
 /// Adds the shifts from the model's first start to each of the first recorded ones.
-fn push_shifts(shifts: &mut Vec<u64>, task: &TaskRuns) -> Result<(), AllocError>
+fn push_shifts(shifts: &mut Vec<ClockShift>, task: &TaskRuns) -> Result<(), AllocError>
     requires { AreSoundRuns task.now }
     ensures shifts { OnOk result (shifts.new.items ≡ shifts.old.items ++ shifts_of task.now) }
-    ensures small { All (λ s. s < 2 ^ 62) shifts.old.items
-        → All (λ s. s < 2 ^ 62) shifts.new.items }
+    ensures small { All IsSmallShift shifts.old.items
+        → All IsSmallShift shifts.new.items }
 {
     match task.model.as_slice().first() {
         None => Ok(()),
@@ -142,10 +146,10 @@ fn push_shifts(shifts: &mut Vec<u64>, task: &TaskRuns) -> Result<(), AllocError>
 }
 
 /// The shifts that are tried.
-fn all_shifts(alloc: Global, tasks: &[TaskRuns]) -> Result<Vec<u64>, AllocError>
+fn all_shifts(alloc: Global, tasks: &[TaskRuns]) -> Result<Vec<ClockShift>, AllocError>
     requires { All AreSoundRuns tasks.now }
     ensures shifts { IfOk result (λ v. v.items ≡ flat_map shifts_of tasks.now) }
-    ensures small { IfOk result (λ v. All (λ s. s < 2 ^ 62) v.items) }
+    ensures small { IfOk result (λ v. All IsSmallShift v.items) }
 {
     let mut shifts = Vec::new(alloc);
     for task in tasks {
@@ -169,7 +173,7 @@ fn front_tasks(tasks: &[TaskRuns], most: usize) -> &[TaskRuns]
 /// A shift, and how many runs match under it.
 #[derive(Clone, Copy)]
 struct Choice {
-    shift: u64,
+    shift: ClockShift,
     score: usize,
 }
 
@@ -177,7 +181,9 @@ struct Choice {
 fn better(a: Choice, b: Choice) -> Choice
     ensures { IsBetter a b result }
 {
-    if b.score > a.score || (b.score == a.score && b.shift < a.shift) {
+    let of_a = u128::from(a.shift.ahead) + u128::from(b.shift.behind);
+    let of_b = u128::from(b.shift.ahead) + u128::from(a.shift.behind);
+    if b.score > a.score || (b.score == a.score && of_b < of_a) {
         b
     } else {
         a
@@ -185,10 +191,16 @@ fn better(a: Choice, b: Choice) -> Choice
 }
 
 /// The better of the best so far and one shift more, which is given up early if it is worse.
-fn next_best(within: u64, share: usize, shift: u64, tasks: &[TaskRuns], best: Choice) -> Choice
+fn next_best(
+    within: u64,
+    share: usize,
+    shift: ClockShift,
+    tasks: &[TaskRuns],
+    best: Choice,
+) -> Choice
     requires within { within < 2 ^ 61 }
     requires share { share ≤ 4096 }
-    requires shift { shift < 2 ^ 62 }
+    requires shift { IsSmallShift shift }
     requires few { length tasks.now ≤ 256 }
     requires tasks { All AreSoundRuns tasks.now }
     ensures { IsBetter best
@@ -202,15 +214,15 @@ fn next_best(within: u64, share: usize, shift: u64, tasks: &[TaskRuns], best: Ch
 }
 
 /// The best of several shifts, at least one.
-fn best_of(within: u64, share: usize, shifts: &[u64], tasks: &[TaskRuns]) -> u64
+fn best_of(within: u64, share: usize, shifts: &[ClockShift], tasks: &[TaskRuns]) -> ClockShift
     requires within { within < 2 ^ 61 }
     requires share { share ≤ 4096 }
     requires some { 0 < length shifts.now }
-    requires small { All (λ s. s < 2 ^ 62) shifts.now }
+    requires small { All IsSmallShift shifts.now }
     requires few { length tasks.now ≤ 256 }
     requires tasks { All AreSoundRuns tasks.now }
     ensures best { IsBestOf (λ s. sum_by (task_score within share s) tasks.now) shifts.now result }
-    ensures small { result < 2 ^ 62 }
+    ensures small { IsSmallShift result }
 {
     let mut best = Choice {
         shift: shifts[0],
@@ -224,15 +236,15 @@ fn best_of(within: u64, share: usize, shifts: &[u64], tasks: &[TaskRuns]) -> u64
 
 /// The shift of the recording's clock: of the differences between a recorded start and the model's
 /// first start of that task, for the first 50 recorded starts of each task, the one under which
-/// most of the model's first runs match; the smallest of equals. [`NO_SHIFT`] where there is none.
+/// most of the model's first runs match; the smallest of equals. [`NO_SHIFT`] if there is none.
 ///
 /// # Errors
 /// Where a growth was refused.
-pub fn find_shift(alloc: Global, within: u64, tasks: &[TaskRuns]) -> Result<u64, AllocError>
+pub fn find_shift(alloc: Global, within: u64, tasks: &[TaskRuns]) -> Result<ClockShift, AllocError>
     requires within { within < 2 ^ 61 }
     requires tasks { All AreSoundRuns tasks.now }
     ensures shift { IfOk result (IsShift within tasks.now) }
-    ensures small { IfOk result (λ s. s < 2 ^ 62) }
+    ensures small { IfOk result IsSmallShift }
 {
     let looked_at = front_tasks(tasks, TASKS);
     let shifts = all_shifts(alloc, looked_at)?;

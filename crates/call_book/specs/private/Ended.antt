@@ -6,6 +6,6 @@ use Rattle.call_book.specs.Ending.{left_of}
 use Rattle.call_book.specs.private.Kept.{IsBook}
 
 -- the book of the run of its history, of which this is left
-pub record IsEnding (b : BookView) (heard : Bool) (state : Domain) : Type 0 where
+pub record IsEnding (b : BookView) (streamed : Bool) (state : Domain) : Type 0 where
   pub kept : IsBook b (state_of b)
-  pub left : state ≡ left_of heard (state_of b)
+  pub left : state ≡ left_of streamed (state_of b)

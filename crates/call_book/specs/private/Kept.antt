@@ -12,6 +12,7 @@ use Rattle.calls_text.specs.Histories.{IsLegal}
 use Rattle.call_book.specs.LimitAnswers.{AsksForLimit}
 use Rattle.call_book.specs.private.Ledger.{LedgerView}
 use Rattle.call_book.specs.private.Stock.{StockView}
+use Rattle.limits.specs.Limits.{unit, max_advance}
 
 -- a book as a contract sees it, of its CPUs and limit, its workers, the word that it left, its
 -- history and its pieces
@@ -38,9 +39,9 @@ pub record IsBook (b : BookView) (state : Domain) : Type 0 where
   pub legal : IsLegal b.cpus b.limit b.history
   pub held : HoldsTickets state b.tickets
   pub machine : (state.cpus ≡ b.cpus) × IsLimit state.limit
-  pub early : state.time ≤ length b.history * 60000000
+  pub early : state.time ≤ length b.history * max_advance
   pub few : b.cpus ≤ 64
-  pub high : b.limit ≤ 1048576
+  pub high : b.limit ≤ unit
   pub capped : cpus_of b.gate b.domain ≡ b.cpus
   pub limited : HasItsLimit b
 
@@ -51,7 +52,7 @@ IsRegradeAsked state old new number params word =
     ((regrade_reply state params None (task_of state number) ≡ Changed) × IsDomain state
     × (new ≡ record old { tickets = new.tickets })
     × AsksTheWord number params.bw old.tickets new.tickets word
-    × IfSome word (λ used. used ≤ cpus_of old.gate old.domain * 1048576)
+    × IfSome word (λ used. used ≤ cpus_of old.gate old.domain * unit)
     × All (λ h. IsTicketOf old.gate old.domain h.ticket) old.tickets)
     ⊎ ((regrade_reply state params None (task_of state number) ≢ Changed) × (word ≡ None)
     × (new ≡ old))
@@ -60,5 +61,5 @@ IsRegradeAsked state old new number params word =
 abbrev pub IsLimitAsked : Domain → GateId → ℕ → ℕ → BlankView → BlankView → Option ℕ → Type 0
 IsLimitAsked state gate domain limit blank back word =
     ((limit_reply state limit None ≡ Set) × AsksForLimit state.cpus domain limit blank back word
-    × IfSome word (λ used. used ≤ cpus_of gate domain * 1048576))
+    × IfSome word (λ used. used ≤ cpus_of gate domain * unit))
     ⊎ ((limit_reply state limit None ≢ Set) × (word ≡ None) × (back ≡ blank))

@@ -6,6 +6,7 @@ use Rattle.calls_text.specs.declared.section.Entry.{Entry}
 use Rattle.calls_text.specs.Limits.{IsEntry}
 use Rattle.calls_text.specs.OwnCalls.{IsNumbered}
 use Rattle.call_book.specs.Book.{with_key, IsMember}
+use Rattle.limits.specs.Limits.{max_history}
 
 pub record LedgerView : Type 0 where
   pub spine : TableId
@@ -21,7 +22,7 @@ pub record IsHistory (clients room : ℕ) (history : List Entry) : Type 0 where
   pub entries : All IsEntry history
   pub few : clients ≤ 64
   pub within : length history ≤ room
-  pub short : room ≤ 65536
+  pub short : room ≤ max_history
 
 -- what a ledger keeps: its history, which is the spine's list, and the room for so many entries
 -- that it was opened with, so it takes no more

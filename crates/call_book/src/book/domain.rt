@@ -1,16 +1,17 @@
 //! The book of a domain: what a client does to it under its lock.
 
-ghost use Rattle.std.specs.Prelude.{◌≡◌, ◌<◌, ◌≤◌, ◌+◌, ◌^◌, ◌++◌, [], ℕ, length, map, All, IfOk, IfErr, OnErr, IfSome, IfNone, slice_get};
+ghost use Rattle.std.specs.Prelude.{◌≡◌, ◌<◌, ◌≤◌, ◌+◌, ◌++◌, [], ℕ, length, map, All, IfOk, IfErr, OnErr, IfSome, IfNone, slice_get};
 ghost use Rattle.std.specs.Option.{option_to_list};
 ghost use Rattle.bw_gate.specs.Pieces.{cpus_of};
 ghost use Rattle.domain_run.specs.declared.call.Call.TheVariants as Call;
 ghost use Rattle.domain_run.specs.Tick as tick;
 ghost use Rattle.domain_run.specs.Domain.{IsLimit};
-ghost use Rattle.domain_run.specs.Happened.{told_by_ticks};
+ghost use Rattle.domain_run.specs.Happened.{logged_by_ticks};
 ghost use Rattle.domain_run.specs.Keys.{AreKept};
-ghost use Rattle.domain_run.specs.Log.{Tells};
+ghost use Rattle.domain_run.specs.Log.{HasLogged};
 ghost use Rattle.call_book.specs.Pieces.{HoldsTickets};
 ghost use Rattle.call_book.specs.private.Kept.{IsRegradeAsked, IsLimitAsked};
+ghost use Rattle.limits.specs.Limits.{clock_end, max_history};
 
 mod ending;
 mod moving;
@@ -23,7 +24,7 @@ use attr_check::Params;
 use bw_gate::{Blank, Gate, Ticket, used_of};
 use calls_text::Entry;
 use domain_run::{Call, Log, NoMemory, Reply, State};
-pub use ending::{EndingBook, HeardAdvance, PlayingBook, playing_is_advancing};
+pub use ending::{DrawnAdvance, EndingBook, PlayingBook, StreamedAdvance, playing_is_advancing};
 use jump_run::Silent;
 pub use moving::{Move, MoveFault, move_task};
 use std::alloc::Global;
@@ -181,7 +182,7 @@ impl Domain {
     ghost use Rattle.bw_gate.specs.Pieces.{bw_of_tickets};
     ghost use Rattle.call_book.specs.Pieces.{IsTicketOf, HoldsTickets};
     ghost use Rattle.call_book.specs.Book.{own_entries, state_of, HasItsLimit, IsBookHistory, IsPassOf, EntersAlone, IsRefusedFull};
-    ghost use Rattle.call_book.specs.BookAnswers.{IsAdmit, IsRegraded, IsAdvanced, IsNotAdvanced, TellsAdvance};
+    ghost use Rattle.call_book.specs.BookAnswers.{IsAdmit, IsRegraded, IsAdvanced, IsNotAdvanced, LogsAdvance};
     ghost use Rattle.call_book.specs.LimitAnswers.{AnswersLimit, blank_of};
 
     /// An empty book of one of the gate's domains, of its 1 to 64 CPUs, that may give away `limit`
@@ -201,7 +202,7 @@ impl Domain {
         requires limit { IsLimit limit }
         requires machine { cpus_of gate.now domain ≡ cpus }
         requires clients { clients ≤ 64 }
-        requires history { (0 < history) × (history ≤ 65536) }
+        requires history { (0 < history) × (history ≤ max_history) }
         ensures book { IfOk result (λ r. r.0 ≡ record {
           gate = gate.now;
           domain = domain;
@@ -407,12 +408,12 @@ impl Domain {
         ensures stopped { IfErr result (IsNotAdvanced self.old self.new pass.old pass.new) }
     {
         let mut log = self.state.silent();
-        self.advance_told(rt, pass, gate, n, &mut log)
+        self.advance_logged(rt, pass, gate, n, &mut log)
     }
 
-    /// As [`Domain::advance`], and the log is told what happens in the ticks that were made, in
-    /// the order of "Happened". The book keeps no log. Where it refuses, nothing is told.
-    pub fn advance_told<R: Threads + Wait>(
+    /// As [`Domain::advance`], and the log records what happens in the ticks that were made, in the
+    /// order of "Happened". The book keeps no log. Where it refuses, nothing is logged.
+    pub fn advance_logged<R: Threads + Wait>(
         &mut self,
         rt: &R,
         pass: &mut Pass,
@@ -425,8 +426,8 @@ impl Domain {
         requires call { IsCall (Call.Advance n) }
         ensures done { IfOk result (IsAdvanced self.old self.new pass.old pass.new n) }
         ensures stopped { IfErr result (IsNotAdvanced self.old self.new pass.old pass.new) }
-        ensures told { IfOk result (TellsAdvance self.old log.old log.new) }
-        ensures untold { OnErr result (Tells log.old [] log.new) }
+        ensures logged { IfOk result (LogsAdvance self.old log.old log.new) }
+        ensures unlogged { OnErr result (HasLogged log.old [] log.new) }
     {
         if self.ledger.is_full() {
             return Err(AdvanceError::Full);
@@ -565,7 +566,7 @@ fn sharing(cpus: u32, workers: usize) -> usize
     workers.min(cpus as usize / LEAST_PIECE).max(1)
 }
 
-/// How many of so many ticks were made, which the log is told: fewer only where a growth was
+/// How many of so many ticks were made, which the log records: fewer only where a growth was
 /// refused. One worker is the caller itself, who looks only at what changes where nobody listens.
 fn make_ticks<R: Threads + Wait>(
     rt: &R,
@@ -575,15 +576,15 @@ fn make_ticks<R: Threads + Wait>(
     workers: Workers,
     log: &mut Log,
 ) -> u64
-    requires { state.old.time + n ≤ 2 ^ 42 }
+    requires { state.old.time + n ≤ clock_end }
     ensures most { result ≤ n }
     ensures state { state.new ≡ tick.ticks result state.old }
     ensures keys { AreKept state.old.tasks state.new.tasks }
-    ensures told { Tells log.old (told_by_ticks result state.old) log.new }
+    ensures logged { HasLogged log.old (logged_by_ticks result state.old) log.new }
 {
     let workers = sharing(state.cpus(), workers.count);
     if workers == 1 {
-        return jump_run::advance_told(state, n, log).ticks;
+        return jump_run::advance_logged(state, n, log).ticks;
     }
-    jump_run::advance_with_told(rt, alloc, state, n, workers, &Silent, log).ticks
+    jump_run::advance_with_logged(rt, alloc, state, n, workers, &Silent, log).ticks
 }

@@ -4,6 +4,7 @@ ghost use Rattle.std.specs.Prelude.{◌≡◌, ◌<◌, ◌≤◌, ◌↔◌, �
 ghost use Rattle.calls_text.specs.Limits.{IsCall};
 ghost use Rattle.call_book.specs.Book.{IsMember, entry_by, with_entry, own_entries};
 ghost use Rattle.call_book.specs.private.Ledger.{LedgerView, IsHistory};
+ghost use Rattle.limits.specs.Limits.{max_history};
 
 use crate::book::Pass;
 use calls_text::Entry;
@@ -47,7 +48,7 @@ impl Ledger {
         room: usize,
     ) -> Result<(Ledger, Vec<Pass>), NoMemory>
         requires clients { clients ≤ 64 }
-        requires room { room ≤ 65536 }
+        requires room { room ≤ max_history }
         ensures ledger { IfOk result (λ r. r.0
             ≡ record { spine = r.0.spine; clients = clients; room = room; history = [] }) }
         ensures count { IfOk result (λ r. length r.1.items ≡ clients) }

@@ -8,6 +8,7 @@ ghost use Rattle.bw_gate.specs.Pieces.{BlankView, cpus_of};
 ghost use Rattle.call_book.specs.Pieces.{IsTicketOf, IsTicketAnswered, AsksTheWord, ArePieces, HoldsTickets, is_held, is_kept, is_gone, AreGiven};
 ghost use Rattle.call_book.specs.MoveAnswers.{IsTakenOut};
 ghost use Rattle.call_book.specs.declared.book.stock.Held.{Held};
+ghost use Rattle.limits.specs.Limits.{unit};
 
 use bw_gate::{Blank, Gate, Mark, Regrade, Ticket, used_of};
 use domain_run::{NoMemory, State};
@@ -156,7 +157,7 @@ impl Stock {
         ensures stock { self.new ≡ record self.old { tickets = self.new.tickets } }
         ensures asked { AsksTheWord number bw self.old.tickets self.new.tickets result }
         ensures within { IfSome result
-            (λ used. used ≤ cpus_of self.old.gate self.old.domain * 1048576) }
+            (λ used. used ≤ cpus_of self.old.gate self.old.domain * unit) }
         ensures own { All (λ h. IsTicketOf self.old.gate self.old.domain h.ticket)
             self.old.tickets }
     {

@@ -4,7 +4,7 @@ use Rattle.calls_text.specs.declared.fault.CallsFault.{CallsFault}
 use Rattle.calls_text.specs.declared.calls_reader.Numbered.{Numbered}
 use Rattle.calls_text.specs.declared.section.Entry.{Entry}
 use Rattle.calls_text.specs.SectionView.{SectionView}
-use Rattle.calls_text.specs.Reader.{ReaderView, IsBehind, IsWithin, section_with_entries}
+use Rattle.calls_text.specs.Reader.{ReaderView, IsAfter, IsWithin, section_with_entries}
 use Rattle.calls_text.specs.KeptCall.{call_kept}
 
 -- the entry of a call that was read
@@ -17,5 +17,5 @@ abbrev pub IsNextNumbered : List ℕ → List SectionView → SectionView → Re
     → Result (Option Numbered) CallsFault → Type 0
 IsNextNumbered text before s r (Ok (Some n)) =
     IsWithin text before (section_with_entries s (numbered_entry n ∷ [])) r
-IsNextNumbered text before s r (Ok None) = IsBehind text (before ++ s ∷ []) r
+IsNextNumbered text before s r (Ok None) = IsAfter text (before ++ s ∷ []) r
 IsNextNumbered text before s r (Err e) = IsWithin text before s r

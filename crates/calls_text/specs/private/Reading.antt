@@ -23,6 +23,7 @@ use Rattle.calls_text.specs.SectionView.{SectionView}
 use Rattle.calls_text.specs.Spelling.{domain_line, section_lines, is_later, some_later, has_later, text_of, event_text}
 use Rattle.calls_text.specs.Limits.{IsClient}
 use Rattle.calls_text.specs.ReadSoFar.{KnowsLater, LacksEntry, IsSectionRead, SectionsSoFar, last_full}
+use Rattle.limits.specs.Limits.{unit, least_limit, max_advance, max_script_number, max_history}
 
 -- ---- what a part of the reader answers, seen by view, unless memory ran out
 
@@ -89,7 +90,7 @@ pub record IsFirstNumber (least most : ℕ) (text : List ℕ) (n : ℕ) (rest : 
 
 -- an event of so many microseconds
 abbrev pub lasting_at : (ℕ → Event) → List ℕ → Option Event
-lasting_at event digits = number_within_at 1 1000000000 digits >>= λ n. Some (event n)
+lasting_at event digits = number_within_at 1 max_script_number digits >>= λ n. Some (event n)
 
 unfoldable pub event_parsed : List ℕ → Option Event
 event_parsed [] = None
@@ -126,7 +127,7 @@ events_at text = many_at event_first_at 64 text
 unfoldable pub phase_at : List ℕ → Option PhaseView
 phase_at text = do
   p ← cut_at 123 text
-  count ← number_within_at 1 1000000000 p.0
+  count ← number_within_at 1 max_script_number p.0
   events ← events_at p.1
   Some (record { count = count; events = events })
 
@@ -143,7 +144,7 @@ phases_at text = many_at phase_first_at 64 text
 unfoldable pub rounds_at : List ℕ → Option (Option ℕ)
 rounds_at text =
     if bytes_eq text (codes "-1") then Some None
-    else (number_within_at 1 1000000000 text >>= λ n. Some (Some n))
+    else (number_within_at 1 max_script_number text >>= λ n. Some (Some n))
 
 unfoldable pub script_at : List ℕ → Option ScriptView
 script_at text = do
@@ -212,7 +213,7 @@ name_at text = if is_short_name text then Some text else None
 -- the delay and the script of an admission
 unfoldable pub plan_at : List ℕ → Option (ℕ × ScriptView)
 plan_at text = do
-  delay ← field_at 0 1000000000 text
+  delay ← field_at 0 max_script_number text
   script ← script_at delay.1
   Some (delay.0, script)
 
@@ -241,8 +242,8 @@ arrive_at text = do
   script ← script_at new.1
   Some (Arrive new.0.number new.0.name new.0.params script)
 
--- behind the flag of a regrade and the limit of a change that the bandwidth word refused: the
--- number with which it did
+-- after the flag of a regrade and the limit of a change that the bandwidth word refused: the number
+-- with which it did
 unfoldable pub seen_at : List ℕ → Option ℕ
 seen_at text = do
   p ← cut_at 32 text
@@ -281,9 +282,9 @@ change limit word = Some (limit, word)
 unfoldable pub change_at : List ℕ → Option (ℕ × Option ℕ)
 change_at text =
     option_map_or
-    (λ p. number_within_at 10485 1048576 p.0 >>= λ limit. seen_at p.1
+    (λ p. number_within_at least_limit unit p.0 >>= λ limit. seen_at p.1
     >>= λ seen. change limit (Some seen))
-    (cut_at 32 text) (number_within_at 10485 1048576 text >>= λ limit. change limit None)
+    (cut_at 32 text) (number_within_at least_limit unit text >>= λ limit. change limit None)
 
 -- what follows the client in a change of the limit
 unfoldable pub limit_at : List ℕ → Option Call
@@ -298,7 +299,7 @@ worded_at word text =
     else (if bytes_eq word (codes "regrade") then regrade_at text
     else (if bytes_eq word (codes "wake") then numbered_at 65535 Wake text
     else (if bytes_eq word (codes "leave") then numbered_at 65535 Leave text
-    else (if bytes_eq word (codes "advance") then numbered_at 60000000 Advance text
+    else (if bytes_eq word (codes "advance") then numbered_at max_advance Advance text
     else (if bytes_eq word (codes "limit") then limit_at text
     else (if bytes_eq word (codes "depart") then numbered_at 65535 Depart text
     else (if bytes_eq word (codes "arrive") then arrive_at text else None)))))))
@@ -314,7 +315,7 @@ word_spelled word.Limit = codes "limit"
 word_spelled word.Depart = codes "depart"
 word_spelled word.Arrive = codes "arrive"
 
--- a word, and the space behind it
+-- a word, and the space after it
 abbrev pub front_of : Word → List ℕ
 front_of word = word_spelled word ++ codes " "
 
@@ -330,7 +331,7 @@ call_at line = do
   word ← cut_at 32 line
   called_at word.0 word.1
 
--- behind a header that has calls of the second form or has none
+-- after a header that has calls of the second form or has none
 unfoldable pub known_at : Bool → List ℕ → Option (ℕ × Call)
 known_at later line = do
   p ← call_at line
@@ -347,7 +348,7 @@ unfoldable pub domain_at : List ℕ → Option (ℕ × ℕ)
 domain_at line = do
   word ← cut_at 32 line
   cpus ← field_at 1 64 word.1
-  limit ← number_within_at 10485 1048576 cpus.1
+  limit ← number_within_at least_limit unit cpus.1
   if bytes_eq word.0 (codes "domain") then Some (cpus.0, limit) else None
 
 -- ---- the entries of a section
@@ -366,7 +367,7 @@ pub record IsFirstSection (later : Bool) (text rest : List ℕ) (s : SectionView
   pub parts : text ≡ text_of (section_lines s) ++ rest
   pub is : IsSectionRead s
   pub known : KnowsLater later (some_later s.entries)
-  pub stops : length s.entries < 65536 → LacksEntry later rest
+  pub stops : length s.entries < max_history → LacksEntry later rest
 
 -- the text does not begin with the line of a domain
 abbrev pub LacksDomain : List ℕ → Type 0
@@ -399,7 +400,7 @@ is_full sections = length sections == 8 && last_full sections
 abbrev pub is_stuck : Bool → List SectionView → Bool
 is_stuck later sections = later && not (has_later sections) && is_full sections
 
--- then the last of their lines is bad, and else the one behind it; the header is line 1
+-- then the last of their lines is bad, and else the one after it; the header is line 1
 abbrev pub bad_place : Bool → List SectionView → ℕ
 bad_place later sections =
     length (flat_map section_lines sections) + (if is_stuck later sections then 1 else 2)

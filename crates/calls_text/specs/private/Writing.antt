@@ -1,4 +1,4 @@
--- The parts of a line, as the writer puts them behind one another. No public clause names them.
+-- The parts of a line, as the writer puts them after one another. No public clause names them.
 use Rattle.std.specs.Prelude.{ℕ, List, [], ◌∷◌, ◌++◌, Option, Some, None, codes, decimal}
 use Rattle.attr_check.specs.ParamsView.{ParamsView}
 use Rattle.calls_text.specs.Spelling.{line_of, flag_text}

@@ -4,6 +4,7 @@ use Rattle.domain_run.specs.declared.call.Call.{Call}
 use Rattle.domain_run.specs.declared.call.Call.TheVariants.{Admit, Regrade, Wake, Leave, Advance, Limit, Depart, Arrive}
 use Rattle.domain_run.specs.Domain.{IsLimit}
 use Rattle.calls_text.specs.Limits.{IsTaskNumber}
+use Rattle.limits.specs.Limits.{least_limit, max_advance, max_script_number}
 
 -- whom it admits; 1 where it admits nobody
 abbrev pub number_given : Call → ℕ
@@ -29,14 +30,14 @@ delay_given (Arrive number name params script) = 0
 
 -- the limit that it sets; the least one where it sets none
 abbrev pub limit_given : Call → ℕ
-limit_given (Admit number name params delay script) = 10485
-limit_given (Regrade number params word) = 10485
-limit_given (Wake number) = 10485
-limit_given (Leave number) = 10485
-limit_given (Advance n) = 10485
+limit_given (Admit number name params delay script) = least_limit
+limit_given (Regrade number params word) = least_limit
+limit_given (Wake number) = least_limit
+limit_given (Leave number) = least_limit
+limit_given (Advance n) = least_limit
 limit_given (Limit limit word) = limit
-limit_given (Depart number) = 10485
-limit_given (Arrive number name params script) = 10485
+limit_given (Depart number) = least_limit
+limit_given (Arrive number name params script) = least_limit
 
 -- how many ticks it makes
 abbrev pub ticks_given : Call → ℕ
@@ -53,6 +54,6 @@ ticks_given (Arrive number name params script) = 0
 -- fact that goes by cases, as `IsCall` of calls_text does, it may not.
 pub record IsCallReady (c : Call) : Type 0 where
   pub numbered : IsTaskNumber (number_given c)
-  pub soon : delay_given c ≤ 1000000000
+  pub soon : delay_given c ≤ max_script_number
   pub limited : IsLimit (limit_given c)
-  pub short : ticks_given c ≤ 60000000
+  pub short : ticks_given c ≤ max_advance

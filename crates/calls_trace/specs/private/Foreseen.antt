@@ -4,21 +4,22 @@ use Rattle.domain_run.specs.declared.call.Call.{Call}
 use Rattle.domain_run.specs.declared.call.Call.TheVariants.{Admit, Regrade, Wake, Leave, Advance, Limit, Depart, Arrive}
 use Rattle.calls_text.specs.SectionView.{SectionView}
 use Rattle.calls_text.specs.Limits.{IsCall, IsSection}
-use Rattle.calls_text.specs.Reader.{ReaderView, IsBehind, IsWithin}
+use Rattle.calls_text.specs.Reader.{ReaderView, IsAfter, IsWithin}
 use Rattle.calls_trace.specs.declared.foreseen.Foreseen.{Foreseen}
 use Rattle.calls_trace.specs.Replay.{calls_in_section}
 use Rattle.calls_trace.specs.private.Calls.{ticks_given}
+use Rattle.limits.specs.Limits.{max_advance, task_number_end}
 
 -- the number of a task that a call asks to admit is among these
-abbrev pub IsForetold : List ℕ → Call → Type 0
-IsForetold numbers (Admit number name params delay script) = Contains numbers number
-IsForetold numbers (Regrade number params word) = Unit {0}
-IsForetold numbers (Wake number) = Unit {0}
-IsForetold numbers (Leave number) = Unit {0}
-IsForetold numbers (Advance n) = Unit {0}
-IsForetold numbers (Limit limit word) = Unit {0}
-IsForetold numbers (Depart number) = Unit {0}
-IsForetold numbers (Arrive number name params script) = Contains numbers number
+abbrev pub IsForelogged : List ℕ → Call → Type 0
+IsForelogged numbers (Admit number name params delay script) = Contains numbers number
+IsForelogged numbers (Regrade number params word) = Unit {0}
+IsForelogged numbers (Wake number) = Unit {0}
+IsForelogged numbers (Leave number) = Unit {0}
+IsForelogged numbers (Advance n) = Unit {0}
+IsForelogged numbers (Limit limit word) = Unit {0}
+IsForelogged numbers (Depart number) = Unit {0}
+IsForelogged numbers (Arrive number name params script) = Contains numbers number
 
 -- how many ticks calls make
 abbrev pub all_ticks : List Call → ℕ
@@ -28,9 +29,9 @@ all_ticks calls = sum_by ticks_given calls
 pub record IsForeseen (f : Foreseen) : Type 0 where
   pub are : All IsCall f.calls
   pub ticks : f.ticks ≡ all_ticks f.calls
-  pub short : f.ticks ≤ length f.calls * 60000000
-  pub foretold : All (IsForetold f.numbers.keys) f.calls
-  pub small : All (λ n. n < 65536) f.numbers.keys
+  pub short : f.ticks ≤ length f.calls * max_advance
+  pub forelogged : All (IsForelogged f.numbers.keys) f.calls
+  pub small : All (λ n. n < task_number_end) f.numbers.keys
 
 -- these calls are those of the section
 pub record AreCallsOf (s : SectionView) (cpus limit : ℕ) (calls : List Call) : Type 0 where
@@ -50,5 +51,5 @@ pub record IsForeseenSection (text : List ℕ) (before : List SectionView) (cpus
     (reader : ReaderView) (calls : List Call) : Type 0 where
   pub section : SectionView
   pub is : IsSection section
-  pub behind : IsBehind text (before ++ section ∷ []) reader
+  pub following : IsAfter text (before ++ section ∷ []) reader
   pub same : AreCallsOf section cpus limit calls

@@ -6,10 +6,10 @@ use Rattle.domain_run.specs.Domain.{Domain}
 use Rattle.domain_run.specs.Run.{after_calls, run_of}
 use Rattle.calls_text.specs.SectionView.{SectionView}
 use Rattle.calls_text.specs.Limits.{IsCall, IsSection}
-use Rattle.calls_text.specs.Reader.{ReaderView, IsBehind, IsWithin}
+use Rattle.calls_text.specs.Reader.{ReaderView, IsAfter, IsWithin}
 use Rattle.switch_text.specs.Names.{name_of_task}
 use Rattle.calls_trace.specs.Replay.{calls_in_section, names_of}
-use Rattle.calls_trace.specs.Told.{domain_of, names_in, no_params}
+use Rattle.calls_trace.specs.DomainEvents.{domain_of, names_in, no_params}
 use Rattle.calls_trace.specs.private.Calls.{ticks_given}
 use Rattle.calls_trace.specs.private.Replaying.{AdmittedHaveNames, GivesParams}
 use Rattle.calls_trace.specs.declared.kept_section.KeptSection.{KeptSection}
@@ -34,7 +34,7 @@ pub record IsAtStart (r : RunWithNames) : Type 0 where
   pub time : r.state.time ≡ 0
   pub bare : r.state.switches ≡ []
 
--- behind it calls of sections are kept
+-- after it calls of sections are kept
 pub record KeepsCalls (k : KeptSection) : Type 0 where
   pub start : IsAtStart k.run
   pub are : All IsCall k.calls
@@ -95,5 +95,5 @@ pub record IsReadSection (text : List ℕ) (before : List SectionView) (reader :
     (k : KeptSection) : Type 0 where
   pub section : SectionView
   pub is : IsSection section
-  pub behind : IsBehind text (before ++ section ∷ []) reader
+  pub following : IsAfter text (before ++ section ∷ []) reader
   pub same : IsKeptSection section k

@@ -11,7 +11,7 @@ use Rattle.switch_text.specs.SlicedTrace.{SlicedView}
 use Rattle.calls_trace.specs.Replay.{names_of}
 use Rattle.calls_trace.specs.declared.playing.Playing.{Playing}
 
--- the calls that are left: what is left of the advance under way, and those behind it
+-- the calls that are left: what is left of the advance under way, and those after it
 abbrev pub calls_left : Playing → List Call
 calls_left p = Advance p.left ∷ p.calls
 

@@ -10,32 +10,32 @@ use Rattle.switch_text.specs.Names.{name_of_task}
 use Rattle.switch_text.specs.SlicedEvents.{SlicedEventsView}
 use Rattle.calls_trace.specs.Replay.{names_of}
 use Rattle.calls_trace.specs.declared.playing_events.PlayingEvents.{PlayingEvents}
-use Rattle.calls_trace.specs.private.ToldSoFar.{lines_told_by}
+use Rattle.calls_trace.specs.private.LoggedSoFar.{lines_logged_by}
 
--- the calls that are left: what is left of the advance under way, and those behind it
+-- the calls that are left: what is left of the advance under way, and those after it
 abbrev pub calls_to_make : PlayingEvents → List Call
 calls_to_make p = Advance p.left ∷ p.calls
 
 -- the names of the whole run
 abbrev pub names_to_give : PlayingEvents → (ℕ → List ℕ)
-names_to_give p = names_of p.run.logged.domain (calls_to_make p) (name_of_task p.run.names)
+names_to_give p = names_of p.run.logged_run.domain (calls_to_make p) (name_of_task p.run.names)
 
 -- the switches that the calls make
 abbrev pub switches_to_make : PlayingEvents → List Switch
 switches_to_make p =
-    (after_calls (without_switches p.run.logged.domain) (calls_to_make p)).switches
+    (after_calls (without_switches p.run.logged_run.domain) (calls_to_make p)).switches
 
--- what they tell that has a line
-abbrev pub lines_to_tell : PlayingEvents → List Happened
-lines_to_tell p = lines_told_by p.run.logged.domain (calls_to_make p)
+-- what they log that has a line
+abbrev pub lines_to_log : PlayingEvents → List Happened
+lines_to_log p = lines_logged_by p.run.logged_run.domain (calls_to_make p)
 
 -- as it is written
 abbrev pub sliced_events_of : PlayingEvents → SlicedEventsView
 sliced_events_of p = record {
   base = p.base;
   names = names_to_give p;
-  at_hand = p.run.logged.domain.switches;
+  at_hand = p.run.logged_run.domain.switches;
   to_come = switches_to_make p;
-  told = p.run.logged.told;
-  to_tell = lines_to_tell p;
+  logged = p.run.logged_run.logged;
+  to_log = lines_to_log p;
 }

@@ -3,7 +3,7 @@ use Rattle.std.specs.Prelude.{ℕ, ◌≡◌, ◌≤◌, ◌*◌, List, length, 
 use Rattle.calls_text.specs.SectionView.{SectionView}
 use Rattle.calls_text.specs.Spelling.{spelling}
 use Rattle.calls_text.specs.Limits.{AreRead}
-use Rattle.calls_text.specs.Reader.{ReaderView, IsBehind}
+use Rattle.calls_text.specs.Reader.{ReaderView, IsAfter}
 use Rattle.switch_text.specs.SlicedTrace.{wholes}
 use Rattle.calls_trace.specs.declared.playing.Playing.{Playing}
 use Rattle.calls_trace.specs.declared.playing_so_far.PlayingSoFar.{PlayingSoFar}
@@ -24,7 +24,7 @@ pub record ArePlayingFor (done : List SectionView) (r : PlayingSoFar) : Type 0 w
 -- those of the sections that were read so far
 pub record ArePlayingSoFar (text : List ℕ) (reader : ReaderView) (r : PlayingSoFar) : Type 0 where
   pub done : List SectionView
-  pub behind : IsBehind text done reader
+  pub following : IsAfter text done reader
   pub playing : ArePlayingFor done r
 
 -- so it is for some text

@@ -8,7 +8,7 @@ use Rattle.domain_run.specs.declared.call.Reply.TheVariants.{Admitted, Changed}
 use Rattle.domain_run.specs.Sound.{IsAdmitted}
 use Rattle.calls_text.specs.declared.section.Entry.{Entry}
 use Rattle.calls_trace.specs.Replay.{named_by}
-use Rattle.calls_trace.specs.Told.{with_params}
+use Rattle.calls_trace.specs.DomainEvents.{with_params}
 
 -- an admission or an arrival that was granted names its number; an entry with any other reply, or
 -- with none, names nobody

@@ -14,8 +14,8 @@ use Rattle.domain_run.specs.Run.{run_of}
 use Rattle.calls_text.specs.SectionView.{SectionView}
 use Rattle.switch_text.specs.Names.{Names, name_of_task, HasName}
 use Rattle.switch_text.specs.Trace.{SwitchesView, trace_of}
-use Rattle.switch_text.specs.Events.{ToldView, events_of}
-use Rattle.switch_text.specs.Telling.{HasToldLine, is_sooner_unless_cut}
+use Rattle.switch_text.specs.Events.{LoggedView, events_of}
+use Rattle.switch_text.specs.EventLines.{HasLoggedLine, is_sooner_unless_cut}
 use Rattle.run_figures.specs.Runs as counted
 use Rattle.run_figures.specs.Jobs.{task_jobs}
 use Rattle.run_figures.specs.Figures.{task_figures, cpu_figures}
@@ -30,7 +30,7 @@ use Rattle.calls_trace.specs.declared.placed_run.PlacedRun.{PlacedRun}
 use Rattle.calls_trace.specs.declared.run_text.RunText.{RunText}
 use Rattle.calls_trace.specs.declared.run_text.RunText.TheVariants.{Trace, Events, Jobs, Summary, Chart}
 use Rattle.calls_trace.specs.Replay.{names_of, no_names, calls_in_section}
-use Rattle.calls_trace.specs.Told.{domain_of, names_in, told_of, no_params, params_in, admitted_with_params}
+use Rattle.calls_trace.specs.DomainEvents.{domain_of, names_in, logged_of, no_params, params_in, admitted_with_params}
 use Rattle.calls_trace.specs.Charted.{chart_row_of}
 
 -- the map gives these names
@@ -58,15 +58,16 @@ given_in given number = unwrap_or (get nat_eq given number) (no_params number)
 abbrev pub GivesParams : Given → (ℕ → ParamsView) → Type 0
 GivesParams given wanted = (n : ℕ) → given_in given n ≡ wanted n
 
--- what a log keeps of what it was told
-abbrev pub heard : LogView → List Happened
-heard log = if log.wanted then log.happened else []
+-- what a log keeps of what it has logged
+abbrev pub streamed : LogView → List Happened
+streamed log = if log.wanted then log.happened else []
 
--- the parameters that the calls of a section leave, and what they tell, to a log that wants it
-pub record IsToldOf (wanted : Bool) (s : SectionView) (given : Given) (log : LogView) : Type 0 where
+-- the parameters that the calls of a section leave, and what they log, to a log that wants it
+pub record IsLoggedOf (wanted : Bool) (s : SectionView) (given : Given)
+    (log : LogView) : Type 0 where
   pub params : GivesParams given (if wanted then params_in s else no_params)
   pub alike : log.wanted ≡ wanted
-  pub told : heard log ≡ (if wanted then told_of s else [])
+  pub logged : streamed log ≡ (if wanted then logged_of s else [])
 
 -- ---- the run of one domain of the machine
 
@@ -84,7 +85,7 @@ placed_view_of r = record {
   domain = r.run.state;
   names = name_of_task r.run.names;
   given = given_in r.run.given;
-  happened = heard r.run.log;
+  happened = streamed r.run.log;
 }
 
 -- the run of a section
@@ -94,7 +95,7 @@ view_at wanted base s = record {
   domain = domain_of s;
   names = names_in s;
   given = if wanted then params_in s else no_params;
-  happened = if wanted then told_of s else [];
+  happened = if wanted then logged_of s else [];
 }
 
 -- the first domain has the first CPUs of the machine, the second the next ones, and so on
@@ -107,16 +108,16 @@ views_from wanted base (s ∷ ss) = view_at wanted base s ∷ views_from wanted 
 pub record IsPlaced (r : PlacedRun) : Type 0 where
   pub inside : r.base + r.run.state.cpus ≤ 512
   pub named : AdmittedHaveNames r.run.state r.run.names
-  pub lines : All (HasToldLine r.run.names r.base) (heard r.run.log)
-  pub rising : AllPairs (λ a b. IsTrue (is_sooner_unless_cut a b)) (heard r.run.log)
+  pub lines : All (HasLoggedLine r.run.names r.base) (streamed r.run.log)
+  pub rising : AllPairs (λ a b. IsTrue (is_sooner_unless_cut a b)) (streamed r.run.log)
 
 -- ---- what is written of runs
 
 abbrev pub placed_run_view : PlacedView → SwitchesView
 placed_run_view v = record { base = v.base; names = v.names; switches = v.domain.switches }
 
-abbrev pub told_in : PlacedView → ToldView
-told_in v = record { base = v.base; names = v.names; happened = v.happened }
+abbrev pub logged_in : PlacedView → LoggedView
+logged_in v = record { base = v.base; names = v.names; happened = v.happened }
 
 abbrev pub figures_in : PlacedView → counted.RunView
 figures_in v = record {
@@ -156,7 +157,7 @@ chart_of_placed window vs = chart_text window (cpus_of_placed vs) (flat_map (row
 -- a text of the domains of a machine
 abbrev pub text_in : RunText → List PlacedView → List ℕ
 text_in Trace vs = trace_of (map placed_run_view vs)
-text_in Events vs = events_of (map placed_run_view vs) (map told_in vs)
+text_in Events vs = events_of (map placed_run_view vs) (map logged_in vs)
 text_in Jobs vs = jobs_text (map jobs_in vs)
 text_in Summary vs = summary_text (map summary_in vs)
 text_in (Chart span) vs = chart_of_placed (window_of span (end_in vs)) vs

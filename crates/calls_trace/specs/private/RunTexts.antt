@@ -15,13 +15,13 @@ run_text prints.Jobs = Some Jobs
 run_text prints.Summary = Some Summary
 run_text (prints.Chart span) = Some (Chart span)
 
-abbrev pub is_told_text : RunText → Bool
-is_told_text Trace = false
-is_told_text Events = true
-is_told_text Jobs = true
-is_told_text Summary = true
-is_told_text (Chart span) = true
+abbrev pub is_logged_text : RunText → Bool
+is_logged_text Trace = false
+is_logged_text Events = true
+is_logged_text Jobs = true
+is_logged_text Summary = true
+is_logged_text (Chart span) = true
 
 -- that of the runs of sections
 unfoldable pub text_of_all : RunText → List SectionView → List ℕ
-text_of_all text sections = text_in text (views_from (is_told_text text) 0 sections)
+text_of_all text sections = text_in text (views_from (is_logged_text text) 0 sections)

@@ -2,12 +2,12 @@
 use Rattle.std.specs.Prelude.{ℕ, ◌≡◌, ◌+◌, ◌<◌, ◌≤◌, List, [], ◌∷◌, ◌++◌, slice_index_or, length, map, fold, max, sum_by, All}
 use Rattle.domain_run.specs.declared.call.Call.{Call}
 use Rattle.domain_run.specs.Domain.{IsLimit, empty_domain}
-use Rattle.domain_run.specs.Happened.{told_by_calls}
+use Rattle.domain_run.specs.Happened.{logged_by_calls}
 use Rattle.domain_run.specs.Run.{run_of}
 use Rattle.calls_text.specs.SectionView.{SectionView}
 use Rattle.calls_text.specs.Limits.{AreRead}
 use Rattle.calls_text.specs.Spelling.{spelling}
-use Rattle.calls_text.specs.Reader.{ReaderView, IsBehind}
+use Rattle.calls_text.specs.Reader.{ReaderView, IsAfter}
 use Rattle.chart_pieces.specs.declared.window.Span.{Span}
 use Rattle.chart_pieces.specs.declared.window.Window.{Window}
 use Rattle.chart_pieces.specs.RowView.{RowView}
@@ -17,20 +17,21 @@ use Rattle.chart.specs.Rows.{ChartRowView}
 use Rattle.chart.specs.Chart.{chart_text}
 use Rattle.switch_text.specs.Names.{name_of_task}
 use Rattle.calls_trace.specs.declared.foreseen_text.ForeseenSection.{ForeseenSection}
-use Rattle.calls_trace.specs.declared.hearing.Hearing.{Hearing}
+use Rattle.calls_trace.specs.declared.streaming.Streaming.{Streaming}
 use Rattle.calls_trace.specs.declared.sketch.Sketch.{Sketch}
 use Rattle.calls_trace.specs.declared.sketching.Sketching.{Sketching}
 use Rattle.calls_trace.specs.Charted.{chart_row_of}
 use Rattle.calls_trace.specs.Replay.{calls_in_section, names_of, no_names}
-use Rattle.calls_trace.specs.Told.{no_params, params_by_calls}
+use Rattle.calls_trace.specs.DomainEvents.{no_params, params_by_calls}
 use Rattle.calls_trace.specs.private.Foreseen.{IsForeseen, all_ticks}
-use Rattle.calls_trace.specs.private.Hearing.{LedView, figures_led}
+use Rattle.calls_trace.specs.private.Streaming.{LedView, figures_led}
+use Rattle.limits.specs.Limits.{max_history}
 
 -- ---- a run that is drawn while it is made
 
--- as an accounting would hear it
-abbrev pub heard_as : Sketching → Hearing
-heard_as s = record { run = s.run; accounting = s.drawing.heard; calls = s.calls }
+-- as an accounting would take it
+abbrev pub streamed_as : Sketching → Streaming
+streamed_as s = record { run = s.run; accounting = s.drawing.streamed; calls = s.calls }
 
 -- what no call of its section changes: the window, and the tasks that its calls ask to admit
 pub record AskedView : Type 0 where
@@ -41,7 +42,7 @@ pub record AskedView : Type 0 where
 abbrev pub asked_in : Sketching → AskedView
 asked_in s = record {
   window = s.drawing.window;
-  tasks = s.drawing.heard.tasks;
+  tasks = s.drawing.streamed.tasks;
   numbers = s.numbers.keys;
 }
 
@@ -95,7 +96,7 @@ led_ahead a = record {
   domain = run_of a.cpus a.limit a.calls;
   names = names_of (empty_domain a.cpus a.limit) a.calls no_names;
   given = params_by_calls (empty_domain a.cpus a.limit) a.calls no_params;
-  happened = told_by_calls (empty_domain a.cpus a.limit) a.calls;
+  happened = logged_by_calls (empty_domain a.cpus a.limit) a.calls;
 }
 
 abbrev pub sketch_ahead : Window → AheadView → SketchView
@@ -106,13 +107,13 @@ pub record IsReadyToRun (f : ForeseenSection) : Type 0 where
   pub cpus : (0 < f.cpus) × (f.cpus ≤ 64)
   pub limit : IsLimit f.limit
   pub foreseen : IsForeseen f.foreseen
-  pub few : length f.foreseen.calls ≤ 65536
+  pub few : length f.foreseen.calls ≤ max_history
 
 -- the sections that were read so far
 pub record AreForeseenSoFar (text : List ℕ) (reader : ReaderView) (fs : List ForeseenSection)
     : Type 0 where
   pub done : List SectionView
-  pub behind : IsBehind text done reader
+  pub following : IsAfter text done reader
   pub same : map ahead_as fs ≡ map ahead_in done
   pub ready : All IsReadyToRun fs
 

@@ -1,15 +1,15 @@
--- The figures and the jobs of the runs of sections, each of which was heard while it was made.
+-- The figures and the jobs of the runs of sections, each of which was streamed while it was made.
 use Rattle.std.specs.Prelude.{ℕ, Bool, ◌≡◌, ◌++◌, ◌∷◌, [], List, map, IsTrue}
 use Rattle.calls_text.specs.SectionView.{SectionView}
 use Rattle.calls_text.specs.Limits.{IsSection, AreRead}
 use Rattle.calls_text.specs.Spelling.{spelling}
-use Rattle.calls_text.specs.Reader.{ReaderView, IsBehind}
+use Rattle.calls_text.specs.Reader.{ReaderView, IsAfter}
 use Rattle.switch_text.specs.Names.{name_of_task}
 use Rattle.figure_text.specs.Jobs.{JobsView}
 use Rattle.figure_text.specs.Summary.{SummaryView}
-use Rattle.calls_trace.specs.declared.heard_jobs.NamedJobs.{NamedJobs}
+use Rattle.calls_trace.specs.declared.streamed_jobs.NamedJobs.{NamedJobs}
 use Rattle.calls_trace.specs.declared.summed_run.SummedRun.{SummedRun}
-use Rattle.calls_trace.specs.Told.{jobs_view, summary_view}
+use Rattle.calls_trace.specs.DomainEvents.{jobs_view, summary_view}
 
 -- as they are written
 abbrev pub summed_as : SummedRun → SummaryView
@@ -33,7 +33,7 @@ pub record IsSummedSection (text : List ℕ) (before : List SectionView) (jobs :
     (reader : ReaderView) (r : SummedRun) : Type 0 where
   pub section : SectionView
   pub is : IsSection section
-  pub behind : IsBehind text (before ++ section ∷ []) reader
+  pub following : IsAfter text (before ++ section ∷ []) reader
   pub figures : summed_as r ≡ summary_view section
   pub are_jobs : IsTrue jobs → jobs_as r ≡ jobs_view section
 
@@ -41,7 +41,7 @@ pub record IsSummedSection (text : List ℕ) (before : List SectionView) (jobs :
 pub record AreSummedSoFar (text : List ℕ) (jobs : Bool) (reader : ReaderView)
     (runs : List SummedRun) : Type 0 where
   pub done : List SectionView
-  pub behind : IsBehind text done reader
+  pub following : IsAfter text done reader
   pub figures : map summed_as runs ≡ map summary_view done
   pub are_jobs : IsTrue jobs → map jobs_as runs ≡ map jobs_view done
 

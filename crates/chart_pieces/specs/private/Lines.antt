@@ -1,13 +1,13 @@
 -- A task while its switches and its moments go by.
 use Rattle.std.specs.Prelude.{ℕ, ◌≡◌, ◌≢◌, ◌<◌, ◌≤◌, ◌+◌, ◌==◌, min, length, drop, slice_index_or, true, if◌then◌else◌, ◌++◌, List, [], ◌∷◌, fold, filter, map, All, AllPairs, Option, Some, None}
 use Rattle.domain_run.specs.Switch.{Switch}
-use Rattle.chart_pieces.specs.declared.standing.Moment.{Moment}
+use Rattle.chart_pieces.specs.declared.status.Moment.{Moment}
 use Rattle.chart_pieces.specs.declared.row.Bar.{Bar}
 use Rattle.chart_pieces.specs.declared.window.Window.{Window}
 use Rattle.chart_pieces.specs.RowView.{RowView}
 use Rattle.chart_pieces.specs.Window.{touches}
 use Rattle.chart_pieces.specs.Bars.{bar_by, bars_in}
-use Rattle.chart_pieces.specs.Standing.{at_rest, after_turn}
+use Rattle.chart_pieces.specs.TaskStatus.{at_rest, after_turn}
 use Rattle.chart_pieces.specs.Rows.{gap_by, marks_by}
 use Rattle.chart_pieces.specs.private.LineView.{ChartLineView}
 use Rattle.run_figures.specs.Places.{if_number}
@@ -16,7 +16,7 @@ abbrev pub line_without_bars : ℕ → ChartLineView
 line_without_bars number = record {
   number = number;
   bars = [];
-  standing = at_rest;
+  status = at_rest;
   since = 0;
   gaps = [];
   marks = [];
@@ -81,10 +81,10 @@ holder w end cpu switches = holder_from w end None cpu switches
 -- MOMENTS
 abbrev pub bars_after : Window → Moment → ChartLineView → ChartLineView
 bars_after w m l = record l {
-  standing = after_turn m.turn l.standing;
+  status = after_turn m.turn l.status;
   since = m.time;
-  gaps = l.gaps ++ gap_by w l.standing l.since m.time;
-  marks = l.marks ++ marks_by w l.standing m.time m.turn;
+  gaps = l.gaps ++ gap_by w l.status l.since m.time;
+  marks = l.marks ++ marks_by w l.status m.time m.turn;
 }
 
 abbrev pub bars_if : Window → ChartLineView → Moment → ChartLineView
@@ -98,7 +98,7 @@ abbrev pub row_by : Window → ℕ → ChartLineView → RowView
 row_by w time l = record {
   number = l.number;
   bars = l.bars;
-  gaps = l.gaps ++ gap_by w l.standing l.since time;
+  gaps = l.gaps ++ gap_by w l.status l.since time;
   marks = l.marks;
 }
 

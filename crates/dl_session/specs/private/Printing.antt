@@ -5,6 +5,7 @@ use Rattle.calls_trace.specs.declared.fault.TraceFault.{TraceFault}
 use Rattle.calls_trace.specs.declared.fault.TraceFault.TheVariants as traces
 use Rattle.calls_trace.specs.Written.{IsWritten, IsCut}
 use Rattle.counted_io.specs.Sides.{Side, IsUntouched}
+use Rattle.chart_pieces.specs.Window.{window_of}
 use Rattle.rtapp_scenario.specs.ScenarioView.{TaskSpecView}
 use Rattle.run_options.specs.declared.replay_print.ReplayPrint.TheVariants as replayed
 use Rattle.run_options.specs.declared.options.Print.{Print}
@@ -12,29 +13,30 @@ use Rattle.run_options.specs.declared.options.Print.TheVariants as prints
 use Rattle.session.specs.declared.report.Wanted.{Wanted}
 use Rattle.session.specs.declared.report.Wanted.TheVariants as wants
 use Rattle.dl_session.specs.declared.printing.Source.{Source}
-use Rattle.dl_session.specs.declared.printing.Source.TheVariants.{Histories, Heard, HeardJobs, Tasks, Logs}
+use Rattle.dl_session.specs.declared.printing.Source.TheVariants.{Histories, Streamed, StreamedJobs, Drawn, Tasks, Logs}
 use Rattle.dl_session.specs.Promised.{domains_of, IsRowOf, AreRows}
 use Rattle.dl_session.specs.RunAnswer.{IsTextWith}
 
-abbrev pub wanted_for : Print → Wanted
-wanted_for prints.Trace = wants.Switches
-wanted_for prints.Calls = wants.Switches
-wanted_for prints.Replies = wants.Switches
-wanted_for prints.Events = wants.Happened
-wanted_for prints.Jobs = wants.Jobs
-wanted_for prints.Summary = wants.Figures
-wanted_for prints.Promises = wants.Switches
-wanted_for (prints.Chart span) = wants.Happened
+-- of runs of this duration, in microseconds
+abbrev pub wanted_for : ℕ → Print → Wanted
+wanted_for duration prints.Trace = wants.Switches
+wanted_for duration prints.Calls = wants.Switches
+wanted_for duration prints.Replies = wants.Switches
+wanted_for duration prints.Events = wants.Happened
+wanted_for duration prints.Jobs = wants.Jobs
+wanted_for duration prints.Summary = wants.Figures
+wanted_for duration prints.Promises = wants.Switches
+wanted_for duration (prints.Chart span) = wants.Chart (window_of span duration)
 
 abbrev pub source_of : Print → Source
 source_of prints.Trace = Logs replayed.Trace
 source_of prints.Calls = Histories
 source_of prints.Replies = Logs replayed.Replies
 source_of prints.Events = Logs replayed.Events
-source_of prints.Jobs = HeardJobs
-source_of prints.Summary = Heard
+source_of prints.Jobs = StreamedJobs
+source_of prints.Summary = Streamed
 source_of prints.Promises = Tasks
-source_of (prints.Chart span) = Logs (replayed.Chart span)
+source_of (prints.Chart span) = Drawn span
 
 -- what is printed, before anything is said of how promises are kept
 abbrev pub IsMadeText : Print → List TaskSpecView → List SectionView → List ℕ → Type 0

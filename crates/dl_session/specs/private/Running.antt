@@ -1,4 +1,4 @@
--- The steps of a run: the input is told, and of the runs there is what is wanted.
+-- The steps of a run: the input is logged, and of the runs there is what is wanted.
 use Rattle.std.specs.Prelude.{◌≡◌, ◌≢◌, Bool, true, false, List, length}
 use Rattle.domain_run.specs.Domain.{Domain}
 use Rattle.domain_run.specs.Log.{LogView}
@@ -7,11 +7,14 @@ use Rattle.json_order.specs.declared.fault.JsonKind.TheVariants as kinds
 use Rattle.rtapp_scenario.specs.declared.fault.ScenarioFault.{ScenarioFault}
 use Rattle.rtapp_scenario.specs.declared.fault.ScenarioFault.TheVariants as scenario_faults
 use Rattle.run_figures.specs.Accounting.{AccountingView}
+use Rattle.chart_pieces.specs.declared.window.Window.{Window}
+use Rattle.chart_pieces.specs.Drawing.{DrawingView}
 use Rattle.calls_text.specs.SectionView.{SectionView}
-use Rattle.calls_text.specs.Histories.{AreRuns, AreTold}
-use Rattle.calls_trace.specs.Heard.{AreAccountings, AreRunsButSwitches}
+use Rattle.calls_text.specs.Histories.{AreRuns, AreLogged}
+use Rattle.calls_trace.specs.Streamed.{AreAccountings, AreDrawings, AreRunsButSwitches}
 use Rattle.session.specs.declared.report.Wanted.{Wanted}
-use Rattle.session.specs.declared.report.Wanted.TheVariants.{Switches, Happened, Figures, Jobs}
+use Rattle.session.specs.declared.report.Wanted.TheVariants.{Switches, Happened, Figures, Jobs, Chart}
+use Rattle.dl_session.specs.declared.printing.Left.{Left}
 use Rattle.dl_session.specs.declared.fault.SessionFault.{SessionFault}
 use Rattle.dl_session.specs.declared.fault.SessionFault.TheVariants.{Json, Scenario, Memory}
 
@@ -20,33 +23,41 @@ abbrev pub IsOrMemory : (SessionFault → Type 0) → SessionFault → Type 0
 IsOrMemory this Memory = Unit {0}
 IsOrMemory this fault = this fault
 
--- a fault of the input as a session tells it: want of memory is told as such
-abbrev pub IsJsonTold : JsonFault → SessionFault → Type 0
-IsJsonTold found = IsOrMemory (λ e. (e ≡ Json found) × (found.kind ≢ kinds.Memory))
+-- a fault of the input as a session tells it: want of memory is logged as such
+abbrev pub IsJsonLogged : JsonFault → SessionFault → Type 0
+IsJsonLogged found = IsOrMemory (λ e. (e ≡ Json found) × (found.kind ≢ kinds.Memory))
 
-abbrev pub IsScenarioTold : ScenarioFault → SessionFault → Type 0
-IsScenarioTold found = IsOrMemory (λ e. (e ≡ Scenario found) × (found ≢ scenario_faults.Memory))
+abbrev pub IsScenarioLogged : ScenarioFault → SessionFault → Type 0
+IsScenarioLogged found = IsOrMemory (λ e. (e ≡ Scenario found) × (found ≢ scenario_faults.Memory))
 
--- what is left of runs: the states that the histories lead to, and logs of what the histories tell,
+-- what is left of runs: the states that the histories lead to, and logs of what the histories log,
 -- where that is wanted
 pub record AreRunLogs (wanted : Bool) (histories : List SectionView) (states : List Domain)
     (logs : List LogView) : Type 0 where
   pub runs : AreRuns histories states
   pub as_many : length logs ≡ length histories
-  pub told : AreTold wanted histories logs
+  pub logged : AreLogged wanted histories logs
 
--- what is left of runs whose figures or jobs are wanted: they were heard, and but for their
+-- what is left of runs whose figures or jobs are wanted: they were streamed, and but for their
 -- switches the states are what the histories lead to
 pub record AreFigured (histories : List SectionView) (states : List Domain)
-    (heard : List AccountingView) : Type 0 where
-  pub as_many : length heard ≡ length histories
+    (streamed : List AccountingView) : Type 0 where
+  pub as_many : length streamed ≡ length histories
   pub runs : AreRunsButSwitches histories states
-  pub all : AreAccountings histories heard
+  pub all : AreAccountings histories streamed
+
+-- what is left of runs whose chart is wanted: they were drawn in this window, and but for their
+-- switches the states are what the histories lead to
+pub record AreSketched (window : Window) (histories : List SectionView) (states : List Domain)
+    (drawn : List DrawingView) : Type 0 where
+  pub runs : AreRunsButSwitches histories states
+  pub drawings : AreDrawings window histories drawn
 
 -- by what is wanted
-abbrev pub AreLeftAs : Wanted → List SectionView → List Domain → List LogView
-    → List AccountingView → Type 0
-AreLeftAs Switches histories states logs heard = AreRunLogs false histories states logs
-AreLeftAs Happened histories states logs heard = AreRunLogs true histories states logs
-AreLeftAs Figures histories states logs heard = AreFigured histories states heard
-AreLeftAs Jobs histories states logs heard = AreFigured histories states heard
+abbrev pub AreLeftAs : Wanted → List SectionView → Left → Type 0
+AreLeftAs Switches histories left = AreRunLogs false histories left.states.items left.logs.items
+AreLeftAs Happened histories left = AreRunLogs true histories left.states.items left.logs.items
+AreLeftAs Figures histories left = AreFigured histories left.states.items left.streamed.items
+AreLeftAs Jobs histories left = AreFigured histories left.states.items left.streamed.items
+AreLeftAs (Chart window) histories left =
+    AreSketched window histories left.states.items left.drawn.items

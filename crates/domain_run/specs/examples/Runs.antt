@@ -143,8 +143,8 @@ rate_next d number = option_map (rate_of (with_tick_begun d)) (task_in (with_tic
 slowed_rate_at_4 : rate_next (slowed []) 1 ≡ Some 524288
 slowed_rate_at_4 = refl
 
-slowed_rate_behind : rate_next (slowed (slower 0)) 1 ≡ Some 699051
-slowed_rate_behind = refl
+slowed_rate_after : rate_next (slowed (slower 0)) 1 ≡ Some 699051
+slowed_rate_after = refl
 
 slowed_left_at_4 : server_in (slowed (slower 0)) 1 ≡ left_by 8 2097152
 slowed_left_at_4 = refl

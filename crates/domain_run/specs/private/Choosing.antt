@@ -9,30 +9,30 @@ use Rattle.domain_run.specs.Switch.{Switch}
 use Rattle.domain_run.specs.Sound.{occupant}
 use Rattle.domain_run.specs.Switches.{prev_state_of}
 use Rattle.domain_run.specs.Tick.{shares}
-use Rattle.domain_run.specs.private.Roster.{homed_here}
-use Rattle.domain_run.specs.private.RunQueue.{IsRoster}
-use Rattle.due_times.specs.Seats.{SeatsView}
-use Rattle.domain_run.specs.private.Waiting.{owed_all, AllWait}
+use Rattle.domain_run.specs.private.TaskTable.{homed_here}
+use Rattle.domain_run.specs.private.RunQueue.{IsTaskTable}
+use Rattle.due_times.specs.OpenCharges.{OpenChargesView}
+use Rattle.domain_run.specs.private.Owed.{owed_all, AreOpen}
 
 -- of so many CPUs
 abbrev pub AreWithin : ℕ → List Moved → Type 0
 AreWithin cpus moves = All (λ m. m.cpu < cpus) moves
 
--- what is kept of the tasks beside the schedule: the sums are those of the list, and each seat has
--- its task's charges
-pub record AreCounted (accounts : AccountsView) (seats : SeatsView) (tasks : List Task)
+-- what is kept of the tasks beside the schedule: the sums are those of the list, and each open
+-- charge is that of its task
+pub record AreCounted (accounts : AccountsView) (charges : OpenChargesView) (tasks : List Task)
     : Type 0 where
-  pub sums : AreAccounts accounts (shares (owed_all seats tasks))
-  pub roster : IsRoster (owed_all seats tasks)
-  pub waits : AllWait seats.seats tasks
+  pub sums : AreAccounts accounts (shares (owed_all charges tasks))
+  pub task_table : IsTaskTable (owed_all charges tasks)
+  pub waits : AreOpen charges.charges tasks
 
--- the task at a place, who stands on a CPU, belongs to it
+-- the task at a place, if it runs on a CPU, belongs to it
 pub record IsHome (o : Option ℕ) (cpu place : ℕ) (tasks : List Task) : Type 0 where
   pub within : place < length tasks
-  pub stands : (d : Task) → o ≡ Some (slice_index_or tasks place d).number
+  pub is_on_cpu : (d : Task) → o ≡ Some (slice_index_or tasks place d).number
   pub home : (d : Task) → (slice_index_or tasks place d).cpu ≡ cpu
 
--- who stands on one of these CPUs belongs to it
+-- the task that runs on one of these CPUs belongs to it
 abbrev pub task_homed_by : Places → List Moved → Task → Task
 task_homed_by places moves t =
     fold (λ (u : Task) m. homed_here (occupant places m.cpu) m.cpu u) t moves

@@ -20,7 +20,7 @@ paid_at time ticks budgets (Some i) t = ran_until time ticks (slice_index_or bud
 abbrev pub paid : ℕ → List ℕ → ℕ → List ℤ → Task → Task
 paid time running ticks budgets t = paid_at time ticks budgets (index_of running t) t
 
--- what one that stands on a CPU needs
+-- what one that runs on a CPU needs
 pub record MayPay (ticks : ℕ) (budgets : List ℤ) (t : Task) (i : ℕ) : Type 0 where
   pub ready : IsTrue (is_ready t.condition)
   pub within : i < length budgets

@@ -6,7 +6,7 @@ use Rattle.edf_pick.specs.declared.candidate.Candidate.{Candidate}
 use Rattle.edf_pick.specs.Order.{by_deadline, with_candidate, without_candidate}
 use Rattle.edf_pick.specs.Schedule.{IsAtHome}
 use Rattle.domain_run.specs.declared.task.Task.{Task}
-use Rattle.domain_run.specs.declared.standing.Standing.{Standing}
+use Rattle.domain_run.specs.declared.status.TaskStatus.{TaskStatus}
 use Rattle.domain_run.specs.declared.run_queue.RunQueue.{RunQueue}
 use Rattle.edf_pick.specs.Places.{Places}
 use Rattle.domain_run.specs.Conditions.{is_ready}
@@ -22,8 +22,8 @@ abbrev pub ready_at : Task → Option ℕ
 ready_at t = if is_ready t.condition then Some (candidate_of t).deadline else None
 
 -- a task as the sums see it, and as the choice does, and when it is due
-abbrev pub standing_of : Task → Standing
-standing_of t = record {
+abbrev pub status_of : Task → TaskStatus
+status_of t = record {
   bw = (share_of t).bw;
   active =
       (share_of t).active;
@@ -32,7 +32,7 @@ standing_of t = record {
 }
 
 -- what the sums see of one that belongs to a CPU
-abbrev pub share_on : ℕ → Standing → Share
+abbrev pub share_on : ℕ → TaskStatus → Share
 share_on cpu s = record { cpu = cpu; bw = s.bw; active = s.active }
 
 -- what the choice sees of one of a number, which belongs to a CPU
@@ -47,27 +47,27 @@ abbrev pub ready_of : Task → Option Candidate
 ready_of t = candidate_at t.number t.cpu (ready_at t)
 
 -- THE INVARIANT: the sums are those of the list, the schedule has its ready tasks in order, and the
--- timers tell when each is due
+-- timers say when each is due
 pub record QueueCounts (queue : RunQueue) (tasks : List Task) : Type 0 where
   pub sums : AreAccounts queue.accounts (shares tasks)
   pub order : queue.schedule.queue ≡ by_deadline (candidates tasks)
   pub due : queue.timers ≡ map due_of tasks
 
 -- what a list of tasks keeps so that the sums fit, and the queue has each task once
-pub record IsRoster (tasks : List Task) : Type 0 where
+pub record IsTaskTable (tasks : List Task) : Type 0 where
   pub few : length tasks ≤ 256
   pub short : All (λ t. t.params.bw ≤ 2 ^ 26) tasks
   pub numbered : AllPairs (λ a b. a.number ≢ b.number) tasks
 
--- who stands on a CPU belongs to it
+-- the task that runs on a CPU belongs to it
 abbrev pub AreHomed : Places → List Task → Type 0
 AreHomed places tasks = All (λ t. with_last_cpu places t ≡ t) tasks
 
--- a run queue of so many CPUs counts this list, and who stands on a CPU belongs to it
+-- a run queue of so many CPUs counts this list, and the task that runs on a CPU belongs to it
 pub record IsCounted (cpus : ℕ) (queue : RunQueue) (tasks : List Task) : Type 0 where
   pub wide : length queue.accounts.all ≡ cpus
   pub counts : QueueCounts queue tasks
-  pub roster : IsRoster tasks
+  pub task_table : IsTaskTable tasks
   pub homed : AreHomed queue.schedule.places tasks
 
 -- a queue with and without a task that is ready, or is not
@@ -81,7 +81,7 @@ without_ready (Some c) queue = without_candidate c queue
 
 -- the task at a place of those that are counted, of a number, which belongs to a CPU, may turn from
 -- `before` to `after`
-pub record MayTurn (place number cpu : ℕ) (queue : RunQueue) (before after : Standing)
+pub record MayApply (place number cpu : ℕ) (queue : RunQueue) (before after : TaskStatus)
     : Type 0 where
   pub within : place < length queue.timers
   pub held : Holds queue.accounts (share_on cpu before)
@@ -94,7 +94,7 @@ pub record MayTurn (place number cpu : ℕ) (queue : RunQueue) (before after : S
   pub homed : IfSome (candidate_at number cpu after.ready) (λ c. IsAtHome queue.schedule.places c)
 
 -- it has
-pub record HasTurned (place number cpu : ℕ) (before after : Standing) (old new : RunQueue)
+pub record IsApplied (place number cpu : ℕ) (before after : TaskStatus) (old new : RunQueue)
     : Type 0 where
   pub sums : Exchanges old.accounts new.accounts (share_on cpu before ∷ [])
       (share_on cpu after ∷ [])
@@ -110,10 +110,10 @@ pub record IsRoom (cpus capacity noted : ℕ) : Type 0 where
   pub event : cpus ≤ capacity
   pub exact : capacity ≡ noted
 
--- what a state keeps: a domain, whose CPUs its roster has too, who stands on its CPUs, where that
--- is listed, and for that list the room for so many that it was opened with, so it takes no more.
--- Its switches have the room that it notes, of one event's at least, so where none waits there is
--- room for an event
+-- what a state keeps: a domain, whose CPUs its task table has too, the tasks that run on its CPUs,
+-- where that is listed, and for that list the room for so many that it was opened with, so it takes
+-- no more. Its switches have the room that it notes, of one event's at least, so where none waits
+-- there is room for an event
 pub record IsState (d : Domain) (cpus : ℕ) (is_listed : Bool) (running : List ℕ)
     (running_capacity switch_capacity room : ℕ) : Type 0 where
   pub domain : IsDomain d

@@ -4,7 +4,7 @@ use Rattle.domain_run.specs.declared.task.Task.{Task}
 use Rattle.domain_run.specs.Parts.{is_listed}
 use Rattle.domain_run.specs.Jump.{replenished_at, asks_at, gone_at}
 
--- a time that may come; the last number stands for none
+-- a time that may come; the last number means none
 abbrev pub due_moment : Option ℕ → ℕ
 due_moment None = 2 ^ 64 - 1
 due_moment (Some u) = u

@@ -10,7 +10,7 @@ ghost use Rattle.domain_run.specs.Domain.{IsLimit};
 
 use super::State;
 use crate::call::Reply;
-use crate::change::Change;
+use crate::transition::Transition;
 use attr_check::Params;
 
 impl State {
@@ -21,7 +21,7 @@ impl State {
         ensures busy { IfNone word
             (IfBusy result (LacksRoomToChange self.now number params.now.bw)) }
     {
-        let Some(task) = self.roster.live(number) else {
+        let Some(task) = self.task_table.live(number) else {
             return Reply::NotListed;
         };
         let sum = self.sum();
@@ -42,19 +42,19 @@ impl State {
             ≡ Reply.Changed) }
         ensures domain { IsDomain self.now }
     {
-        // For the prover alone: a look at the roster brings what its type keeps.
-        let _ = &self.roster;
+        // For the prover alone: a look at the task table brings what its type keeps.
+        let _ = &self.task_table;
         self.regrade_reply(number, params, None) == Reply::Changed
     }
 
-    fn change(&mut self, number: u32, params: &Params)
+    fn transition(&mut self, number: u32, params: &Params)
         requires { calls.regrade_reply self.old params.now None (calls.task_of self.old number)
             ≡ Reply.Changed }
         ensures { self.new
             ≡ calls.with_task_changed self.old number (calls.with_new_params params.now) }
     {
-        let change = Change::Regrade { params: *params };
-        self.roster.turn_number(number, self.time, &change);
+        let transition = Transition::Regrade { params: *params };
+        self.task_table.apply_number(number, self.time, &transition);
     }
 
     /// Gives a listed task new parameters at the time now, at once; its deadline, its budget and a
@@ -71,7 +71,7 @@ impl State {
     {
         let reply = self.regrade_reply(number, &params, word);
         if reply == Reply::Changed {
-            self.change(number, &params);
+            self.transition(number, &params);
         }
         reply
     }
@@ -79,7 +79,7 @@ impl State {
     fn wake_reply(&self, number: u32) -> Reply
         ensures { result ≡ calls.wake_reply (calls.task_of self.now number) }
     {
-        match self.roster.live(number) {
+        match self.task_table.live(number) {
             None => Reply::NotListed,
             Some(task) if task.condition.is_waiting() => Reply::Woken,
             Some(_) => Reply::NotWaiting,
@@ -91,7 +91,8 @@ impl State {
         ensures { self.new
             ≡ calls.with_task_changed self.old number (calls.blocked_until self.old.time) }
     {
-        self.roster.turn_number(number, self.time, &Change::Release);
+        self.task_table
+            .apply_number(number, self.time, &Transition::Release);
     }
 
     /// Wakes a task that waits: in the next tick it asks its script. [`Reply::NotListed`] where no
@@ -111,7 +112,7 @@ impl State {
     fn leave_reply(&self, number: u32) -> Reply
         ensures { result ≡ calls.leave_reply (calls.task_of self.now number) }
     {
-        match self.roster.live(number) {
+        match self.task_table.live(number) {
             None => Reply::NotListed,
             Some(_) => Reply::Left,
         }
@@ -121,10 +122,11 @@ impl State {
         ensures { self.new
             ≡ calls.with_task_changed self.old number (calls.ended_at self.old.time) }
     {
-        self.roster.turn_number(number, self.time, &Change::End);
+        self.task_table
+            .apply_number(number, self.time, &Transition::End);
     }
 
-    /// Ends a task: it stays listed until its zero-lag time, which is told from now where it
+    /// Ends a task: it stays listed until its zero-lag time, which counts from now where it
     /// contends, and its bandwidth with it. [`Reply::NotListed`] where no task of this number is
     /// listed, or it has ended already; else [`Reply::Left`]. Where it refuses, nothing has
     /// changed. Takes no memory.
@@ -162,8 +164,8 @@ impl State {
         ensures room { IsTrue result ↔ (calls.limit_reply self.now limit None ≡ Reply.Set) }
         ensures domain { IsDomain self.now }
     {
-        // For the prover alone: a look at the roster brings what its type keeps.
-        let _ = &self.roster;
+        // For the prover alone: a look at the task table brings what its type keeps.
+        let _ = &self.task_table;
         self.limit_reply(limit, None) == Reply::Set
     }
 
@@ -190,7 +192,7 @@ impl State {
     fn depart_reply(&self, number: u32) -> Reply
         ensures { result ≡ calls.depart_reply (calls.task_of self.now number) }
     {
-        match self.roster.live(number) {
+        match self.task_table.live(number) {
             None => Reply::NotListed,
             Some(_) => Reply::Departed,
         }
@@ -199,7 +201,7 @@ impl State {
     fn take_off(&mut self, number: u32)
         ensures { self.new ≡ calls.after_departure self.old number }
     {
-        self.roster.take_off(number, self.time);
+        self.task_table.take_off(number, self.time);
     }
 
     /// Takes a task off the list, for another domain: at once, and its bandwidth and its zero-lag

@@ -1,39 +1,39 @@
-//! Calls that end a task here, and tell a log that its job is cut.
+//! Calls that end a task here, and log that its job is cut.
 
 ghost use Rattle.std.specs.Prelude.{◌≡◌, ◌≤◌};
 ghost use Rattle.domain_run.specs.declared.call.Call.TheVariants as Call;
 ghost use Rattle.domain_run.specs.Calls as calls;
-ghost use Rattle.domain_run.specs.Happened.{told_by_cut, told_by_call};
-ghost use Rattle.domain_run.specs.Log.{Tells, LogHasRoom};
-ghost use Rattle.domain_run.specs.private.Telling.{one_of};
+ghost use Rattle.domain_run.specs.Happened.{logged_by_cut, logged_by_call};
+ghost use Rattle.domain_run.specs.Log.{HasLogged, LogHasRoom};
+ghost use Rattle.domain_run.specs.private.TransitionLog.{one_of};
 
 use super::State;
 use crate::call::Reply;
 use crate::happened::Happened;
 use crate::log::Log;
-use crate::telling;
+use crate::transition_log;
 
 impl State {
-    // What tells that the job of the task of a number is cut now.
+    // The entry that says that the job of the task of a number is cut now.
     fn cut_of(&self, number: u32) -> Option<Happened>
-        ensures { one_of result ≡ told_by_cut self.now number }
+        ensures { one_of result ≡ logged_by_cut self.now number }
     {
-        match self.roster.place(number) {
+        match self.task_table.place(number) {
             None => None,
             Some(place) => {
-                let cpu = self.roster.cpu_at(place);
-                Some(telling::cut(self.time, number, cpu))
+                let cpu = self.task_table.cpu_at(place);
+                Some(transition_log::cut(self.time, number, cpu))
             }
         }
     }
 
-    /// As [`State::leave`], and where the task has left, the log is told that its job is cut. Takes
+    /// As [`State::leave`], and where the task has left, the log records that its job is cut. Takes
     /// no memory: room for one more is there.
-    pub fn leave_told(&mut self, number: u32, log: &mut Log) -> Reply
+    pub fn leave_logged(&mut self, number: u32, log: &mut Log) -> Reply
         requires room { LogHasRoom 1 log.old }
         ensures reply { result ≡ calls.reply_to self.old (Call.Leave number) }
         ensures domain { self.new ≡ calls.after_call self.old (Call.Leave number) }
-        ensures told { Tells log.old (told_by_call self.old (Call.Leave number)) log.new }
+        ensures logged { HasLogged log.old (logged_by_call self.old (Call.Leave number)) log.new }
         ensures no_more { log.new.room ≤ log.old.room }
     {
         let cut = self.cut_of(number);
@@ -44,13 +44,13 @@ impl State {
         reply
     }
 
-    /// As [`State::depart`], and where the task is off the list, the log is told that its job is
+    /// As [`State::depart`], and where the task is off the list, the log records that its job is
     /// cut. Takes no memory: room for one more is there.
-    pub fn depart_told(&mut self, number: u32, log: &mut Log) -> Reply
+    pub fn depart_logged(&mut self, number: u32, log: &mut Log) -> Reply
         requires room { LogHasRoom 1 log.old }
         ensures reply { result ≡ calls.reply_to self.old (Call.Depart number) }
         ensures domain { self.new ≡ calls.after_call self.old (Call.Depart number) }
-        ensures told { Tells log.old (told_by_call self.old (Call.Depart number)) log.new }
+        ensures logged { HasLogged log.old (logged_by_call self.old (Call.Depart number)) log.new }
         ensures no_more { log.new.room ≤ log.old.room }
     {
         let cut = self.cut_of(number);

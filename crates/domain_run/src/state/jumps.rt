@@ -5,63 +5,68 @@ ghost use Rattle.domain_run.specs.Domain.{Domain};
 ghost use Rattle.domain_run.specs.Tick as tick;
 ghost use Rattle.domain_run.specs.Jump as jump;
 ghost use Rattle.domain_run.specs.Sound.{IsDomain};
-ghost use Rattle.domain_run.specs.Happened.{told_by_beginning, told_by_last_end, told_by_ticks};
-ghost use Rattle.domain_run.specs.Log.{Tells, LogHasRoom, HasRoomToEnd};
+ghost use Rattle.domain_run.specs.Happened.{logged_by_beginning, logged_by_last_end, logged_by_ticks};
+ghost use Rattle.domain_run.specs.Log.{HasLogged, LogHasRoom, HasRoomToEnd};
+ghost use Rattle.limits.specs.Limits.{clock_end};
 
 use super::State;
 use crate::log::Log;
-use crate::running::{Running, are_still_listed, relist, standing_at};
+use crate::running::{Running, are_still_listed, relist, running_at};
 use crate::sweep;
 use no_memory::NoMemory;
 
 impl State {
-    /// As [`State::begin_told`], in the room that is there: whether there was any for a switch of
-    /// each CPU beside those so far. Where there is none, nothing has changed, and nothing is told.
-    /// There is where no switch waits. Who stands on the CPUs is not listed where that has changed.
-    /// Takes no memory.
+    /// As [`State::begin_logged`], in the room that is there: whether there was any for a switch of
+    /// each CPU beside those so far. Where there is none, nothing has changed, and nothing is
+    /// logged. There is where no switch waits. The tasks that run on the CPUs are not listed where
+    /// that has changed. Takes no memory.
     #[inline(always)]
     pub(super) fn begin_in_room(&mut self, log: &mut Log) -> bool
-        requires early { self.old.time < 2 ^ 42 }
+        requires early { self.old.time < clock_end }
         requires log { LogHasRoom (9 * length self.old.tasks + 192) log.old }
         ensures some { self.old.switches ≡ [] → result ≡ true }
         ensures ok { result ≡ true → self.new ≡ jump.under_way self.old }
         ensures begun { result ≡ true → jump.IsUnderWay self.new }
         ensures full { result ≡ false → self.new ≡ self.old }
         ensures domain { IsDomain self.old }
-        ensures told { result ≡ true → Tells log.old (told_by_beginning self.old) log.new }
+        ensures logged { result ≡ true → HasLogged log.old (logged_by_beginning self.old) log.new }
         ensures room { result ≡ true → HasRoomToEnd log.new }
-        ensures untold { result ≡ false → log.new ≡ log.old }
+        ensures unlogged { result ≡ false → log.new ≡ log.old }
     {
         if self.switches.capacity() - self.switches.len() < self.cpus {
             return false;
         }
-        let changed = sweep::begin(self.time, &mut self.roster, &mut self.switches, log);
+        let changed = sweep::begin(self.time, &mut self.task_table, &mut self.switches, log);
         self.is_listed = are_still_listed(self.is_listed, changed);
         self.time += 1;
         true
     }
 
-    /// Who stands on the CPUs is listed.
+    /// The tasks that run on the CPUs are listed.
     fn list_running(&mut self)
         ensures { self.new ≡ self.old }
     {
-        relist(&mut self.running, self.is_listed, self.roster.occupants());
+        relist(
+            &mut self.running,
+            self.is_listed,
+            self.task_table.occupants(),
+        );
         self.is_listed = true;
     }
 
-    /// As [`State::begin`], and the log is told what that tells: replenishments, releases, and
+    /// As [`State::begin`], and the log records what happens by it: replenishments, releases, and
     /// wakes without budget, each on the CPU to which its task belongs once all are placed, in the
-    /// order of "Happened". Room for it, and for what the tick's end will tell, is made first: on
-    /// `Err` nothing has changed, and nothing is told.
-    pub fn begin_told(&mut self, log: &mut Log) -> Result<(), NoMemory>
-        requires { self.old.time < 2 ^ 42 }
+    /// order of "Happened". Room for it, and for what the tick's end will log, is made first: on
+    /// `Err` nothing has changed, and nothing is logged.
+    pub fn begin_logged(&mut self, log: &mut Log) -> Result<(), NoMemory>
+        requires { self.old.time < clock_end }
         ensures ok { OnOk result (self.new ≡ jump.under_way self.old) }
         ensures begun { OnOk result (jump.IsUnderWay self.new) }
         ensures err { OnErr result (self.new ≡ self.old) }
         ensures domain { IsDomain self.old }
-        ensures told { OnOk result (Tells log.old (told_by_beginning self.old) log.new) }
+        ensures logged { OnOk result (HasLogged log.old (logged_by_beginning self.old) log.new) }
         ensures room { OnOk result (HasRoomToEnd log.new) }
-        ensures untold { OnErr result (Tells log.old [] log.new) }
+        ensures unlogged { OnErr result (HasLogged log.old [] log.new) }
     {
         self.begin_unlisted(log)?;
         self.list_running();
@@ -70,19 +75,18 @@ impl State {
 
     /// Begins a tick: throttled tasks whose deadline has come are replenished, zero-lag times that
     /// have come are dropped, blocked tasks whose time has come ask their scripts, the ready tasks
-    /// with the earliest deadlines are placed, and the switches are added. The clock stands at the
-    /// end of this tick then. What is left of it is [`State::finish`], and no other call is to
-    /// change the state before it. Room for the switches is made first: on `Err` nothing has
-    /// changed.
+    /// with the earliest deadlines are placed, and the switches are added. The clock is at the end
+    /// of this tick then. What is left of it is [`State::finish`], and no other call is to change
+    /// the state before it. Room for the switches is made first: on `Err` nothing has changed.
     pub fn begin(&mut self) -> Result<(), NoMemory>
-        requires { self.old.time < 2 ^ 42 }
+        requires { self.old.time < clock_end }
         ensures ok { OnOk result (self.new ≡ jump.under_way self.old) }
         ensures begun { OnOk result (jump.IsUnderWay self.new) }
         ensures err { OnErr result (self.new ≡ self.old) }
         ensures domain { IsDomain self.old }
     {
         let mut log = self.silent();
-        self.begin_told(&mut log)
+        self.begin_logged(&mut log)
     }
 
     /// The i-th running task of the tick that has begun, by CPU, from 0: it has budget and work
@@ -98,11 +102,11 @@ impl State {
         ensures short { IfSome result (λ r. r.uinact ≤ 2 ^ 26) }
         ensures high { IfSome result (λ r. r.left ≤ℤ pos (2 ^ 52)) }
     {
-        let places = self.roster.occupants();
-        let Some(number) = standing_at(&self.running, self.is_listed, places, i) else {
+        let places = self.task_table.occupants();
+        let Some(number) = running_at(&self.running, self.is_listed, places, i) else {
             return None;
         };
-        self.roster.runner(number)
+        self.task_table.runner(number)
     }
 
     /// The rate at which a running task uses its budget up, in 1/2^20: one where it does not
@@ -125,53 +129,64 @@ impl State {
     pub fn quiet(&self) -> u64
         ensures quiet { result ≡ jump.ticks_to_event self.now }
         ensures some { 0 < result }
-        ensures most { result ≤ 2 ^ 42 }
+        ensures most { result ≤ clock_end }
     {
-        1 + self.roster.ticks_to_due(self.time)
+        1 + self.task_table.ticks_to_due(self.time)
     }
 
-    /// As [`State::finish`], and the log is told what happens at the end of the last of the ticks:
+    /// As [`State::finish`], and the log records what happens at the end of the last of the ticks:
     /// jobs that end, with what is released at once, and budgets that are spent, in the order of
-    /// "Happened". The ends of the others and their beginnings tell nothing. Takes no memory.
-    pub fn finish_told(&mut self, ticks: u64, budgets: &[i128], log: &mut Log)
+    /// "Happened". The ends of the others and their beginnings log nothing. Takes no memory.
+    pub fn finish_logged(&mut self, ticks: u64, budgets: &[i128], log: &mut Log)
         requires begun { jump.IsUnderWay self.old }
         requires some { 0 < ticks }
         requires quiet { ticks ≤ jump.ticks_to_event self.old }
-        requires early { self.old.time + ticks ≤ 2 ^ 42 + 1 }
+        requires early { self.old.time + ticks ≤ clock_end + 1 }
         requires charged { jump.AreCharged self.old ticks budgets.now }
         requires room { HasRoomToEnd log.old }
         ensures domain { (d : Domain) → self.old ≡ jump.under_way d
             → self.new ≡ tick.ticks ticks d }
-        ensures told { (d : Domain) → self.old ≡ jump.under_way d
-            → Tells log.old (told_by_last_end ticks d) log.new }
+        ensures logged { (d : Domain) → self.old ≡ jump.under_way d
+            → HasLogged log.old (logged_by_last_end ticks d) log.new }
         ensures quiet { (d : Domain) → self.old ≡ jump.under_way d
-            → told_by_ticks ticks d ≡ told_by_beginning d ++ told_by_last_end ticks d }
+            → logged_by_ticks ticks d ≡ logged_by_beginning d ++ logged_by_last_end ticks d }
         ensures switches { self.new.switches ≡ self.old.switches }
     {
-        relist(&mut self.running, self.is_listed, self.roster.occupants());
+        relist(
+            &mut self.running,
+            self.is_listed,
+            self.task_table.occupants(),
+        );
         self.is_listed = true;
         let time = self.time + (ticks - 1);
-        sweep::pay_all(&mut self.roster, &self.running, budgets, ticks, time, log);
+        sweep::pay_all(
+            &mut self.task_table,
+            &self.running,
+            budgets,
+            ticks,
+            time,
+            log,
+        );
         self.time = time;
     }
 
     /// Ends the tick that has begun, and so many ticks in all: every running task has run in each,
-    /// and what is left of its budget is told, by CPU. They are at most [`State::quiet`] and at
+    /// and what is left of its budget is given, by CPU. They are at most [`State::quiet`] and at
     /// most the work of each, and no budget is spent before the last of them. The domain is then as
     /// after so many single ticks from where it was before [`State::begin`].
     pub fn finish(&mut self, ticks: u64, budgets: &[i128])
         requires begun { jump.IsUnderWay self.old }
         requires some { 0 < ticks }
         requires quiet { ticks ≤ jump.ticks_to_event self.old }
-        requires early { self.old.time + ticks ≤ 2 ^ 42 + 1 }
+        requires early { self.old.time + ticks ≤ clock_end + 1 }
         requires charged { jump.AreCharged self.old ticks budgets.now }
         ensures { (d : Domain) → self.old ≡ jump.under_way d → self.new ≡ tick.ticks ticks d }
     {
         let mut log = self.silent();
-        self.finish_told(ticks, budgets, &mut log);
+        self.finish_logged(ticks, budgets, &mut log);
     }
 
-    /// A log that keeps nothing, for the calls that tell one. Takes no memory.
+    /// A log that keeps nothing, for calls that need one. Takes no memory.
     pub fn silent(&self) -> Log
         ensures { result.wanted ≡ false }
     {

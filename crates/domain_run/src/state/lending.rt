@@ -7,6 +7,7 @@ ghost use Rattle.attr_check.specs.ParamsView.{IsOrdered};
 ghost use Rattle.task_script.specs.NameView.{IsName};
 ghost use Rattle.task_script.specs.script.ScriptView.{IsScript};
 ghost use Rattle.domain_run.specs.Views.{name_in, script_in, number_in, moving_of, moving_in};
+ghost use Rattle.limits.specs.Limits.{task_number_end};
 
 use super::State;
 use crate::task::Task;
@@ -44,7 +45,7 @@ impl State {
     pub fn name(&self, number: u32) -> Option<&Name>
         ensures { option_copied result ≡ name_in self.now number }
     {
-        match self.roster.find(number) {
+        match self.task_table.find(number) {
             None => None,
             Some(task) => Some(&task.name),
         }
@@ -55,7 +56,7 @@ impl State {
     pub fn script(&self, number: u32) -> Option<&Script>
         ensures { option_copied result ≡ script_in self.now number }
     {
-        match self.roster.find(number) {
+        match self.task_table.find(number) {
             None => None,
             Some(task) => Some(task.cursor.script()),
         }
@@ -70,18 +71,18 @@ impl State {
         ensures within { IfSome result
             (λ m. IsName m.0.now × IsOrdered m.1.now × IsScript m.2.now) }
     {
-        match self.roster.live(number) {
+        match self.task_table.live(number) {
             None => None,
             Some(task) => Some(taken_along(task)),
         }
     }
 
-    /// The number of the task at a place of the list, from 0, in the order of admission; none
-    /// behind its end. It looks at this place alone, and takes no memory.
+    /// The number of the task at a place of the list, from 0, in the order of admission; none past
+    /// its end. It looks at this place alone, and takes no memory.
     pub fn number_at(&self, place: usize) -> Option<u32>
         ensures { result ≡ number_in self.now place }
     {
-        self.roster.number_at(place)
+        self.task_table.number_at(place)
     }
 
     /// The numbers ever admitted, in rising order.
@@ -90,7 +91,7 @@ impl State {
     /// 12 [`NoMemory`]: a growth was refused.
     pub fn numbers(&self, alloc: Global) -> Result<Vec<u32>, NoMemory>
         ensures used { IfOk result (λ numbers. numbers.items ≡ self.now.used) }
-        ensures small { IfOk result (λ numbers. All (λ n. n < 65536) numbers.items) }
+        ensures small { IfOk result (λ numbers. All (λ n. n < task_number_end) numbers.items) }
         ensures apart { IfOk result (λ numbers. AllPairs (λ a b. a ≢ b) numbers.items) }
     {
         self.used.list(alloc)

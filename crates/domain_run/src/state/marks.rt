@@ -14,7 +14,7 @@ impl State {
     pub fn listed(&self) -> usize
         ensures { result ≡ length self.now.tasks }
     {
-        self.roster.len()
+        self.task_table.len()
     }
 
     /// What ticks change of the task at a place of the list, from 0, in the order of admission, and
@@ -24,7 +24,7 @@ impl State {
         requires { place < length self.now.tasks }
         ensures { (d : Task) → IsTaskSeen result (slice_index_or self.now.tasks place d) }
     {
-        self.roster.task_seen(place)
+        self.task_table.task_seen(place)
     }
 
     /// The number of the task that ran on a CPU in the last tick, if any did.
@@ -32,6 +32,6 @@ impl State {
         requires { cpu < self.now.cpus }
         ensures { result ≡ slice_index_or self.now.curr cpu None }
     {
-        self.roster.occupant(cpu)
+        self.task_table.occupant(cpu)
     }
 }

@@ -1,9 +1,10 @@
 //! A period of a run is given again: the domain goes on in time, and no tick is made.
 
-ghost use Rattle.std.specs.Prelude.{◌≡◌, ◌+◌, ◌≤◌, ◌<◌, ◌^◌, ◌++◌, All, false, IsTrue, length, map, vec_capacity};
+ghost use Rattle.std.specs.Prelude.{◌≡◌, ◌+◌, ◌≤◌, ◌<◌, ◌++◌, All, false, IsTrue, length, map, vec_capacity};
 ghost use Rattle.domain_run.specs.Later.{later_switch};
 ghost use Rattle.domain_run.specs.Shift.{given_again, AllMayGo};
 ghost use Rattle.domain_run.specs.Tick as tick;
+ghost use Rattle.limits.specs.Limits.{clock_end, deadline_end};
 
 use super::State;
 use crate::pace::Pace;
@@ -15,7 +16,7 @@ const MOST_SWITCHES: usize = 1 << 32;
 // Appends the switches of a period, later by `later_by` microseconds.
 fn append(switches: &mut Vec<Switch>, period: &[Switch], later_by: u64)
     requires room { length switches.old.items + length period.now ≤ vec_capacity switches.old }
-    requires early { All (λ s. s.time + later_by < 2 ^ 48) period.now }
+    requires early { All (λ s. s.time + later_by < deadline_end) period.now }
     ensures switches { switches.new.items
         ≡ switches.old.items ++ map (later_switch later_by) period.now }
     ensures room { vec_capacity switches.new ≡ vec_capacity switches.old }
@@ -35,14 +36,14 @@ impl State {
         period: &[Switch],
     ) -> bool
         requires many { length paces.now ≡ length self.old.tasks }
-        requires early { self.old.time + micros ≤ 2 ^ 42 }
+        requires early { self.old.time + micros ≤ clock_end }
         requires may { AllMayGo paces.now self.old.tasks }
         requires again { tick.ticks micros self.old
             ≡ given_again micros paces.now later_by period.now self.old }
         ensures made { IsTrue result → self.new ≡ tick.ticks micros self.old }
         ensures not { result ≡ false → self.new ≡ self.old }
     {
-        if period.len() > MOST_SWITCHES || !self.roster.has_time() {
+        if period.len() > MOST_SWITCHES || !self.task_table.has_time() {
             return false;
         }
         // For the prover alone: matched, and not handed on by `?`.
@@ -54,7 +55,7 @@ impl State {
             return false;
         }
         self.time += micros;
-        self.roster.repeat(micros, paces);
+        self.task_table.repeat(micros, paces);
         append(&mut self.switches, period, later_by);
         true
     }

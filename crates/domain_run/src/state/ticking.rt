@@ -1,9 +1,10 @@
 //! One tick: it begins, and every running task is charged.
 
-ghost use Rattle.std.specs.Prelude.{◌≡◌, ◌<◌, ◌^◌, OnOk, OnErr};
+ghost use Rattle.std.specs.Prelude.{◌≡◌, ◌<◌, OnOk, OnErr};
 ghost use Rattle.domain_run.specs.Tick as tick;
 ghost use Rattle.domain_run.specs.Keys.{AreKept};
 ghost use Rattle.domain_run.specs.Sound.{IsPlacement};
+ghost use Rattle.limits.specs.Limits.{clock_end};
 
 use super::State;
 use crate::charging;
@@ -17,7 +18,7 @@ impl State {
     /// nobody comes, and the others keep number, bandwidth and order. Room for the switches is made
     /// first: on `Err` nothing has changed.
     pub fn tick(&mut self) -> Result<(), NoMemory>
-        requires { self.old.time < 2 ^ 42 }
+        requires { self.old.time < clock_end }
         ensures ok { OnOk result (self.new ≡ tick.ticked self.old) }
         ensures placed { OnOk result (IsPlacement (tick.with_tick_begun self.old)) }
         ensures keys { OnOk result (AreKept self.old.tasks self.new.tasks) }

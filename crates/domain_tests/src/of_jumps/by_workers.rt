@@ -52,8 +52,8 @@ fn made_from<R: Threads + Wait>(
         0 => leapt(state, 2100),
         _ => advanced(rt, alloc, state, 2100, workers, &Silent),
     };
-    let told = state.now() == start.wrapping_add(done.ticks);
-    Ok((done.ticks, told, state.switches().len() > 200))
+    let logged = state.now() == start.wrapping_add(done.ticks);
+    Ok((done.ticks, logged, state.switches().len() > 200))
 }
 
 /// Each advance makes all that it was asked for, also up to the end of time.
@@ -81,7 +81,7 @@ fn in_order<R: Threads + Wait + Clock + Sync>(
     let mut states = admitted(alloc, 2, &three())?;
     let order = InOrder::new(rt, first);
     advanced(rt, alloc, &mut states[0], 4, 2, &order);
-    Ok(order.told())
+    Ok(order.logged())
 }
 
 /// all-workers-on-one-thread: in either order of two pieces, who works on the one waits for who

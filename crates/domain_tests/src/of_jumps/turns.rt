@@ -2,7 +2,7 @@
 
 use super::by_workers::advanced;
 use super::{HALF_OF_8_US, three};
-use crate::seen::{Tally, Told};
+use crate::seen::{Logged, Tally};
 use crate::workers::{admitted, forever, single_ticks};
 use domain_run::{Event, State};
 use jump_run::Silent;
@@ -19,10 +19,10 @@ fn turns_of<R: Threads + Wait>(
     state: &mut State,
     ticks: u64,
     workers: usize,
-) -> Told {
+) -> Logged {
     let tally = Tally::new(host);
     advanced(rt, alloc, state, ticks, workers, &tally);
-    tally.told()
+    tally.logged()
 }
 
 /// A jump has the turns of its plans and then those of its charges, also where it is cut short; a
@@ -33,9 +33,9 @@ fn turns_of_one_piece(rt: HostRuntime) -> Result<(), Fail> {
     for (tasks, workers) in [(1, 1), (2, 1), (3, 1), (1, 3), (1, 8)] {
         let mut states = admitted(alloc, 3, &three()[..tasks])?;
         for (ticks, order) in [(1, 0x1212), (3, 0x1212), (4, 0), (16, 0x12121212)] {
-            let told = turns_of(&rt, rt, alloc, &mut states[0], ticks, workers);
+            let logged = turns_of(&rt, rt, alloc, &mut states[0], ticks, workers);
             assert!(rt;
-                told.order == order,
+                logged.order == order,
                 "{tasks} tasks, {workers} workers, {ticks} ticks"
             );
         }
@@ -51,8 +51,8 @@ fn one_jump_of_many_ticks(rt: HostRuntime) -> Result<(), Fail> {
     let tasks = [forever((1000, 2000, 2000), &LONG)];
     for workers in [1, 2, 8] {
         let mut states = admitted(rt.alloc(), 1, &tasks)?;
-        let told = turns_of(&rt, rt, rt.alloc(), &mut states[0], 1000, workers);
-        assert!(rt; told.order == 0x1212, "{workers} workers");
+        let logged = turns_of(&rt, rt, rt.alloc(), &mut states[0], 1000, workers);
+        assert!(rt; logged.order == 0x1212, "{workers} workers");
     }
     Ok(())
 }
@@ -74,9 +74,9 @@ fn pieces_of_each_step(rt: HostRuntime) -> Result<(), Fail> {
         (9, 9, 0x222222222, 36),
     ] {
         let mut states = admitted(rt.alloc(), 9, &nine[..tasks])?;
-        let told = turns_of(&rt, rt, rt.alloc(), &mut states[0], 4, workers);
+        let logged = turns_of(&rt, rt, rt.alloc(), &mut states[0], 4, workers);
         assert!(rt;
-            told.is(twos, elsewhere),
+            logged.is(twos, elsewhere),
             "{tasks} tasks, {workers} workers"
         );
     }

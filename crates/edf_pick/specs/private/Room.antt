@@ -1,4 +1,4 @@
--- The room in which a queue stands.
+-- The room of a queue.
 use Rattle.std.specs.Prelude.{ℕ, ◌≡◌, ◌≤◌, ◌-◌, List, length, take, drop}
 use Rattle.edf_pick.specs.declared.candidate.Candidate.{Candidate}
 use Rattle.edf_pick.specs.declared.room.Room.{Room}
@@ -11,7 +11,7 @@ tasks_between front end places = take (end - front) (drop front places)
 abbrev pub tasks_in_room : Room → List Candidate
 tasks_in_room room = tasks_between room.front room.end room.tasks.items
 
--- there are 1,024 places, and the tasks stand within them
+-- there are 1,024 places, and the tasks are within them
 pub record IsTaskRoom (room : Room) : Type 0 where
   pub forward : room.front ≤ room.end
   pub within : room.end ≤ 1024

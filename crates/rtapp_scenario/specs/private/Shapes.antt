@@ -7,6 +7,7 @@ use Rattle.rtapp_scenario.specs.Values.{Member}
 use Rattle.rtapp_scenario.specs.Threads.{cpus, delay}
 use Rattle.rtapp_scenario.specs.Scenario.{attr, script}
 use Rattle.rtapp_scenario.specs.ScenarioView.{AreCpus}
+use Rattle.limits.specs.Limits.{max_script_number}
 
 -- it is that of a thread of these members
 pub record IsShape (ms : List Member) (s : Shape) : Type 0 where
@@ -18,5 +19,5 @@ pub record IsShape (ms : List Member) (s : Shape) : Type 0 where
 -- it is within the limits of a task
 pub record FitsTask (s : Shape) : Type 0 where
   pub placed : AreCpus (option_map (λ v. v.items) s.cpus)
-  pub soon : s.delay ≤ 1000000000
+  pub soon : s.delay ≤ max_script_number
   pub scripted : IsScript s.script

@@ -5,10 +5,10 @@ use Rattle.run_figures.specs.declared.job.Job.{Job}
 use Rattle.run_figures.specs.declared.counting.Ended.{Ended}
 use Rattle.run_figures.specs.declared.counting.Counts.{Counts}
 use Rattle.run_figures.specs.declared.throttle.Throttle.{Throttle}
-use Rattle.run_figures.specs.declared.told.Told.{Told}
+use Rattle.run_figures.specs.declared.logged.TaskTally.{TaskTally}
 use Rattle.run_figures.specs.declared.ran.Ran.{Ran}
 use Rattle.run_figures.specs.declared.ran.Cpu.{Cpu}
-use Rattle.run_figures.specs.private.Telling.{IsToldWithin}
+use Rattle.run_figures.specs.private.Logging.{IsLoggedWithin}
 
 abbrev pub later_job : ℕ → Job → Job
 later_job k j = record j {
@@ -19,7 +19,7 @@ later_job k j = record j {
 
 -- COMES BACK: after a period of k microseconds a task and a CPU are what they were, but for their
 -- counts
-pub record IsToldBack (k : ℕ) (a b : Told) : Type 0 where
+pub record IsLoggedBack (k : ℕ) (a b : TaskTally) : Type 0 where
   pub job : b.job ≡ option_map (later_job k) a.job
   pub since : b.throttle.since ≡ later k a.throttle.since
   pub superseded : b.superseded ≡ a.superseded
@@ -69,8 +69,8 @@ grown_throttle shift m a b = record {
 }
 
 -- m periods are `shift` microseconds
-abbrev pub grown_told : ℕ → ℕ → Told → Told → Told
-grown_told shift m a b = record {
+abbrev pub grown_logged : ℕ → ℕ → TaskTally → TaskTally → TaskTally
+grown_logged shift m a b = record {
   number = b.number;
   job = option_map (later_job shift) b.job;
   counts = grown_counts m a.counts b.counts;
@@ -110,13 +110,13 @@ pub record IsJobSoon (shift : ℕ) (j : Job) : Type 0 where
   pub deadline : IsTimeSoon shift j.deadline
   pub going : j.ended ≡ None
 
-pub record IsToldSoon (shift : ℕ) (t : Told) : Type 0 where
+pub record IsLoggedSoon (shift : ℕ) (t : TaskTally) : Type 0 where
   pub job : IfSome t.job (IsJobSoon shift)
   pub since : IfSome t.throttle.since (IsTimeSoon shift)
 
 -- numbers hold what is counted
-pub record IsToldCounted (t : Told) : Type 0 where
-  pub within : IsToldWithin (2 ^ 64 - 2) t
+pub record IsLoggedCounted (t : TaskTally) : Type 0 where
+  pub within : IsLoggedWithin (2 ^ 64 - 2) t
   pub preempted : t.preempted ≤ 2 ^ 64 - 2
 
 pub record IsRanCounted (r : Ran) : Type 0 where

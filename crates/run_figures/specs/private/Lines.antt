@@ -28,7 +28,7 @@ no_line number = record { number = number; over = []; job = None }
 abbrev pub IsLineWithin : ℕ → JobLineView → Type 0
 IsLineWithin n l = IfSome l.job (λ j. j.throttled ≤ n)
 
--- so much more can be told
+-- so much more can be logged
 pub record LinesHaveRoomFor (n : ℕ) (ls : List JobLineView) : Type 0 where
   pub used : ℕ
   pub fits : used + n < 2 ^ 64

@@ -1,4 +1,4 @@
--- A list that has no element in memory: one behind another, or a part of the list given again.
+-- A list that has no element in memory: one after another, or a part of the list given again.
 use Rattle.std.specs.Prelude.{ℕ, List, [], ◌∷◌, ◌++◌, drop}
 use Rattle.run_figures.specs.declared.past.Items.{Items, Nothing, One', Again'}
 use Rattle.run_figures.specs.Again.{more_of}

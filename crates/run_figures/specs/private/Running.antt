@@ -1,5 +1,5 @@
--- What is told of a task and of a CPU by the switches so far. Who has a CPU is told as if it kept
--- it to the end of the run.
+-- What is logged of a task and of a CPU by the switches so far. Who has a CPU is logged as if it
+-- kept it to the end of the run.
 use Rattle.std.specs.Prelude.{ℕ, ◌+◌, ◌-◌, ◌==◌, if◌then◌else◌, List, [], ◌∷◌, fold, count_by, Option, Some, None}
 use Rattle.domain_run.specs.Switch.{Switch}
 use Rattle.run_figures.specs.declared.ran.Ran.{Ran}
@@ -78,7 +78,7 @@ with_switch s us c = record {
 abbrev pub with_switch_on : Switch → ℕ → Cpu → Cpu
 with_switch_on s us c = if_number (λ c. c.cpu) s.cpu (with_switch s us) c
 
--- before the first that is told
+-- before the first that is logged
 abbrev pub not_run : ℕ → Ran
 not_run number = record { number = number; cpu_us = 0; migrated = 0; last = None }
 

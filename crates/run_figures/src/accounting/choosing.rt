@@ -1,22 +1,22 @@
-//! The figures of some of the tasks of a run that was heard.
+//! The figures of some of the tasks of a run that was streamed.
 
 ghost use Rattle.std.specs.Prelude.{ℕ, ◌≡◌, ◌-◌, ◌^◌, IfOk, All, Contains, length, map};
-ghost use Rattle.run_figures.specs.declared.told.Told.{Told as ToldView};
+ghost use Rattle.run_figures.specs.declared.logged.TaskTally.{TaskTally as LoggedView};
 ghost use Rattle.run_figures.specs.declared.ran.Ran.{Ran as RanView};
-ghost use Rattle.run_figures.specs.Accounting.{heard_run};
+ghost use Rattle.run_figures.specs.Accounting.{streamed_run};
 ghost use Rattle.run_figures.specs.Figures as figures;
 ghost use Rattle.run_figures.specs.Laws as laws;
 ghost use Rattle.run_figures.specs.Runs.{AreTasks};
 ghost use Rattle.run_figures.specs.private.Putting as putting;
-ghost use Rattle.run_figures.specs.private.Telling as telling;
+ghost use Rattle.run_figures.specs.private.Logging as logging;
 
 use super::Accounting;
 use crate::figures::{Summary, TaskFigures};
+use crate::logged::TaskTally;
 use crate::places::Places;
 use crate::ran::Ran;
 use crate::run::Admitted;
 use crate::summary::{cpu_figures, figures_of};
-use crate::told::Told;
 use domain_run::NoMemory;
 use std::alloc::Global;
 
@@ -25,22 +25,22 @@ fn some_figures(
     alloc: Global,
     tasks: &[Admitted],
     places: &Places,
-    told: &[Told],
+    logged: &[TaskTally],
     ran: &[Ran],
     end: u64,
 ) -> Result<Vec<TaskFigures>, NoMemory>
     requires among { All (λ t. Contains places.now t.number) tasks.now }
-    requires told { length told.now ≡ length places.now }
+    requires logged { length logged.now ≡ length places.now }
     requires ran { length ran.now ≡ length places.now }
-    requires room { All (telling.IsToldWithin (2 ^ 64 - 2)) told.now }
-    ensures { (f : ℕ → ToldView) (g : ℕ → RanView) → told.now ≡ map f places.now
+    requires room { All (logging.IsLoggedWithin (2 ^ 64 - 2)) logged.now }
+    ensures { (f : ℕ → LoggedView) (g : ℕ → RanView) → logged.now ≡ map f places.now
         → ran.now ≡ map g places.now → IfOk result (λ v. v.items
         ≡ map (λ t. putting.put_task end t (f t.number) (g t.number)) tasks.now) }
 {
     let mut all = Vec::with_capacity(alloc, tasks.len())?;
     for task in tasks {
         if let Some(place) = places.find(task.number) {
-            all.push(figures_of(task, &told[place], &ran[place], end))?;
+            all.push(figures_of(task, &logged[place], &ran[place], end))?;
         }
     }
     Ok(all)
@@ -56,9 +56,9 @@ impl Accounting {
         requires tasks { AreTasks tasks.now }
         requires among { All (λ t. Contains self.now.tasks t.number) tasks.now }
         ensures tasks { IfOk result (λ s. s.tasks.items
-            ≡ figures.task_figures (heard_run self.now tasks.now)) }
+            ≡ figures.task_figures (streamed_run self.now tasks.now)) }
         ensures cpus { IfOk result (λ s. s.cpus.items
-            ≡ figures.cpu_figures (heard_run self.now tasks.now)) }
+            ≡ figures.cpu_figures (streamed_run self.now tasks.now)) }
         ensures short { IfOk result (λ s. laws.AreShort s.tasks.items s.cpus.items) }
     {
         Ok(Summary {
@@ -66,9 +66,9 @@ impl Accounting {
                 alloc,
                 tasks,
                 &self.places,
-                &self.told,
+                &self.logged,
                 &self.ran.tasks,
-                self.heard.time,
+                self.streamed.time,
             )?,
             cpus: cpu_figures(alloc, &self.ran.cpus)?,
         })

@@ -1,4 +1,4 @@
-//! The jobs of a run that was heard.
+//! The jobs of a run that was streamed.
 
 ghost use Rattle.std.specs.Prelude.{◌≡◌, IfOk, All, Contains, map};
 ghost use Rattle.run_figures.specs.Jobs as jobs;
@@ -13,12 +13,12 @@ use domain_run::NoMemory;
 use std::alloc::Global;
 
 impl Accounting {
-    /// The jobs of these tasks of the run that was heard, in the order in which they are given
+    /// The jobs of these tasks of the run that was streamed, in the order in which they are given
     /// here: those that are over, and the one that is under way at the end. From then on the
     /// accounting keeps no jobs.
     ///
     /// # Errors
-    /// 12 [`NoMemory`]: a growth was refused, now or while a piece was heard, or the accounting
+    /// 12 [`NoMemory`]: a growth was refused, now or while a piece was streamed, or the accounting
     /// keeps no jobs. Nothing is left of them.
     pub fn take_jobs(
         &mut self,

@@ -1,30 +1,31 @@
 //! An accounting is opened with all the room that it ever has. No other file can make a [`Rooms`],
 //! or change one.
 
-ghost use Rattle.std.specs.Prelude.{◌≡◌, ◌≤◌, ◌^◌, [], IfOk, IfSome, map};
+ghost use Rattle.std.specs.Prelude.{◌≡◌, ◌≤◌, [], IfOk, IfSome, map};
 ghost use Rattle.run_figures.specs.Runs.{AreTasks};
 ghost use Rattle.run_figures.specs.private.Lines.{no_line};
+ghost use Rattle.limits.specs.Limits.{clock_end};
 
-use super::{Accounting, Heard};
+use super::{Accounting, Streamed};
 use crate::lines::{Line, no_lines};
+use crate::logging::unlogged_all;
 use crate::past::Past;
 use crate::places::Places;
 use crate::ran::Tables;
 use crate::run::Admitted;
-use crate::telling::untold_all;
 use domain_run::NoMemory;
 use std::alloc::Global;
 
 /// For how many tasks and CPUs the lists of an accounting have room.
 #[derive(Drop)]
 pub(super) struct Rooms {
-    told: usize,
+    logged: usize,
     tasks: usize,
     cpus: usize,
 }
 
 impl Accounting {
-    /// As [`Accounting::open`], with these jobs: of the same tasks, of which nothing was told.
+    /// As [`Accounting::open`], with these jobs: of the same tasks, of which nothing was logged.
     fn open_with(
         alloc: Global,
         cpus: u32,
@@ -33,7 +34,7 @@ impl Accounting {
         lines: Option<Vec<Line>>,
     ) -> Result<Accounting, NoMemory>
         requires cpus { cpus ≤ 64 }
-        requires early { end ≤ 2 ^ 42 }
+        requires early { end ≤ clock_end }
         requires tasks { AreTasks tasks.now }
         requires lines { IfSome lines (λ ls. ls.items ≡ map (λ t. no_line t.number) tasks.now) }
         ensures { IfOk result (λ a. a ≡ record {
@@ -45,19 +46,19 @@ impl Accounting {
         }) }
     {
         let places = Places::of(alloc, tasks)?;
-        let told = untold_all(alloc, tasks)?;
+        let logged = unlogged_all(alloc, tasks)?;
         let ran = Tables::open(alloc, cpus, tasks)?;
         Ok(Accounting {
             rooms: Rooms {
-                told: told.capacity(),
+                logged: logged.capacity(),
                 tasks: ran.tasks.capacity(),
                 cpus: ran.cpus.capacity(),
             },
             places,
-            told,
+            logged,
             ran,
             lines,
-            heard: Heard {
+            streamed: Streamed {
                 cpus,
                 time: end,
                 happened: Past::new(),
@@ -66,8 +67,8 @@ impl Accounting {
         })
     }
 
-    /// Of a run of which nothing was heard yet: its domain has this many CPUs, at most 64, it will
-    /// end at this time, at most 2^42 us, and these are its tasks.
+    /// Of a run of which nothing was streamed yet: its domain has this many CPUs, at most 64, it
+    /// will end at this time, at most 2^42 us, and these are its tasks.
     ///
     /// # Errors
     /// 12 [`NoMemory`]: a growth was refused; nothing is left.
@@ -78,7 +79,7 @@ impl Accounting {
         tasks: &[Admitted],
     ) -> Result<Accounting, NoMemory>
         requires cpus { cpus ≤ 64 }
-        requires early { end ≤ 2 ^ 42 }
+        requires early { end ≤ clock_end }
         requires tasks { AreTasks tasks.now }
         ensures { IfOk result (λ a. a ≡ record {
           cpus = cpus;
@@ -102,7 +103,7 @@ impl Accounting {
         tasks: &[Admitted],
     ) -> Result<Accounting, NoMemory>
         requires cpus { cpus ≤ 64 }
-        requires early { end ≤ 2 ^ 42 }
+        requires early { end ≤ clock_end }
         requires tasks { AreTasks tasks.now }
         ensures { IfOk result (λ a. a ≡ record {
           cpus = cpus;

@@ -3,18 +3,23 @@
 ghost use Rattle.std.specs.Prelude.{◌≡◌, IsTrue, All, length, vec_capacity};
 ghost use Rattle.run_figures.specs.private.Growing as growing;
 
-use super::{grow_cpu, grow_ran, grow_told, is_told_back, is_told_soon};
+use super::{grow_cpu, grow_logged, grow_ran, is_logged_back, is_logged_soon};
+use crate::logged::TaskTally;
 use crate::ran::{Cpu, Ran};
-use crate::told::Told;
 
-pub(crate) fn all_told_back(before: &[Told], now: &[Told], micros: u64, shift: u64) -> bool
+pub(crate) fn all_logged_back(
+    before: &[TaskTally],
+    now: &[TaskTally],
+    micros: u64,
+    shift: u64,
+) -> bool
     requires same { length before.now ≡ length now.now }
     ensures back { IsTrue result
-        → growing.AreBoth (growing.IsToldBack micros) before.now now.now }
-    ensures soon { IsTrue result → All (growing.IsToldSoon shift) now.now }
+        → growing.AreBoth (growing.IsLoggedBack micros) before.now now.now }
+    ensures soon { IsTrue result → All (growing.IsLoggedSoon shift) now.now }
 {
     for (place, row) in now.iter().enumerate() {
-        if !is_told_back(micros, &before[place], row) || !is_told_soon(shift, row) {
+        if !is_logged_back(micros, &before[place], row) || !is_logged_soon(shift, row) {
             return false;
         }
     }
@@ -45,17 +50,22 @@ pub(crate) fn all_cpus_back(before: &[Cpu], now: &[Cpu]) -> bool
     true
 }
 
-pub(crate) fn grow_all_told(table: &mut Vec<Told>, before: &[Told], periods: u64, shift: u64)
+pub(crate) fn grow_all_logged(
+    table: &mut Vec<TaskTally>,
+    before: &[TaskTally],
+    periods: u64,
+    shift: u64,
+)
     requires same { length before.now ≡ length table.old.items }
-    requires soon { All (growing.IsToldSoon shift) table.old.items }
-    requires counted { All growing.IsToldCounted
-        (growing.rows_grown (growing.grown_told shift periods) before.now table.old.items) }
+    requires soon { All (growing.IsLoggedSoon shift) table.old.items }
+    requires counted { All growing.IsLoggedCounted
+        (growing.rows_grown (growing.grown_logged shift periods) before.now table.old.items) }
     ensures grown { table.new.items
-        ≡ growing.rows_grown (growing.grown_told shift periods) before.now table.old.items }
+        ≡ growing.rows_grown (growing.grown_logged shift periods) before.now table.old.items }
     ensures same_room { vec_capacity table.new ≡ vec_capacity table.old }
 {
     for (place, row) in before.iter().enumerate() {
-        grow_told(&mut table[place], row, periods, shift);
+        grow_logged(&mut table[place], row, periods, shift);
     }
 }
 

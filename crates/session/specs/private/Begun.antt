@@ -3,11 +3,11 @@ use Rattle.std.specs.Prelude.{◌≡◌, ℕ, ◌<◌, Bool, List, [], map}
 use Rattle.bw_gate.specs.Pieces.{GateId}
 use Rattle.call_book.specs.Book.{BookView}
 use Rattle.call_book.specs.Playing.{PlayingView, played_from}
-use Rattle.session.specs.private.Ending.{unheard_ending}
+use Rattle.session.specs.private.Ending.{unstreamed_ending}
 
 -- a book with a buffer, in which nothing more is entered yet
 abbrev pub unplayed : Bool → BookView → PlayingView
-unplayed logs b = played_from logs (unheard_ending b)
+unplayed logs b = played_from logs (unstreamed_ending b)
 
 -- a book apart from its pieces
 abbrev pub without_pieces : BookView → BookView

@@ -27,10 +27,11 @@ AreSums histories tickets =
     → bw_of_tickets d tickets ≡ sum_left (slice_index_or histories d x)
 
 -- what a closed book leaves: its history, and the state that this leads to, without its switches
--- where they were heard
+-- where they were streamed
 pub record IsEnded (b : EndingView) (history : SectionView) (state : Domain) : Type 0 where
   pub entries : history.entries ≡ b.book.history
-  pub run : state ≡ left_of b.heard (run_of history.cpus history.limit (calls_of history.entries))
+  pub run : state
+      ≡ left_of b.streamed (run_of history.cpus history.limit (calls_of history.entries))
 
 -- and so the first of these books, one for each history
 pub record HaveEnded (books : List EndingView) (histories : List SectionView)

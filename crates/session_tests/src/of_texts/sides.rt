@@ -83,7 +83,7 @@ fn said_of(alloc: Global, fault: Option<SessionFault>) -> Result<String, Fail> {
 
 /// What a run of this scenario on one CPU says, or a replay of these calls, between a reader and a
 /// writer of so many bytes a call, of which these calls fail; and what was written.
-fn told<X: Threads + Wait + Sync>(
+fn logged<X: Threads + Wait + Sync>(
     rt: &X,
     alloc: Global,
     input: (bool, &[u8]),
@@ -104,7 +104,7 @@ fn told<X: Threads + Wait + Sync>(
 }
 
 /// Whether it says and writes this.
-fn tells<X: Threads + Wait + Sync>(
+fn has_logged<X: Threads + Wait + Sync>(
     rt: &X,
     alloc: Global,
     input: (bool, &[u8]),
@@ -112,7 +112,7 @@ fn tells<X: Threads + Wait + Sync>(
     bad: (usize, usize),
     wanted: (&str, &[u8]),
 ) -> Result<bool, Fail> {
-    let (said, written) = told(rt, alloc, input, step, bad)?;
+    let (said, written) = logged(rt, alloc, input, step, bad)?;
     Ok(said.as_str() == wanted.0 && written.as_slice() == wanted.1)
 }
 
@@ -129,7 +129,7 @@ fn short_calls(rt: HostRuntime) -> Result<(), Fail> {
     for input in INPUTS {
         for step in [1, 7, 300] {
             assert!(rt;
-                tells(&rt, rt.alloc(), input, step, NEVER, wanted)?,
+                has_logged(&rt, rt.alloc(), input, step, NEVER, wanted)?,
                 "{step}"
             );
         }
@@ -147,7 +147,7 @@ fn ends_with<X: Threads + Wait + Sync>(
 ) -> Result<bool, Fail> {
     let said = format!(in alloc; "write failed after {call}")?;
     let wanted = (said.as_str(), front);
-    tells(rt, alloc, input, 1, (usize::MAX, call), wanted)
+    has_logged(rt, alloc, input, 1, (usize::MAX, call), wanted)
 }
 
 // A byte a call, and each call of the writer fails in turn.
@@ -167,11 +167,11 @@ fn writer_fails_in_each_call(rt: HostRuntime) -> Result<(), Fail> {
 // more switches than wait at once.
 #[test]
 fn trace_in_slices(rt: HostRuntime) -> Result<(), Fail> {
-    let (said, alone) = told(&rt, rt.alloc(), (false, LONG), 1 << 20, NEVER)?;
+    let (said, alone) = logged(&rt, rt.alloc(), (false, LONG), 1 << 20, NEVER)?;
     assert!(rt; said.as_str() == "" && alone.len() > 1 << 20);
     let beside = (false, LONG_BESIDE_NOTHING);
     let wanted = ("", alone.as_slice());
-    assert!(rt; tells(&rt, rt.alloc(), beside, 1 << 20, NEVER, wanted)?);
+    assert!(rt; has_logged(&rt, rt.alloc(), beside, 1 << 20, NEVER, wanted)?);
     Ok(())
 }
 
@@ -182,7 +182,7 @@ fn stops_within<X: Threads + Wait + Sync>(
     call: usize,
     whole: &[u8],
 ) -> Result<bool, Fail> {
-    let (said, written) = told(rt, alloc, (false, LONG), 1 << 20, (usize::MAX, call))?;
+    let (said, written) = logged(rt, alloc, (false, LONG), 1 << 20, (usize::MAX, call))?;
     let wanted = format!(in alloc; "write failed after {}", written.len())?;
     let is_front = written.len() < whole.len() && whole.starts_with(&written);
     Ok(is_front && said.as_str() == wanted.as_str())
@@ -192,7 +192,7 @@ fn stops_within<X: Threads + Wait + Sync>(
 // trace.
 #[test]
 fn writer_fails_between_slices(rt: HostRuntime) -> Result<(), Fail> {
-    let (_, whole) = told(&rt, rt.alloc(), (false, LONG), 1 << 20, NEVER)?;
+    let (_, whole) = logged(&rt, rt.alloc(), (false, LONG), 1 << 20, NEVER)?;
     for call in [0, 3, 9] {
         assert!(rt; stops_within(&rt, rt.alloc(), call, &whole)?, "{call}");
     }
@@ -206,7 +206,10 @@ fn reader_fails_in_each_call(rt: HostRuntime) -> Result<(), Fail> {
     for input in INPUTS {
         for call in 0..=input.1.len() {
             let bad = (call, usize::MAX);
-            assert!(rt; tells(&rt, rt.alloc(), input, 1, bad, wanted)?, "{call}");
+            assert!(rt;
+                has_logged(&rt, rt.alloc(), input, 1, bad, wanted)?,
+                "{call}"
+            );
         }
     }
     Ok(())

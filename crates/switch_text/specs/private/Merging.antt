@@ -19,7 +19,7 @@ abbrev pub places_stepped : List ℕ → ℕ → List ℕ
 places_stepped places i = slice_set places i (slice_index places i + 1)
 
 -- an entry of this run that is left, earlier than those left before it, and not later than those
--- left behind it
+-- left after it
 pub record IsEntryAhead (runs : List SwitchesView) (places : List ℕ) (i : ℕ)
     (e : Entry) : Type 0 where
   pub before : List Entry

@@ -3,7 +3,7 @@ use Rattle.std.specs.Prelude.{ℕ, List, ◌++◌, codes, decimal, Option}
 use Rattle.domain_run.specs.declared.switch.PrevState.{PrevState}
 use Rattle.switch_text.specs.Line.{right_in, padded_right, pid_of, prio_of, comm_of, letters_of}
 
--- the second, and the point behind it
+-- the second, and the point after it
 abbrev pub second_part : ℕ → List ℕ
 second_part second = right_in 5 (decimal second) ++ codes "."
 

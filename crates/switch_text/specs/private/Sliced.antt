@@ -1,4 +1,4 @@
--- The lines of runs, without the header: what goes out behind what waits. The trace text knows
+-- The lines of runs, without the header: what goes out after what waits. The trace text knows
 -- nothing of these words.
 use Rattle.std.specs.Prelude.{ℕ, zero, suc, ◌≡◌, ◌+◌, ◌*◌, ◌<◌, ◌≤◌, nat_lt, not, Bool, true, false, if◌then◌else◌, List, [], ◌∷◌, ◌++◌, length, map, filter, All, Option, Some, None, IfSome}
 use Rattle.std.specs.List.{flat_map, AllByRecursion}
@@ -18,7 +18,7 @@ lines_in runs = text_of_entries (entries_in_order (flat_map entries_of runs))
 abbrev pub lines_from : List SwitchesView → List ℕ → List ℕ
 lines_from runs places = text_of_entries (entries_in_order (entries_left runs places))
 
--- behind a first text the lines of runs go out: so many bytes did, these wait, and the others are
+-- after a first text the lines of runs go out: so many bytes did, these wait, and the others are
 -- still to be made
 pub record IsSending (before after : Option (List ℕ)) (first : List ℕ) (runs : List SwitchesView)
     (places : List ℕ) (sent : ℕ) (waiting : List ℕ) : Type 0 where

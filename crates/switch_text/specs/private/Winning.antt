@@ -28,7 +28,8 @@ pub record Wins (heads : List Head) (from to i : ℕ) : Type 0 where
   pub high : i < to
   pub before : (j : ℕ) → from ≤ j → j < i → is_head_sooner (head_in heads i) (head_in heads j)
       ≡ true
-  pub behind : (j : ℕ) → i ≤ j → j < to → is_head_sooner (head_in heads j) (head_in heads i) ≡ false
+  pub following : (j : ℕ) → i ≤ j → j < to
+      → is_head_sooner (head_in heads j) (head_in heads i) ≡ false
 
 abbrev pub ArePairs : List Head → List ℕ → Type 0
 ArePairs heads pairs = (p : ℕ) → p < 4 → Wins heads (2 * p) (2 * p + 2) (slice_index pairs p)

@@ -2,6 +2,7 @@
 use Rattle.std.specs.Prelude.{ℕ, ◌≤◌, ◌<◌, ◌^◌, ◌*◌, List, length, All, sum_by, Option, IfSome, MatchOption}
 use Rattle.task_script.specs.declared.phase.Event.{Event}
 use Rattle.task_script.specs.declared.phase.Event.TheVariants.{Run, Sleep, Timer, Wait}
+use Rattle.limits.specs.Limits.{max_script_number}
 
 -- the events of a phase, so many times over
 pub record PhaseView : Type 0 where
@@ -25,20 +26,20 @@ pub record CursorView : Type 0 where
 -- limits (own): times of 1 to 10^9 us, counts of 1 to 10^9, 1 to 64 events in a phase, 1 to 64
 -- phases
 abbrev pub IsEvent : Event → Type 0
-IsEvent (Run n) = (0 < n) × (n ≤ 1000000000)
-IsEvent (Sleep n) = (0 < n) × (n ≤ 1000000000)
-IsEvent (Timer n) = (0 < n) × (n ≤ 1000000000)
+IsEvent (Run n) = (0 < n) × (n ≤ max_script_number)
+IsEvent (Sleep n) = (0 < n) × (n ≤ max_script_number)
+IsEvent (Timer n) = (0 < n) × (n ≤ max_script_number)
 IsEvent Wait = Unit {0}
 
 pub record IsPhase (p : PhaseView) : Type 0 where
   pub some : 0 < p.count
-  pub most : p.count ≤ 1000000000
+  pub most : p.count ≤ max_script_number
   pub some_events : 0 < length p.events
   pub most_events : length p.events ≤ 64
   pub events : All IsEvent p.events
 
 pub record IsScript (s : ScriptView) : Type 0 where
-  pub rounds : IfSome s.rounds (λ n. (0 < n) × (n ≤ 1000000000))
+  pub rounds : IfSome s.rounds (λ n. (0 < n) × (n ≤ max_script_number))
   pub some_phases : 0 < length s.phases
   pub most_phases : length s.phases ≤ 64
   pub phases : All IsPhase s.phases

@@ -6,6 +6,7 @@ use Rattle.task_script.specs.declared.script.Segment.{Segment}
 use Rattle.task_script.specs.declared.script.Segment.TheVariants.{Run as RunFor, Until, Wait as WaitFor, End}
 use Rattle.task_script.specs.script.ScriptView.{ScriptView, CursorView, round_len}
 use Rattle.task_script.specs.script.Unrolled.{event_at}
+use Rattle.limits.specs.Limits.{max_script_number}
 
 -- a number of loops as it is written: -1 for ever, or 1 to 10^9
 abbrev pub rounds_of : ℤ → Option ℕ
@@ -17,7 +18,7 @@ loops_of None = negsuc 0
 loops_of (Some n) = pos n
 
 abbrev pub IsLoops : ℤ → Type 0
-IsLoops (pos n) = (0 < n) × (n ≤ 1000000000)
+IsLoops (pos n) = (0 < n) × (n ≤ max_script_number)
 IsLoops (negsuc n) = n ≡ 0
 
 -- a script at its beginning: the timer's reference is the task's start
@@ -106,7 +107,7 @@ GivesAsWritten c = (times : List ℕ) → segments next_segment c times ≡ segm
 
 -- what every segment keeps
 abbrev pub IsSegment : Segment → Type 0
-IsSegment (RunFor n) = (0 < n) × (n ≤ 1000000000)
+IsSegment (RunFor n) = (0 < n) × (n ≤ max_script_number)
 IsSegment (Until u) = u < 2 ^ 49
 IsSegment WaitFor = Unit {0}
 IsSegment End = Unit {0}

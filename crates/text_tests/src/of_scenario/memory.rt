@@ -3,7 +3,7 @@
 use super::*;
 
 /// The text gives this answer, unless a growth is refused: then that is told.
-fn is_told(alloc: Global, text: &str, answer: &str) -> bool {
+fn is_logged(alloc: Global, text: &str, answer: &str) -> bool {
     match given(alloc, text) {
         Ok(given) => {
             let given = given.as_str();
@@ -23,6 +23,6 @@ const REFUSED: &str =
 
 #[test]
 fn the_answer_or_memory(rt: HostRuntime) {
-    assert!(rt; is_told(rt.alloc(), MADE, "[Run(1)] }] } }] }"));
-    assert!(rt; is_told(rt.alloc(), REFUSED, "scenario 23 key dl-runtime"));
+    assert!(rt; is_logged(rt.alloc(), MADE, "[Run(1)] }] } }] }"));
+    assert!(rt; is_logged(rt.alloc(), REFUSED, "scenario 23 key dl-runtime"));
 }

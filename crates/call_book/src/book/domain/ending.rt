@@ -1,14 +1,16 @@
-//! A book at its end: no call is made on it any more, but one last advance that is heard, or that
-//! is made piece by piece.
+//! A book at its end: no call is made on it any more, but one last advance that is streamed, or
+//! that is made piece by piece.
 
-ghost use Rattle.std.specs.Prelude.{◌≡◌, ◌≤◌, ◌+◌, ◌^◌, [], length, map, true, false, All, IfOk, IfErr, OnErr};
+ghost use Rattle.std.specs.Prelude.{◌≡◌, ◌≤◌, ◌+◌, [], length, map, true, false, All, IfOk, IfErr, OnErr};
 ghost use Rattle.bw_gate.specs.Pieces.{cpus_of};
 ghost use Rattle.domain_run.specs.declared.call.Call.TheVariants as Call;
 ghost use Rattle.domain_run.specs.declared.call.Reply.TheVariants as Reply;
 ghost use Rattle.domain_run.specs.Tick as tick;
 ghost use Rattle.domain_run.specs.Domain.{IsLimit};
-ghost use Rattle.heard_run.specs.Heard.{heard_of, heard_after, nothing_heard};
+ghost use Rattle.streamed_run.specs.Streamed.{streamed_of, streamed_after, nothing_streamed};
+ghost use Rattle.limits.specs.Limits.{clock_end};
 
+mod drawn;
 mod playing;
 mod ticking;
 
@@ -18,14 +20,16 @@ use crate::book::ledger::Ledger;
 use crate::book::stock::Stock;
 use bw_gate::Gate;
 use domain_run::{Call, NoMemory, Reply, State};
-use heard_run::{Accounting, advance_heard, open_heard, open_heard_with_jobs};
+pub use drawn::DrawnAdvance;
 pub use playing::{PlayingBook, playing_is_advancing};
 use std::alloc::Global;
 use std::marker::Model;
+use streamed_run::{Accounting, advance_streamed, open_streamed, open_streamed_with_jobs};
 
 /// The book of a domain at its end: no call is made on it any more, but one last advance whose run
-/// is heard. Like a [`Domain`] it is neither cloned nor dropped, but closed, since it holds
-/// tickets. Contracts see the book, and whether its run was heard: the switches are forgotten then.
+/// is streamed. Like a [`Domain`] it is neither cloned nor dropped, but closed, since it holds
+/// tickets. Contracts see the book, and whether its run was streamed: the switches are forgotten
+/// then.
 pub struct EndingBook {
     cpus: u32,
     limit: u64,
@@ -36,7 +40,7 @@ pub struct EndingBook {
     left: Option<u64>,
     // No contract sees it: it changes no answer.
     alloc: Global,
-    heard: bool,
+    streamed: bool,
 }
 
 impl Model for EndingBook {
@@ -48,39 +52,39 @@ impl Model for EndingBook {
 
     ghost view = { λ b. record {
       book = book_of b.cpus b.limit b.workers.count b.left b.ledger b.stock;
-      heard = b.heard;
+      streamed = b.streamed;
     } };
 
     ghost invariant = { λ b. IsEnding
         (book_of b.cpus b.limit b.workers.count b.left b.ledger b.stock)
-        b.heard b.state };
+        b.streamed b.state };
 }
 
-/// What an advance gives that was heard.
+/// What an advance gives that was streamed.
 #[derive(Drop)]
-pub struct HeardAdvance {
+pub struct StreamedAdvance {
     /// How many ticks were made, and entered.
     pub ticks: u64,
-    /// What was heard: all switches of the run, and what happened in this advance.
+    /// What was streamed: all switches of the run, and what happened in this advance.
     pub accounting: Accounting,
 }
 
 /// An accounting of the run of a domain that is to end `n` ticks from now. It keeps the jobs of
 /// each task too, if `jobs` asks for them.
 fn open_accounting(alloc: Global, state: &State, n: u64, jobs: bool) -> Result<Accounting, NoMemory>
-    requires { state.now.time + n ≤ 2 ^ 42 }
-    ensures { IfOk result (λ a. a ≡ nothing_heard n state.now) }
+    requires { state.now.time + n ≤ clock_end }
+    ensures { IfOk result (λ a. a ≡ nothing_streamed n state.now) }
 {
     if jobs {
-        return open_heard_with_jobs(alloc, state, n);
+        return open_streamed_with_jobs(alloc, state, n);
     }
-    open_heard(alloc, state, n)
+    open_streamed(alloc, state, n)
 }
 
 impl Domain {
     /// No call is made any more. Takes no memory.
     pub fn end(self) -> EndingBook
-        ensures { result ≡ record { book = self; heard = false } }
+        ensures { result ≡ record { book = self; streamed = false } }
     {
         let Domain {
             cpus,
@@ -101,7 +105,7 @@ impl Domain {
             workers,
             left,
             alloc,
-            heard: false,
+            streamed: false,
         }
     }
 }
@@ -114,50 +118,50 @@ impl EndingBook {
     ghost use Rattle.call_book.specs.BookAnswers.{IsAdvanced, IsNotAdvanced};
     ghost use Rattle.call_book.specs.Ending.{state_left};
 
-    /// Hears the switches of the run, which are forgotten then. Nothing is entered. The accounting
-    /// keeps the jobs of each task, if `jobs` asks for them.
+    /// Streams the switches of the run, which are forgotten then. Nothing is entered. The
+    /// accounting keeps the jobs of each task, if `jobs` asks for them.
     ///
     /// # Errors
     /// 12 [`NoMemory`]: a growth was refused; nothing has changed.
-    pub fn hear(&mut self, jobs: bool) -> Result<Accounting, NoMemory>
-        requires { self.old.heard ≡ false }
-        ensures ok { IfOk result (λ _. self.new ≡ record self.old { heard = true }) }
-        ensures all { IfOk result (λ a. a ≡ heard_of (state_of self.old.book) []) }
+    pub fn stream(&mut self, jobs: bool) -> Result<Accounting, NoMemory>
+        requires { self.old.streamed ≡ false }
+        ensures ok { IfOk result (λ _. self.new ≡ record self.old { streamed = true }) }
+        ensures all { IfOk result (λ a. a ≡ streamed_of (state_of self.old.book) []) }
         ensures err { OnErr result (self.new ≡ self.old) }
     {
         // For the prover alone: a look at the state brings what every domain keeps.
         let _ = self.state.now();
         let mut accounting = open_accounting(self.alloc, &self.state, 0, jobs)?;
-        advance_heard(self.alloc, &mut self.state, 0, &mut accounting);
-        self.heard = true;
+        advance_streamed(self.alloc, &mut self.state, 0, &mut accounting);
+        self.streamed = true;
         Ok(accounting)
     }
 
     /// Makes up to `n` ticks, 1 to 60000000, as [`Domain::advance`] does, by one worker; enters how
     /// many were made, fewer only where a growth was refused; and gives back the tickets of tasks
-    /// that went off the list. An accounting hears all switches of the run, and what happens in
+    /// that went off the list. An accounting takes all switches of the run, and what happens in
     /// these ticks, piece by piece; the book keeps neither. The accounting keeps the jobs of each
     /// task, if `jobs` asks for them.
     ///
     /// # Errors
     /// [`AdvanceError::Full`] and [`AdvanceError::Memory`]: no tick was made, and nothing is
     /// entered. Where memory was refused, the switches may be forgotten.
-    pub fn advance_heard(
+    pub fn advance_streamed(
         &mut self,
         pass: &mut Pass,
         gate: &Gate,
         n: u64,
         jobs: bool,
-    ) -> Result<HeardAdvance, AdvanceError>
-        requires unheard { self.old.heard ≡ false }
+    ) -> Result<StreamedAdvance, AdvanceError>
+        requires unstreamed { self.old.streamed ≡ false }
         requires pass { IsPassOf self.old.book pass.old }
         requires gate { gate.now ≡ self.old.book.gate }
         requires call { IsCall (Call.Advance n) }
         ensures done { IfOk result (λ r. IsAdvanced self.old.book self.new.book pass.old pass.new n
             (Reply.Done r.ticks)) }
-        ensures heard { IfOk result (λ r. r.accounting
-            ≡ heard_after n r.ticks (state_of self.old.book)) }
-        ensures forgotten { IfOk result (λ _. self.new.heard ≡ true) }
+        ensures streamed { IfOk result (λ r. r.accounting
+            ≡ streamed_after n r.ticks (state_of self.old.book)) }
+        ensures forgotten { IfOk result (λ _. self.new.streamed ≡ true) }
         ensures stopped { IfErr result
             (IsNotAdvanced self.old.book self.new.book pass.old pass.new) }
     {
@@ -167,8 +171,8 @@ impl EndingBook {
         let Ok(mut accounting) = open_accounting(self.alloc, &self.state, n, jobs) else {
             return Err(AdvanceError::Memory);
         };
-        let ticks = advance_heard(self.alloc, &mut self.state, n, &mut accounting).ticks;
-        self.heard = true;
+        let ticks = advance_streamed(self.alloc, &mut self.state, n, &mut accounting).ticks;
+        self.streamed = true;
         if ticks == 0 {
             // By one call, not written out with all that is inside.
             drop(accounting);
@@ -177,7 +181,7 @@ impl EndingBook {
         self.stock.sweep(gate, &self.state);
         self.ledger
             .enter(pass, Call::Advance { ticks }, Reply::Done { ticks });
-        Ok(HeardAdvance { ticks, accounting })
+        Ok(StreamedAdvance { ticks, accounting })
     }
 
     /// Compares a pass with the book, which changes neither: the pass's list is exactly its
@@ -191,7 +195,7 @@ impl EndingBook {
         self.ledger.agree(pass);
     }
 
-    /// As [`Domain::close`]; the state is without its switches where its run was heard.
+    /// As [`Domain::close`]; the state is without its switches where its run was streamed.
     pub fn close(self, passes: Vec<Pass>) -> Closed
         requires { All (λ p. p.spine ≡ self.book.spine) passes.items }
         ensures state { result.state ≡ state_left self }
@@ -219,7 +223,7 @@ impl EndingBook {
             workers: _,
             left: _,
             alloc: _,
-            heard: _,
+            streamed: _,
         } = self;
         ledger.agree_all(passes);
         let (tickets, blanks) = stock.into_pieces();

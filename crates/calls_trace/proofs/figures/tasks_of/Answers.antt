@@ -2,7 +2,7 @@ use Rattle.std.proofs.Common.{◌≡◌, map, sym, ap, subst, ◌∙◌, arith}
 use Rattle.std.proofs.lemmas.List.{take_all}
 use Rattle.run_figures.specs.Runs.{AreTasks}
 use Rattle.std.proofs.lemmas.Grind.{common_steps}
-use Rattle.calls_trace.specs.Told.{admitted_with_params}
+use Rattle.calls_trace.specs.DomainEvents.{admitted_with_params}
 use Rattle.calls_trace.specs.private.Replaying.{given_in}
 use Rattle.calls_trace.proofs.Texts.{tasks_apart}
 use Rattle.calls_trace.proofs.figures.tasks_of.Goals as goal

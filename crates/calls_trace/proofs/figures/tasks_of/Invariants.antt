@@ -1,5 +1,5 @@
 use Rattle.std.proofs.Common.{◌≡◌, ◌≤◌, length, map, take, vec_capacity}
-use Rattle.calls_trace.specs.Told.{admitted_with_params}
+use Rattle.calls_trace.specs.DomainEvents.{admitted_with_params}
 use Rattle.calls_trace.specs.private.Replaying.{given_in}
 use Rattle.calls_trace.proofs.figures.tasks_of.Given as goal
 

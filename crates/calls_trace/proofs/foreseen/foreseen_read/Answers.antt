@@ -5,7 +5,7 @@ use Rattle.calls_text.specs.Reader.{empty_section, section_with_entries}
 use Rattle.calls_text.specs.KeptCall.{IsNextCall, IsNextKept, call_kept}
 use Rattle.calls_text.specs.declared.kept_call.Kept.{Kept}
 use Rattle.calls_text.proofs.CallerLemmas.{section_within}
-use Rattle.calls_trace.proofs.Foretold.{calls_more, ticks_few}
+use Rattle.calls_trace.proofs.Forelogged.{calls_more, ticks_few}
 use Rattle.calls_trace.proofs.foreseen.foreseen_read.Goals as goal
 
 pub calls-init : goal.calls-init
@@ -55,7 +55,7 @@ returns c = record {
       record {
         section = m.section;
         is = section_within text before m.section c.calls.reader m.within;
-        behind = subst (λ (o : Option Kept). IsNextKept text before m.section c.next_of.new.reader (Ok o)) c.in_default.is (c.in-Ok.ensures.next text before m.section m.within);
+        following = subst (λ (o : Option Kept). IsNextKept text before m.section c.next_of.new.reader (Ok o)) c.in_default.is (c.in-Ok.ensures.next text before m.section m.within);
         same = m.same;
       };
   never_more = omega (arith, c.calls.invariant.never_more, c.next_of.ensures.never_more);

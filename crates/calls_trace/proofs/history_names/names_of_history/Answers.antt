@@ -3,7 +3,7 @@ use Rattle.std.proofs.lemmas.Result.{IfOk-weaker}
 use Rattle.switch_text.specs.Names.{Names}
 use Rattle.calls_trace.specs.HistoryNames.{AreNamesOf}
 use Rattle.calls_trace.specs.Replay.{no_names}
-use Rattle.calls_trace.specs.Told.{domain_of}
+use Rattle.calls_trace.specs.DomainEvents.{domain_of}
 use Rattle.calls_trace.specs.private.Recorded.{given_by_all}
 use Rattle.calls_trace.specs.private.Replaying.{MapGives}
 use Rattle.calls_trace.proofs.Recorded.{run_is}

@@ -102,7 +102,7 @@ returns c = record {
       record {
         section = m.section;
         is = section_within text before m.section c.calls.reader m.within;
-        behind = subst (λ (o : Option Kept). IsNextKept text before m.section c.next_of.new.reader (Ok o)) c.in_default.is (c.in-Ok.ensures.next text before m.section m.within);
+        following = subst (λ (o : Option Kept). IsNextKept text before m.section c.next_of.new.reader (Ok o)) c.in_default.is (c.in-Ok.ensures.next text before m.section m.within);
         same = m.same;
       };
   never_more = omega (arith, c.calls.invariant.never_more, c.next_of.ensures.never_more);

@@ -1,5 +1,5 @@
 use Rattle.std.proofs.Common.{◌≡◌, drop}
-use Rattle.calls_trace.specs.Told.{no_params}
+use Rattle.calls_trace.specs.DomainEvents.{no_params}
 use Rattle.calls_trace.specs.private.Replaying.{given_in}
 use Rattle.calls_trace.specs.private.Recorded.{params_given_by_all}
 use Rattle.calls_trace.proofs.named_run.params_given.Given as goal

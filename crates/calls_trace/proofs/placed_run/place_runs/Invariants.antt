@@ -6,7 +6,8 @@ use Rattle.calls_trace.specs.private.Replaying.{placed_view_of, views_from, IsPl
 use Rattle.calls_trace.proofs.Recorded.{AreRunsFrom}
 use Rattle.calls_trace.proofs.placed_run.place_runs.Given as goal
 
--- the runs so far, and those of the histories that are left, whose states follow and whose logs stand in their places
+-- the runs so far, and those of the histories that are left, whose states follow and whose logs
+-- stand in their places
 abbrev pub invariant-loop-state : goal.invariant-loop-state
 invariant-loop-state l = record {
   runs : map placed_view_of l.runs.items ++ views_from l.fn.wanted l.base (drop (length l.runs.items) l.histories) ≡ views_from l.fn.wanted 0 l.histories;

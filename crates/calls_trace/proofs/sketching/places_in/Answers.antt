@@ -6,7 +6,7 @@ use Rattle.run_figures.specs.declared.run.Admitted.{Admitted}
 use Rattle.chart_pieces.specs.RowView.{RowView}
 use Rattle.calls_trace.specs.private.Replaying.{given_in}
 use Rattle.calls_trace.specs.private.Sketched.{no_row, row_in}
-use Rattle.calls_trace.proofs.HeardCalls.{tasks_are_among}
+use Rattle.calls_trace.proofs.StreamedCalls.{tasks_are_among}
 use Rattle.calls_trace.proofs.Sketches.{picked_all, picked_few}
 use Rattle.calls_trace.proofs.sketching.places_in.Goals as goal
 

@@ -1,9 +1,9 @@
 use Rattle.std.proofs.Common.{◌∙◌}
 use Rattle.calls_trace.specs.declared.summed_run.SummedRun.{SummedRun}
 use Rattle.calls_trace.specs.private.Summed.{IsSummedSection}
-use Rattle.calls_trace.proofs.Foretold.{calls_few}
-use Rattle.calls_trace.proofs.HeardCalls.{summary_of_calls}
-use Rattle.calls_trace.proofs.HeardJobs.{both_ok, jobs_of_calls}
+use Rattle.calls_trace.proofs.Forelogged.{calls_few}
+use Rattle.calls_trace.proofs.StreamedCalls.{summary_of_calls}
+use Rattle.calls_trace.proofs.StreamedJobs.{both_ok, jobs_of_calls}
 use Rattle.calls_trace.proofs.summing.summed_read.Goals as goal
 
 pub sum_up-requires-clause-few : goal.sum_up-requires-clause-few
@@ -20,7 +20,7 @@ returns-clause-read c = λ text before w.
     (λ r is made. record {
       section = m.section;
       is = m.is;
-      behind = m.behind;
+      following = m.following;
       figures = is ∙ summary_of_calls m.section c.args.cpus c.args.limit f.calls m.same;
       are_jobs = λ wanted. made wanted ∙ jobs_of_calls m.section c.args.cpus c.args.limit f.calls m.same;
     }) c.sum_up.ensures.figures c.sum_up.ensures.jobs

@@ -9,11 +9,11 @@ use Rattle.calls_trace.proofs.writing.write_placed.Goals as goal
 pub returns-clause-ok : goal.returns-clause-ok
 returns-clause-ok g c =
     let w : Side = side g.W.Write.contents c.args.writer.now c.write_runs.new.writer in
-    let same = of_all c.args.text c.args.histories.now c.in_ok-runs.runs.items c.deref.result.now c.deref.ensures.value (subst (λ (w : Bool). map placed_view_of c.in_ok-runs.runs.items ≡ views_from w 0 c.args.histories.now) c.tells.ensures c.in_ok-runs.ensures.runs) in
+    let same = of_all c.args.text c.args.histories.now c.in_ok-runs.runs.items c.deref.result.now c.deref.ensures.value (subst (λ (w : Bool). map placed_view_of c.in_ok-runs.runs.items ≡ views_from w 0 c.args.histories.now) c.has_logged.ensures c.in_ok-runs.ensures.runs) in
     subst (λ (t : List ℕ). OnOk c.write_runs.result (IsWritten w t)) same c.write_runs.ensures.ok
 
 pub returns-clause-err : goal.returns-clause-err
 returns-clause-err g c =
     let w : Side = side g.W.Write.contents c.args.writer.now c.write_runs.new.writer in
-    let same = of_all c.args.text c.args.histories.now c.in_ok-runs.runs.items c.deref.result.now c.deref.ensures.value (subst (λ (w : Bool). map placed_view_of c.in_ok-runs.runs.items ≡ views_from w 0 c.args.histories.now) c.tells.ensures c.in_ok-runs.ensures.runs) in
+    let same = of_all c.args.text c.args.histories.now c.in_ok-runs.runs.items c.deref.result.now c.deref.ensures.value (subst (λ (w : Bool). map placed_view_of c.in_ok-runs.runs.items ≡ views_from w 0 c.args.histories.now) c.has_logged.ensures c.in_ok-runs.ensures.runs) in
     subst (λ (t : List ℕ). IfErr c.write_runs.result (IsUnwritten w t)) same c.write_runs.ensures.err

@@ -4,7 +4,7 @@ use Rattle.counted_io.specs.Sides.{Side, side}
 use Rattle.calls_trace.specs.declared.run_text.RunText.TheVariants.{Jobs}
 use Rattle.calls_trace.specs.Written.{IsUnwritten, IsWritten}
 use Rattle.calls_trace.specs.private.RunTexts.{text_of_all}
-use Rattle.calls_trace.proofs.HeardJobs.{jobs_text_is}
+use Rattle.calls_trace.proofs.StreamedJobs.{jobs_text_is}
 use Rattle.calls_trace.proofs.Replayed.{unwritten}
 use Rattle.calls_trace.proofs.writing.write_read_jobs.Goals as goal
 

@@ -4,7 +4,7 @@ use Rattle.counted_io.specs.Sides.{Side, side}
 use Rattle.calls_trace.specs.declared.run_text.RunText.TheVariants.{Summary}
 use Rattle.calls_trace.specs.Written.{IsUnwritten, IsWritten}
 use Rattle.calls_trace.specs.private.RunTexts.{text_of_all}
-use Rattle.calls_trace.proofs.HeardCalls.{as_many_summed, summed_text_is}
+use Rattle.calls_trace.proofs.StreamedCalls.{as_many_summed, summed_text_is}
 use Rattle.calls_trace.proofs.Replayed.{unwritten}
 use Rattle.calls_trace.proofs.writing.write_read_summary.Goals as goal
 

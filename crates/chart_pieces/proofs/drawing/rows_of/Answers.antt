@@ -8,5 +8,5 @@ use Rattle.chart_pieces.proofs.drawing.rows_of.Goals as goal
 pub returns-clause-seen : goal.returns-clause-seen
 returns-clause-seen c =
     let run = c.args.run.now in
-    let heard = c.hear.ensures ∙ ap (λ (d : DrawingView). drawn_on d run.happened.now run.switches.now) c.in_ok-drawing.ensures in
-    subst (λ (w : Window). IfOk c.rows.result (λ v. All (AreSeen w) v.items)) (ap (λ (d : DrawingView). d.window) heard) c.rows.ensures.seen
+    let streamed = c.stream.ensures ∙ ap (λ (d : DrawingView). drawn_on d run.happened.now run.switches.now) c.in_ok-drawing.ensures in
+    subst (λ (w : Window). IfOk c.rows.result (λ v. All (AreSeen w) v.items)) (ap (λ (d : DrawingView). d.window) streamed) c.rows.ensures.seen

@@ -1,7 +1,7 @@
 use Rattle.std.proofs.Common.{◌≤◌, ◌≢◌, All, drop, length}
 use Rattle.chart_pieces.proofs.lines.last_on.Given as goal
 
--- none behind is on the CPU
+-- none after is on the CPU
 abbrev pub invariant-loop-left : goal.invariant-loop-left
 invariant-loop-left l = record {
   inside : l.left ≤ length l.bars;

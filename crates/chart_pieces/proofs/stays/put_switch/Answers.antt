@@ -1,4 +1,4 @@
-use Rattle.chart_pieces.proofs.Hearing.{numbers_stopped}
+use Rattle.chart_pieces.proofs.Streaming.{numbers_stopped}
 use Rattle.chart_pieces.proofs.stays.put_switch.Goals as goal
 
 pub put_bar-requires : goal.put_bar-requires

@@ -1,5 +1,6 @@
-use Rattle.std.proofs.Common.{◌<◌, ◌^◌, subst, sym}
+use Rattle.std.proofs.Common.{subst, sym}
 use Rattle.std.specs.Prelude.{All}
+use Rattle.trace_compare.specs.Clocks.{IsSmallShift}
 use Rattle.trace_compare.specs.Matched.{IsSoundMatching}
 use Rattle.compare_report.specs.private.Fitting.{AreFitting}
 use Rattle.compare_report.proofs.Reports.{of_findings}
@@ -10,7 +11,7 @@ span_of-span-requires c = c.requires.tasks
 
 pub findings_of-requires : goal.findings_of-requires
 findings_of-requires c = record {
-  shift = subst (λ s. s < 2 ^ 62) (sym c.span_of-span.ensures.shift) c.requires.shift;
+  shift = subst IsSmallShift (sym c.span_of-span.ensures.shift) c.requires.shift;
   from = c.span_of-span.ensures.small_from;
   until = c.span_of-span.ensures.small_until;
   names = c.requires.names;

@@ -1,9 +1,10 @@
-use Rattle.std.proofs.Common.{List, refl, sym, subst}
+use Rattle.std.proofs.Common.{List, refl, sym, ap, subst, ◌∙◌}
 use Rattle.std.proofs.lemmas.Result.{err_from_is_err_and}
 use Rattle.counted_io.specs.Sides.{side}
 use Rattle.calls_text.specs.SectionView.{SectionView}
+use Rattle.calls_trace.specs.Charted.{last_time}
 use Rattle.dl_session.specs.private.Printing.{IsMadeText, IsWrittenAs, IsUnwrittenAs}
-use Rattle.dl_session.proofs.Answering.{some_clients, first_is, finished_answers, finished_left, is_written_as, is_unwritten_as, stopped}
+use Rattle.dl_session.proofs.Answering.{some_clients, first_is, finished_answers, finished_lasts, finished_left, is_written_as, is_unwritten_as, stopped}
 use Rattle.dl_session.proofs.Ran.{keeps_itself}
 use Rattle.dl_session.proofs.running.write_kept.Goals as goal
 
@@ -17,7 +18,14 @@ pub write_run-requires-clause-runs : goal.write_run-requires-clause-runs
 write_run-requires-clause-runs g c =
     let a = c.args.asked in
     let f = c.in_ok-report.field-0 in
-    rw (sym c.wanted_for.ensures, c.deref.ensures.value, c.deref_mut.ensures.value) (finished_left g.N.Names.id a.tasks.now c.args.duration c.wanted_for.result a.clients.items a.refused.items f c.requires.asked c.in_ok-report.ensures.ok)
+    rw (sym c.wanted_for.ensures, c.deref.ensures.value) (finished_left g.N.Names.id a.tasks.now c.args.duration c.wanted_for.result a.clients.items a.refused.items f c.requires.asked c.in_ok-report.ensures.ok)
+
+pub write_run-requires-clause-last : goal.write_run-requires-clause-last
+write_run-requires-clause-last g c =
+    let a = c.args.asked in
+    let f = c.in_ok-report.field-0 in
+    ap last_time c.deref.ensures.value
+    ∙ finished_lasts g.N.Names.id a.tasks.now c.args.duration c.wanted_for.result a.clients.items a.refused.items f a.some c.requires.asked c.in_ok-report.ensures.ok
 
 pub returns-in_err-report-clause-err : goal.returns-in_err-report-clause-err
 returns-in_err-report-clause-err g c =

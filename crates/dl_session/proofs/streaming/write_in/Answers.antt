@@ -8,7 +8,7 @@ use Rattle.dl_session.specs.private.PlayedBooks.{played_book, played_histories, 
 use Rattle.dl_session.specs.private.Streaming.{needs_log, runs_text, AreCountable}
 use Rattle.std.specs.Prelude.{OnOk, IfErr}
 use Rattle.calls_trace.specs.Written.{IsWritten, IsUnwritten}
-use Rattle.dl_session.proofs.ToldRuns.{text_streamed}
+use Rattle.dl_session.proofs.EventRuns.{text_streamed}
 use Rattle.dl_session.proofs.PlayedRuns.{are_countable}
 use Rattle.dl_session.proofs.streaming.write_in.Goals as goal
 
@@ -26,11 +26,11 @@ write_runs-written-requires-clause-countable g c κs within =
 pub returns-clause-ok : goal.returns-clause-ok
 returns-clause-ok g c =
     let w : Side = side g.W.Write.contents c.args.writer.now c.write_runs-written.new.writer in
-    let text = text_streamed c.args.streaming c.play_books.new.runs.items (played_histories c.args.books.items) c.play_books.ensures.whole (λ is. c.play_books.ensures.told (subst (λ (s : Streaming). AreLogging (needs_log s) c.args.books.items) is c.requires.logged)) in
+    let text = text_streamed c.args.streaming c.play_books.new.runs.items (played_histories c.args.books.items) c.play_books.ensures.whole (λ is. c.play_books.ensures.logged (subst (λ (s : Streaming). AreLogging (needs_log s) c.args.books.items) is c.requires.logged_run)) in
     subst (λ t. OnOk c.write_runs-written.result (IsWritten w t)) (ap (runs_text c.args.streaming) c.as_mut_slice.ensures.value ∙ text) c.write_runs-written.ensures.ok
 
 pub returns-clause-err : goal.returns-clause-err
 returns-clause-err g c =
     let w : Side = side g.W.Write.contents c.args.writer.now c.write_runs-written.new.writer in
-    let text = text_streamed c.args.streaming c.play_books.new.runs.items (played_histories c.args.books.items) c.play_books.ensures.whole (λ is. c.play_books.ensures.told (subst (λ (s : Streaming). AreLogging (needs_log s) c.args.books.items) is c.requires.logged)) in
+    let text = text_streamed c.args.streaming c.play_books.new.runs.items (played_histories c.args.books.items) c.play_books.ensures.whole (λ is. c.play_books.ensures.logged (subst (λ (s : Streaming). AreLogging (needs_log s) c.args.books.items) is c.requires.logged_run)) in
     subst (λ t. IfErr c.write_runs-written.result (IsUnwritten w t)) (ap (runs_text c.args.streaming) c.as_mut_slice.ensures.value ∙ text) c.write_runs-written.ensures.err

@@ -22,8 +22,8 @@ write_begun-requires-clause-ready g c κs within =
     let logs = c.needs_log.result in
     begun_ready g.N.Names.id a.tasks.now c.args.duration logs a.clients.items a.refused.items b.books.items b.rest a.few c.requires.duration c.requires.asked c.in_ok-begun.ensures.ok
 
-pub write_begun-requires-clause-logged : goal.write_begun-requires-clause-logged
-write_begun-requires-clause-logged g c κs within =
+pub write_begun-requires-clause-logged_run : goal.write_begun-requires-clause-logged_run
+write_begun-requires-clause-logged_run g c κs within =
     let a = c.args.asked in
     let b = c.in_ok-begun.begun in
     let logs = c.needs_log.result in

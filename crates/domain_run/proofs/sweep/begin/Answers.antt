@@ -10,9 +10,9 @@ use Rattle.domain_run.specs.Sound.{HasNoTaskTwice}
 use Rattle.domain_run.specs.Switches.{switches_from}
 use Rattle.domain_run.specs.Tick.{candidates}
 use Rattle.domain_run.specs.private.Choosing.{AreWithin, switch_made}
-use Rattle.domain_run.specs.private.Telling.{GoHome}
+use Rattle.domain_run.specs.private.TransitionLog.{GoHome}
 use Rattle.domain_run.proofs.Moving.{state_homed, switched, moved_within, none_moved}
-use Rattle.domain_run.proofs.ToldWoken.{walk_home}
+use Rattle.domain_run.proofs.LoggedWoken.{walk_home}
 use Rattle.domain_run.proofs.sweep.begin.Goals as goal
 use Rattle.domain_run.proofs.sweep.begin.Goals.{After-choose}
 
@@ -23,19 +23,19 @@ pub choose-requires-clause-apart : goal.choose-requires-clause-apart
 choose-requires-clause-apart c = subst HasNoTaskTwice (sym c.wake_all.ensures.places) c.requires.apart
 
 -- the CPUs that another one has, from those before
-moves_are : (c : After-choose) → c.choose.new.self.moves ≡ moved_from 0 c.args.roster.now.places c.choose.new.self.places
+moves_are : (c : After-choose) → c.choose.new.self.moves ≡ moved_from 0 c.args.task_table.now.places c.choose.new.self.places
 moves_are c = c.choose.ensures.moves ∙ ap (λ (ps : Places). moved_from 0 ps c.choose.new.self.places) c.wake_all.ensures.places
 
 pub add_switches-requires-clause-narrow : goal.add_switches-requires-clause-narrow
 add_switches-requires-clause-narrow c =
-    let before = c.args.roster.now.places in
+    let before = c.args.task_table.now.places in
     let few : length before ≤ 64 = omega (arith, c.requires.cpus, c.requires.narrow) in
     subst (AreWithin 64) (sym (moves_are (goal.at.add_switches-requires-clause-narrow c).After-choose))
     (λ k d h. let less = moved_within 0 before c.choose.new.self.places k d h in omega (arith, less, few))
 
 pub add_switches-requires-clause-room : goal.add_switches-requires-clause-room
 add_switches-requires-clause-room c =
-    let before = c.args.roster.now.places in
+    let before = c.args.task_table.now.places in
     let are = moves_are (goal.at.add_switches-requires-clause-room c).After-choose in
     omega (arith, c.requires.room, ap (λ (ms : List Moved). length ms) are, moved_length 0 before c.choose.new.self.places)
 
@@ -46,9 +46,9 @@ returns-clause-places c =
 
 pub returns-clause-switches : goal.returns-clause-switches
 returns-clause-switches c =
-    let before = c.args.roster.now.places in
+    let before = c.args.task_table.now.places in
     let after = c.choose.new.self.places in
-    let first = c.wake_all.new.roster.tasks in
+    let first = c.wake_all.new.task_table.tasks in
     let tasks = c.choose.new.self.tasks in
     let time = c.args.time in
     let start = c.args.switches.now.items in
@@ -69,16 +69,16 @@ empty_is (m ∷ ms) e = absurd (omega (arith, e))
 
 pub returns-clause-none : goal.returns-clause-none
 returns-clause-none c none =
-    let before = c.args.roster.now.places in
+    let before = c.args.task_table.now.places in
     let after = c.choose.new.self.places in
     let are = moves_are (goal.at.returns-clause-none c).After-choose in
     let len : length after ≡ length before = c.choose.ensures.wide ∙ ap (λ (ps : Places). length ps) c.wake_all.ensures.places in
     let test : eqb (length c.moves.result.now) 0 ≡ true = sym c.is_empty.ensures ∙ negated c.is_empty.result none in
     none_moved 0 before after len (sym are ∙ sym c.moves.ensures ∙ empty_is c.moves.result.now (eqb-true (length c.moves.result.now) 0 test))
 
--- what the parts told, on the CPUs before the placement, is put in the order of those behind it
-pub returns-clause-told : goal.returns-clause-told
-returns-clause-told c =
+-- what the parts logged, on the CPUs before the placement, is put in the order of those after it
+pub returns-clause-logged : goal.returns-clause-logged
+returns-clause-logged c =
     let log = c.args.log.now in
     let woken = c.wake_all.new.log in
     let after = c.go_home.new.self in
@@ -86,7 +86,7 @@ returns-clause-told c =
     let homes : GoHome places (length log.happened) woken.happened after.happened =
     subst (λ (n : ℕ). GoHome places n woken.happened after.happened) c.len-from.ensures
     (subst (λ (ps : Places). GoHome ps c.len-from.result woken.happened after.happened) c.occupants.ensures.occupants c.go_home.ensures.home) in
-    walk_home places c.args.time c.args.roster.now.tasks log woken after c.requires.numbered c.wake_all.ensures.told c.go_home.ensures.wanted c.go_home.ensures.room homes
+    walk_home places c.args.time c.args.task_table.now.tasks log woken after c.requires.numbered c.wake_all.ensures.logged c.go_home.ensures.wanted c.go_home.ensures.room homes
 
 pub wake_all-requires-clause-early : goal.wake_all-requires-clause-early
 wake_all-requires-clause-early c = grind (arith, common_steps)

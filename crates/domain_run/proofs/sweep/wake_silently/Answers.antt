@@ -4,7 +4,7 @@ use Rattle.domain_run.proofs.sweep.wake_silently.Goals as goal
 
 pub loop-place-init : goal.loop-place-init
 loop-place-init c =
-    let tasks = c.args.roster.now.tasks in
+    let tasks = c.args.task_table.now.tasks in
     let next = c.next_due-place in
     record {
       cpus = refl;
@@ -18,27 +18,27 @@ pub next_due-place-requires-in-loop-place : goal.next_due-place-requires-in-loop
 next_due-place-requires-in-loop-place c =
     let l = c.loop-place in
     let one = c.wake_silently_at-next in
-    let there : l.place < length l.roster.tasks = omega arith in
-    omega (arith, woken_rest c.args.time l.roster.tasks one.new.roster.tasks l.place one.result there one.ensures.woken)
+    let there : l.place < length l.task_table.tasks = omega arith in
+    omega (arith, woken_rest c.args.time l.task_table.tasks one.new.task_table.tasks l.place one.result there one.ensures.woken)
 
 pub loop-place-smaller : goal.loop-place-smaller
 loop-place-smaller c =
     let l = c.loop-place in
     let one = c.wake_silently_at-next in
-    let there : l.place < length l.roster.tasks = omega arith in
-    let rest = woken_rest c.args.time l.roster.tasks one.new.roster.tasks l.place one.result there one.ensures.woken in
-    let less : length one.new.roster.tasks - c.next_due-place-in-loop-place.result < length l.roster.tasks - l.place = omega (arith, rest, there, c.next_due-place-in-loop-place.ensures.from) in
+    let there : l.place < length l.task_table.tasks = omega arith in
+    let rest = woken_rest c.args.time l.task_table.tasks one.new.task_table.tasks l.place one.result there one.ensures.woken in
+    let less : length one.new.task_table.tasks - c.next_due-place-in-loop-place.result < length l.task_table.tasks - l.place = omega (arith, rest, there, c.next_due-place-in-loop-place.ensures.from) in
     less
 
 pub loop-place-preserved : goal.loop-place-preserved
 loop-place-preserved c =
     let l = c.loop-place in
-    let first = c.args.roster.now.tasks in
+    let first = c.args.task_table.now.tasks in
     let one = c.wake_silently_at-next in
-    let now = one.new.roster.tasks in
+    let now = one.new.task_table.tasks in
     let next = c.next_due-place-in-loop-place in
-    let there : l.place < length l.roster.tasks = omega arith in
-    let walked = walk_step c.args.time first l.roster.tasks now l.place one.result l.invariant.walked there one.ensures.woken in
+    let there : l.place < length l.task_table.tasks = omega arith in
+    let walked = walk_step c.args.time first l.task_table.tasks now l.place one.result l.invariant.walked there one.ensures.woken in
     record {
       cpus = one.ensures.cpus ∙ l.invariant.cpus;
       places = one.ensures.places ∙ l.invariant.places;
@@ -48,4 +48,4 @@ loop-place-preserved c =
     }
 
 pub returns-clause-tasks : goal.returns-clause-tasks
-returns-clause-tasks c = walk_ends c.args.time c.args.roster.now.tasks c.loop-place.roster.tasks c.loop-place.place c.loop-place.invariant.walked (omega arith)
+returns-clause-tasks c = walk_ends c.args.time c.args.task_table.now.tasks c.loop-place.task_table.tasks c.loop-place.place c.loop-place.invariant.walked (omega arith)

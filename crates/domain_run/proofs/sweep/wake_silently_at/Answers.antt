@@ -5,76 +5,76 @@ use Rattle.domain_run.specs.declared.task.Task.{Task}
 use Rattle.domain_run.specs.Calls.{is_other}
 use Rattle.domain_run.specs.Parts.{replenish_due, settled, unblocked, is_listed}
 use Rattle.domain_run.specs.Sound.{IsSound}
-use Rattle.domain_run.specs.private.Roster.{timers_served}
+use Rattle.domain_run.specs.private.TaskTable.{timers_served}
 use Rattle.domain_run.specs.private.Timers.{IsTimerStep}
 use Rattle.domain_run.proofs.Due.{step_len, step_then}
 use Rattle.domain_run.proofs.Woken.{served_at, woken_stays, woken_goes}
 use Rattle.std.proofs.lemmas.Grind.{common_steps}
 use Rattle.domain_run.proofs.sweep.wake_silently_at.Goals as goal
 
--- behind a change of the task at a place, that place is still there
+-- after a change of the task at a place, that place is still there
 stays_there : (f : Task → Task) (tasks new : List Task) (p : ℕ) → p < length tasks → IsTimerStep f p tasks new → p < length new
 stays_there f tasks new p h step = omega (arith, h, step_len f tasks new p h step)
 
-pub turn-requires-2-clause-there : goal.turn-requires-2-clause-there
-turn-requires-2-clause-there c = stays_there (replenish_due c.args.time) c.args.roster.now.tasks c.turn.new.self.tasks c.args.place c.requires.there c.turn.ensures.step
+pub apply-requires-2-clause-there : goal.apply-requires-2-clause-there
+apply-requires-2-clause-there c = stays_there (replenish_due c.args.time) c.args.task_table.now.tasks c.apply.new.self.tasks c.args.place c.requires.there c.apply.ensures.step
 
--- behind parts 1 and 2
+-- after parts 1 and 2
 both : (time : ℕ) (old one two : List Task) (p : ℕ) → p < length old → IsTimerStep (replenish_due time) p old one → IsTimerStep (settled time) p one two → IsTimerStep (timers_served time) p old two
 both time old one two p h first second = step_then (replenish_due time) (settled time) old one two p h first second
 
 pub left_at-requires : goal.left_at-requires
 left_at-requires c =
-    let old = c.args.roster.now.tasks in
-    let two = c.turn-2.new.self.tasks in
-    stays_there (timers_served c.args.time) old two c.args.place c.requires.there (both c.args.time old c.turn.new.self.tasks two c.args.place c.requires.there c.turn.ensures.step c.turn-2.ensures.step)
+    let old = c.args.task_table.now.tasks in
+    let two = c.apply-2.new.self.tasks in
+    stays_there (timers_served c.args.time) old two c.args.place c.requires.there (both c.args.time old c.apply.new.self.tasks two c.args.place c.requires.there c.apply.ensures.step c.apply-2.ensures.step)
 
-pub turn-requires-3-clause-there : goal.turn-requires-3-clause-there
-turn-requires-3-clause-there c =
-    let old = c.args.roster.now.tasks in
-    let two = c.turn-2.new.self.tasks in
-    stays_there (timers_served c.args.time) old two c.args.place c.requires.there (both c.args.time old c.turn.new.self.tasks two c.args.place c.requires.there c.turn.ensures.step c.turn-2.ensures.step)
+pub apply-requires-3-clause-there : goal.apply-requires-3-clause-there
+apply-requires-3-clause-there c =
+    let old = c.args.task_table.now.tasks in
+    let two = c.apply-2.new.self.tasks in
+    stays_there (timers_served c.args.time) old two c.args.place c.requires.there (both c.args.time old c.apply.new.self.tasks two c.args.place c.requires.there c.apply.ensures.step c.apply-2.ensures.step)
 
 pub returns-in-Some-clause-woken : goal.returns-in-Some-clause-woken
 returns-in-Some-clause-woken c =
-    let old = c.args.roster.now.tasks in
-    let two = c.turn-2.new.self.tasks in
-    let step = both c.args.time old c.turn.new.self.tasks two c.args.place c.requires.there c.turn.ensures.step c.turn-2.ensures.step in
+    let old = c.args.task_table.now.tasks in
+    let two = c.apply-2.new.self.tasks in
+    let step = both c.args.time old c.apply.new.self.tasks two c.args.place c.requires.there c.apply.ensures.step c.apply-2.ensures.step in
     woken_goes c.args.time old two c.take_off.new.self.tasks c.args.place c.in-Some.number c.requires.there (stays_there (timers_served c.args.time) old two c.args.place c.requires.there step) step
     c.left_at.ensures.numbered c.in-Some.ensures.number c.in-Some.ensures.left c.take_off.ensures.tasks
 
 pub returns-in-Some-clause-sound : goal.returns-in-Some-clause-sound
-returns-in-Some-clause-sound c = subst (All (IsSound c.args.time)) (sym c.take_off.ensures.tasks) (All-filter (is_other c.in-Some.number) (IsSound c.args.time) c.turn-2.new.self.tasks c.turn-2.ensures.sound)
+returns-in-Some-clause-sound c = subst (All (IsSound c.args.time)) (sym c.take_off.ensures.tasks) (All-filter (is_other c.in-Some.number) (IsSound c.args.time) c.apply-2.new.self.tasks c.apply-2.ensures.sound)
 
 pub returns-clause-woken : goal.returns-clause-woken
 returns-clause-woken c =
-    let old = c.args.roster.now.tasks in
-    let two = c.turn-2.new.self.tasks in
-    let step = both c.args.time old c.turn.new.self.tasks two c.args.place c.requires.there c.turn.ensures.step c.turn-2.ensures.step in
-    woken_stays c.args.time old c.turn-3.new.self.tasks c.args.place c.requires.there
-    (step_then (timers_served c.args.time) (unblocked c.args.time) old two c.turn-3.new.self.tasks c.args.place c.requires.there step c.turn-3.ensures.step)
+    let old = c.args.task_table.now.tasks in
+    let two = c.apply-2.new.self.tasks in
+    let step = both c.args.time old c.apply.new.self.tasks two c.args.place c.requires.there c.apply.ensures.step c.apply-2.ensures.step in
+    woken_stays c.args.time old c.apply-3.new.self.tasks c.args.place c.requires.there
+    (step_then (timers_served c.args.time) (unblocked c.args.time) old two c.apply-3.new.self.tasks c.args.place c.requires.there step c.apply-3.ensures.step)
     (λ d. ap is_listed (sym (served_at c.args.time old two c.args.place d c.requires.there step)) ∙ c.in_default.ensures.stays d)
 
-pub turn-requires-clause-there : goal.turn-requires-clause-there
-turn-requires-clause-there c = grind (arith, common_steps)
+pub apply-requires-clause-there : goal.apply-requires-clause-there
+apply-requires-clause-there c = grind (arith, common_steps)
 
-pub turn-requires-clause-fits : goal.turn-requires-clause-fits
-turn-requires-clause-fits c = grind (arith, common_steps)
+pub apply-requires-clause-fits : goal.apply-requires-clause-fits
+apply-requires-clause-fits c = grind (arith, common_steps)
 
-pub turn-requires-clause-sound : goal.turn-requires-clause-sound
-turn-requires-clause-sound c = grind (arith, common_steps)
+pub apply-requires-clause-sound : goal.apply-requires-clause-sound
+apply-requires-clause-sound c = grind (arith, common_steps)
 
-pub turn-requires-clause-may : goal.turn-requires-clause-may
-turn-requires-clause-may c = grind (arith, common_steps)
+pub apply-requires-clause-may : goal.apply-requires-clause-may
+apply-requires-clause-may c = grind (arith, common_steps)
 
-pub turn-requires-2-clause-fits : goal.turn-requires-2-clause-fits
-turn-requires-2-clause-fits c = grind (arith, common_steps)
+pub apply-requires-2-clause-fits : goal.apply-requires-2-clause-fits
+apply-requires-2-clause-fits c = grind (arith, common_steps)
 
-pub turn-requires-2-clause-sound : goal.turn-requires-2-clause-sound
-turn-requires-2-clause-sound c = grind (arith, common_steps)
+pub apply-requires-2-clause-sound : goal.apply-requires-2-clause-sound
+apply-requires-2-clause-sound c = grind (arith, common_steps)
 
-pub turn-requires-2-clause-may : goal.turn-requires-2-clause-may
-turn-requires-2-clause-may c = grind (arith, common_steps)
+pub apply-requires-2-clause-may : goal.apply-requires-2-clause-may
+apply-requires-2-clause-may c = grind (arith, common_steps)
 
 pub returns-in-Some-clause-cpus : goal.returns-in-Some-clause-cpus
 returns-in-Some-clause-cpus c = grind (arith, common_steps)
@@ -82,14 +82,14 @@ returns-in-Some-clause-cpus c = grind (arith, common_steps)
 pub returns-in-Some-clause-places : goal.returns-in-Some-clause-places
 returns-in-Some-clause-places c = grind (arith, common_steps)
 
-pub turn-requires-3-clause-fits : goal.turn-requires-3-clause-fits
-turn-requires-3-clause-fits c = grind (arith, common_steps)
+pub apply-requires-3-clause-fits : goal.apply-requires-3-clause-fits
+apply-requires-3-clause-fits c = grind (arith, common_steps)
 
-pub turn-requires-3-clause-sound : goal.turn-requires-3-clause-sound
-turn-requires-3-clause-sound c = grind (arith, common_steps)
+pub apply-requires-3-clause-sound : goal.apply-requires-3-clause-sound
+apply-requires-3-clause-sound c = grind (arith, common_steps)
 
-pub turn-requires-3-clause-may : goal.turn-requires-3-clause-may
-turn-requires-3-clause-may c = grind (arith, common_steps)
+pub apply-requires-3-clause-may : goal.apply-requires-3-clause-may
+apply-requires-3-clause-may c = grind (arith, common_steps)
 
 pub overflow_add-result : goal.overflow_add-result
 overflow_add-result c = grind (arith, common_steps)

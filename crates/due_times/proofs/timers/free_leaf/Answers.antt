@@ -4,7 +4,7 @@ use Rattle.due_times.proofs.timers.free_leaf.Goals as goal
 
 pub returns-clause-there : goal.returns-clause-there
 returns-clause-there c =
-    let leaves = length c.make_room.new.tournament in
+    let leaves = length c.make_room.new.timer_tree in
     let some = some_four leaves c.make_room.ensures.kept.size in
     let near = c.next_leaf.ensures.near (leaves - 1)
     (subst (λ (xs : List ℕ). All (λ leaf. leaf < leaves - 1) xs) (sym c.deref-2.ensures.value)

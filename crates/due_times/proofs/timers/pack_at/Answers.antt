@@ -12,7 +12,7 @@ other c e = c.if-leaf-place.false (leaf_is c ∙ e)
 
 pub set-requires-2 : goal.set-requires-2
 set-requires-2 c =
-    let times = c.args.tournament.now in
+    let times = c.args.timer_tree.now in
     let order = c.args.order.now.items in
     let within = inside times order c.args.order.now.cap c.args.place c.requires.kept c.requires.packed c.requires.there (other c) in
     omega (arith, within, ap length c.set.ensures, length-set times c.from-leaf.result (2 ^ 64 - 1))
@@ -23,9 +23,9 @@ leaf_as c = c.from-leaf.ensures ∙ c.index.ensures ∙ get_or_default c.args.or
 other_leaf : (c : goal.After-order-1) → get_or c.args.order.now.items c.args.place 0 ≢ c.args.place
 other_leaf c e = c.if-leaf-place.false (leaf_as c ∙ e)
 
-moved_is : (c : goal.After-order-1) → c.set-2.new.self ≡ moved c.args.tournament.now c.args.order.now.items c.args.order.now.cap c.args.place c.requires.kept c.requires.packed c.requires.there (other_leaf c)
+moved_is : (c : goal.After-order-1) → c.set-2.new.self ≡ moved c.args.timer_tree.now c.args.order.now.items c.args.order.now.cap c.args.place c.requires.kept c.requires.packed c.requires.there (other_leaf c)
 moved_is c =
-    let times = c.args.tournament.now in
+    let times = c.args.timer_tree.now in
     let place = c.args.place in
     let never = (2 ^ 64 - 1) in
     let freed = λ (leaf : ℕ). set times leaf never in
@@ -36,9 +36,9 @@ moved_is c =
 pub returns-clause-kept : goal.returns-clause-kept
 returns-clause-kept c =
     rw (moved_is c)
-    (packed_kept c.args.tournament.now c.args.order.now.items c.args.order.now.cap c.args.place c.requires.kept c.requires.packed c.requires.there (other_leaf c))
+    (packed_kept c.args.timer_tree.now c.args.order.now.items c.args.order.now.cap c.args.place c.requires.kept c.requires.packed c.requires.there (other_leaf c))
 
 pub returns-clause-times : goal.returns-clause-times
 returns-clause-times c =
     ap (λ ts. times_by_place ts (set c.args.order.now.items c.args.place c.args.place)) (moved_is c)
-    ∙ packed_times c.args.tournament.now c.args.order.now.items c.args.order.now.cap c.args.place c.requires.kept c.requires.packed c.requires.there (other_leaf c)
+    ∙ packed_times c.args.timer_tree.now c.args.order.now.items c.args.order.now.cap c.args.place c.requires.kept c.requires.packed c.requires.there (other_leaf c)

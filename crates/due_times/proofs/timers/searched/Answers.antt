@@ -13,7 +13,7 @@ returns-then-from-leaf c =
     record {
       within = omega (arith, c.min-low.ensures);
       before = λ k low. before_it k low;
-      behind = λ k from within. elim (cases_lt place k) [
+      following = λ k from within. elim (cases_lt place k) [
         | inl less ↦ let up = c.requires.rising place k 0 less within in omega (arith, up, here)
         | inr not_less ↦ let same : place ≡ k = omega (arith, from, not_less) in subst (λ n. c.args.leaf ≤ get_or order n 0) same here
       ];
@@ -28,7 +28,7 @@ loop-low-init c =
       ordered = omega (arith, c.min-low.ensures, c.min-high.ensures, c.saturating_sub.ensures);
       most = omega (arith, c.min-high.ensures);
       before = λ k low. before_it k low;
-      behind = λ k from within. let least = rise_low c.args.order.now k c.requires.rising within in omega (arith, least, from, within, c.min-high.ensures);
+      following = λ k from within. let least = rise_low c.args.order.now k c.requires.rising within in omega (arith, least, from, within, c.min-high.ensures);
     }
 
 pub loop-low-preserved-then-from-leaf-2 : goal.loop-low-preserved-then-from-leaf-2
@@ -44,5 +44,5 @@ loop-low-preserved-then-from-leaf-2 c =
         | inl less ↦ let up = c.requires.rising k middle 0 less (omega (arith, c.loop-low-test.true, i.most)) in omega (arith, up, here)
         | inr not_less ↦ let same : middle ≡ k = omega (arith, low, not_less) in subst (λ n. get_or order n 0 < c.args.leaf) same here
       ];
-      behind = i.behind;
+      following = i.following;
     }

@@ -7,7 +7,7 @@ invariant-loop-low l = record {
   ordered : l.low ≤ l.high;
   most : l.high ≤ length l.order;
   before : (k : ℕ) → k < l.low → get_or l.order k 0 < l.leaf;
-  behind : (k : ℕ) → l.high ≤ k → k < length l.order → l.leaf ≤ get_or l.order k 0;
+  following : (k : ℕ) → l.high ≤ k → k < length l.order → l.leaf ≤ get_or l.order k 0;
 }
 
 abbrev pub decreases-loop-low : goal.decreases-loop-low

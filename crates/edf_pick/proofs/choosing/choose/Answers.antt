@@ -14,10 +14,10 @@ stay-requires-clause-bare c = c.requires.bare (sym c.is_at_home.ensures ∙ c.if
 pub push-requires : goal.push-requires
 push-requires c = c.requires.few
 
-pub returns-then-is_at_home-clause-staying : goal.returns-then-is_at_home-clause-staying
-returns-then-is_at_home-clause-staying c =
+pub returns-then-is_at_home-clause-running : goal.returns-then-is_at_home-clause-running
+returns-then-is_at_home-clause-running c =
     let one = c.args.c.now in
-    let stays = c.args.staying.now in
+    let stays = c.args.running.now in
     c.stay.ensures ∙ sym (ap (λ (b : Bool). cond b (set stays one.home (Some one)) stays) (sym c.is_at_home.ensures ∙ c.if-is_at_home.true))
 
 pub returns-then-is_at_home-clause-movers : goal.returns-then-is_at_home-clause-movers
@@ -26,10 +26,10 @@ returns-then-is_at_home-clause-movers c =
     let movers = c.args.movers.now in
     sym (ap (λ (b : Bool). cond b movers (movers ++ one ∷ [])) (sym c.is_at_home.ensures ∙ c.if-is_at_home.true))
 
-pub returns-else-is_at_home-clause-staying : goal.returns-else-is_at_home-clause-staying
-returns-else-is_at_home-clause-staying c =
+pub returns-else-is_at_home-clause-running : goal.returns-else-is_at_home-clause-running
+returns-else-is_at_home-clause-running c =
     let one = c.args.c.now in
-    let stays = c.args.staying.now in
+    let stays = c.args.running.now in
     sym (ap (λ (b : Bool). cond b (set stays one.home (Some one)) stays) (sym c.is_at_home.ensures ∙ c.if-is_at_home.false))
 
 pub returns-else-is_at_home-clause-movers : goal.returns-else-is_at_home-clause-movers

@@ -5,8 +5,8 @@ use Rattle.edf_pick.specs.declared.candidate.Candidate.{Candidate}
 use Rattle.edf_pick.specs.Choice.{is_before}
 use Rattle.edf_pick.specs.Order.{with_candidate}
 use Rattle.edf_pick.specs.private.Choosing.{chosen_stays, chosen_movers, IsChoosing, total}
-use Rattle.edf_pick.specs.private.Staying.{bare_key}
-use Rattle.edf_pick.specs.private.Waiting.{all_held}
+use Rattle.edf_pick.specs.private.RunningSet.{bare_key}
+use Rattle.edf_pick.specs.private.Ready.{all_held}
 use Rattle.edf_pick.proofs.Before.{key}
 use Rattle.edf_pick.proofs.Chosen.{home_bare, chosen_same, chosen_is, chosen_busy, chosen_total, key_below, released_same, last_absent, released_is, released_total}
 use Rattle.edf_pick.proofs.Stays.{count_less}
@@ -14,8 +14,8 @@ use Rattle.std.specs.Prelude.{is_some}
 use Rattle.edf_pick.proofs.choosing.displace.Goals as goal
 use Rattle.edf_pick.proofs.choosing.displace.Goals.{After-off, After-choose}
 
-first_is : (c : After-off) → IsChoosing c.args.staying.now c.args.movers.now (c.take_first-c.result ∷ c.take_first-c.new.self) c.args.places.now
-first_is c = subst (λ (xs : List Candidate). IsChoosing c.args.staying.now c.args.movers.now xs c.args.places.now) c.take_first-c.ensures.first c.requires.is
+first_is : (c : After-off) → IsChoosing c.args.running.now c.args.movers.now (c.take_first-c.result ∷ c.take_first-c.new.self) c.args.places.now
+first_is c = subst (λ (xs : List Candidate). IsChoosing c.args.running.now c.args.movers.now xs c.args.places.now) c.take_first-c.ensures.first c.requires.is
 
 before : (c : After-off) → is_before c.take_first-c.result c.args.last ≡ true
 before c = subst (λ (xs : List Candidate). is_before (get_or xs 0 bare_key) c.args.last ≡ true) c.take_first-c.ensures.first c.requires.first
@@ -25,16 +25,16 @@ abbrev rest : (c : After-off) → List Candidate
 rest c = with_candidate c.args.last c.take_first-c.new.self
 
 abbrev fewer : (c : After-off) → List (Option Candidate)
-fewer c = set c.args.staying.now c.args.last.home None
+fewer c = set c.args.running.now c.args.last.home None
 
 then_is : (c : After-off) → IsChoosing (fewer c) c.args.movers.now (c.take_first-c.result ∷ rest c) c.args.places.now
-then_is c = released_is c.args.staying.now c.args.movers.now c.take_first-c.new.self c.args.places.now c.take_first-c.result c.args.last (first_is c) c.requires.there (before c)
+then_is c = released_is c.args.running.now c.args.movers.now c.take_first-c.new.self c.args.places.now c.take_first-c.result c.args.last (first_is c) c.requires.there (before c)
 
-one_less : (c : After-off) → length (all_held (fewer c)) + 1 ≡ length (all_held c.args.staying.now)
-one_less c = count_less c.args.staying.now c.args.last.home (ap (λ (o : Option Candidate). is_some o) c.requires.there)
+one_less : (c : After-off) → length (all_held (fewer c)) + 1 ≡ length (all_held c.args.running.now)
+one_less c = count_less c.args.running.now c.args.last.home (ap (λ (o : Option Candidate). is_some o) c.requires.there)
 
 pub insert-requires-clause-absent : goal.insert-requires-clause-absent
-insert-requires-clause-absent c = last_absent c.args.staying.now c.args.movers.now c.take_first-c.new.self c.args.places.now c.take_first-c.result c.args.last (first_is (goal.at.insert-requires-clause-absent c).After-off) c.requires.there
+insert-requires-clause-absent c = last_absent c.args.running.now c.args.movers.now c.take_first-c.new.self c.args.places.now c.take_first-c.result c.args.last (first_is (goal.at.insert-requires-clause-absent c).After-off) c.requires.there
 
 pub choose-requires-clause-few : goal.choose-requires-clause-few
 choose-requires-clause-few c =
@@ -48,8 +48,8 @@ choose-requires-clause-bare c = λ home.
     ap (λ (ss : List (Option Candidate)). get_or ss c.take_first-c.result.home None) c.off.ensures ∙ home_bare (fewer k) c.args.movers.now (rest k) c.args.places.now c.take_first-c.result (then_is k) home
 
 -- who stays, and who moves
-stays_are : (c : After-choose) (k : After-off) → c.choose.new.staying ≡ chosen_stays c.args.places.now c.take_first-c.result (set c.args.staying.now c.args.last.home None)
-stays_are c k = c.choose.ensures.staying ∙ ap (λ (ss : List (Option Candidate)). chosen_stays c.args.places.now c.take_first-c.result ss) c.off.ensures
+stays_are : (c : After-choose) (k : After-off) → c.choose.new.running ≡ chosen_stays c.args.places.now c.take_first-c.result (set c.args.running.now c.args.last.home None)
+stays_are c k = c.choose.ensures.running ∙ ap (λ (ss : List (Option Candidate)). chosen_stays c.args.places.now c.take_first-c.result ss) c.off.ensures
 
 pub returns-clause-is : goal.returns-clause-is
 returns-clause-is c =
@@ -58,23 +58,23 @@ returns-clause-is c =
     let places = c.args.places.now in
     let one = c.take_first-c.result in
     let less = one_less k in
-    subst (λ (xs : List Candidate). IsChoosing c.choose.new.staying c.choose.new.movers xs places) (sym c.insert.ensures)
-    (subst (λ (xs : List Candidate). IsChoosing c.choose.new.staying xs (rest k) places) (sym c.choose.ensures.movers)
+    subst (λ (xs : List Candidate). IsChoosing c.choose.new.running c.choose.new.movers xs places) (sym c.insert.ensures)
+    (subst (λ (xs : List Candidate). IsChoosing c.choose.new.running xs (rest k) places) (sym c.choose.ensures.movers)
     (subst (λ (ss : List (Option Candidate)). IsChoosing ss (chosen_movers places one movers) (rest k) places) (sym (stays_are c k))
     (chosen_is (fewer k) movers (rest k) places one (then_is k) (omega (arith, less, c.requires.is.few)))))
 
 pub returns-clause-same : goal.returns-clause-same
 returns-clause-same c =
     let k = (goal.at.returns-clause-same c).After-off in
-    let stays = c.args.staying.now in
+    let stays = c.args.running.now in
     let movers = c.args.movers.now in
     let places = c.args.places.now in
     let one = c.take_first-c.result in
     let first = c.take_first-c.new.self in
     let all = all_held stays ++ (movers ++ one ∷ first) in
-    subst (λ (xs : List Candidate). IsPermutation (all_held stays ++ (movers ++ xs)) (all_held c.choose.new.staying ++ (c.choose.new.movers ++ c.insert.new.self))) (sym c.take_first-c.ensures.first)
-    (subst (λ (xs : List Candidate). IsPermutation all (all_held c.choose.new.staying ++ (c.choose.new.movers ++ xs))) (sym c.insert.ensures)
-    (subst (λ (xs : List Candidate). IsPermutation all (all_held c.choose.new.staying ++ (xs ++ rest k))) (sym c.choose.ensures.movers)
+    subst (λ (xs : List Candidate). IsPermutation (all_held stays ++ (movers ++ xs)) (all_held c.choose.new.running ++ (c.choose.new.movers ++ c.insert.new.self))) (sym c.take_first-c.ensures.first)
+    (subst (λ (xs : List Candidate). IsPermutation all (all_held c.choose.new.running ++ (c.choose.new.movers ++ xs))) (sym c.insert.ensures)
+    (subst (λ (xs : List Candidate). IsPermutation all (all_held c.choose.new.running ++ (xs ++ rest k))) (sym c.choose.ensures.movers)
     (subst (λ (ss : List (Option Candidate)). IsPermutation all (all_held ss ++ (chosen_movers places one movers ++ rest k))) (sym (stays_are c k))
     (IsPermutation-trans all (all_held (fewer k) ++ (movers ++ one ∷ rest k)) (all_held (chosen_stays places one (fewer k)) ++ (chosen_movers places one movers ++ rest k))
     (released_same stays movers first one c.args.last c.requires.there)
@@ -95,11 +95,11 @@ returns-clause-busy c =
 pub returns-clause-earlier : goal.returns-clause-earlier
 returns-clause-earlier c =
     let k = (goal.at.returns-clause-earlier c).After-off in
-    let stays = c.args.staying.now in
+    let stays = c.args.running.now in
     let movers = c.args.movers.now in
     let places = c.args.places.now in
     let one = c.take_first-c.result in
-    let new : total (all_held c.choose.new.staying ++ c.choose.new.movers) ≡ total (all_held (fewer k) ++ movers) + key one = ap (λ (ss : List (Option Candidate)). total (all_held ss ++ c.choose.new.movers)) (stays_are c k)
+    let new : total (all_held c.choose.new.running ++ c.choose.new.movers) ≡ total (all_held (fewer k) ++ movers) + key one = ap (λ (ss : List (Option Candidate)). total (all_held ss ++ c.choose.new.movers)) (stays_are c k)
     ∙ ap (λ (xs : List Candidate). total (all_held (chosen_stays places one (fewer k)) ++ xs)) c.choose.ensures.movers
     ∙ chosen_total (fewer k) movers (rest k) places one (then_is k) in
     let old : total (all_held (fewer k) ++ movers) + key c.args.last ≡ total (all_held stays ++ movers) = released_total stays movers c.args.last c.requires.there in

@@ -1,18 +1,18 @@
 use Rattle.std.proofs.Common.{◌++◌, ◌∙◌, sym, inl, inr, arith}
 use Rattle.std.proofs.lemmas.List.Sorted.{IsPermutation-refl, IsPermutation-trans}
-use Rattle.edf_pick.specs.private.Waiting.{all_held}
+use Rattle.edf_pick.specs.private.Ready.{all_held}
 use Rattle.edf_pick.proofs.Rising.{none_there, some_there}
 use Rattle.edf_pick.proofs.choosing.fill.Goals as goal
 
 pub free-preserved : goal.free-preserved
 free-preserved c =
-    let first = all_held c.args.staying.now ++ (c.args.movers.now ++ c.args.waiting.now) in
-    let then = all_held c.free.staying ++ (c.free.movers ++ c.free.waiting) in
-    let last = all_held c.choose_first.new.staying ++ (c.choose_first.new.movers ++ c.choose_first.new.waiting) in
+    let first = all_held c.args.running.now ++ (c.args.movers.now ++ c.args.ready_rest.now) in
+    let then = all_held c.free.running ++ (c.free.movers ++ c.free.ready_rest) in
+    let last = all_held c.choose_first.new.running ++ (c.choose_first.new.movers ++ c.choose_first.new.ready_rest) in
     record { is = c.choose_first.ensures.is; same = IsPermutation-trans first then last c.free.invariant.same c.choose_first.ensures.same }
 
 pub free-init : goal.free-init
-free-init c = record { is = c.requires.is; same = IsPermutation-refl (all_held c.args.staying.now ++ (c.args.movers.now ++ c.args.waiting.now)) }
+free-init c = record { is = c.requires.is; same = IsPermutation-refl (all_held c.args.running.now ++ (c.args.movers.now ++ c.args.ready_rest.now)) }
 
 pub is_empty-requires : goal.is_empty-requires
 is_empty-requires c = tt
@@ -30,7 +30,7 @@ pub choose_first-requires-clause-few : goal.choose_first-requires-clause-few
 choose_first-requires-clause-few c = c.requires.few
 
 pub choose_first-requires-clause-some : goal.choose_first-requires-clause-some
-choose_first-requires-clause-some c = some_there c.free.waiting (sym c.is_empty.ensures ∙ c.free-test.true)
+choose_first-requires-clause-some c = some_there c.free.ready_rest (sym c.is_empty.ensures ∙ c.free-test.true)
 
 pub choose_first-requires-clause-is : goal.choose_first-requires-clause-is
 choose_first-requires-clause-is c = c.free.invariant.is
@@ -57,4 +57,4 @@ pub returns-after-free-clause-same : goal.returns-after-free-clause-same
 returns-after-free-clause-same c = c.free.invariant.same
 
 pub returns-after-free-clause-all : goal.returns-after-free-clause-all
-returns-after-free-clause-all c = inl (none_there c.free.waiting (sym c.is_empty.ensures ∙ c.free-test.false))
+returns-after-free-clause-all c = inl (none_there c.free.ready_rest (sym c.is_empty.ensures ∙ c.free-test.false))

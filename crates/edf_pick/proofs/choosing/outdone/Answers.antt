@@ -3,8 +3,8 @@ use Rattle.std.specs.Prelude.{All}
 use Rattle.std.proofs.lemmas.List.Elements.{All-weaker}
 use Rattle.edf_pick.specs.declared.candidate.Candidate.{Candidate}
 use Rattle.edf_pick.specs.Choice.{is_before}
-use Rattle.edf_pick.specs.private.Staying.{bare_key}
-use Rattle.edf_pick.specs.private.Waiting.{all_held}
+use Rattle.edf_pick.specs.private.RunningSet.{bare_key}
+use Rattle.edf_pick.specs.private.Ready.{all_held}
 use Rattle.edf_pick.proofs.Rising.{none_there, some_there}
 use Rattle.edf_pick.proofs.Stays.{past_both}
 use Rattle.edf_pick.proofs.choosing.outdone.Goals as goal
@@ -39,7 +39,7 @@ returns-then-not-may_outlast-clause-still c = refl
 
 pub returns-then-not-may_outlast-clause-none : goal.returns-then-not-may_outlast-clause-none
 returns-then-not-may_outlast-clause-none c =
-    inr (subst (λ (xs : List Candidate). All (λ a. is_before (get_or xs 0 bare_key) a ≡ false) (all_held c.args.staying.now)) c.as_slice-tasks.ensures.tasks (c.may_outlast.ensures c.if-not-may_outlast.true))
+    inr (subst (λ (xs : List Candidate). All (λ a. is_before (get_or xs 0 bare_key) a ≡ false) (all_held c.args.running.now)) c.as_slice-tasks.ensures.tasks (c.may_outlast.ensures c.if-not-may_outlast.true))
 
 pub returns-then-not-may_outlast-clause-some : goal.returns-then-not-may_outlast-clause-some
 returns-then-not-may_outlast-clause-some c = tt
@@ -81,8 +81,8 @@ returns-clause-none c =
     let one = get_or c.as_slice-tasks.result.now 0 bare_key in
     let last = c.latest-last.result in
     let past : is_before one last ≡ false = sym c.is_before.ensures ∙ c.if-is_before.false in
-    inr (subst (λ (xs : List Candidate). All (λ a. is_before (get_or xs 0 bare_key) a ≡ false) (all_held c.args.staying.now)) c.as_slice-tasks.ensures.tasks
-    (All-weaker (λ a. is_before last a ≡ false) (λ a. is_before one a ≡ false) (λ a h. past_both one last a past h) (all_held c.args.staying.now) c.latest-last.ensures.bound))
+    inr (subst (λ (xs : List Candidate). All (λ a. is_before (get_or xs 0 bare_key) a ≡ false) (all_held c.args.running.now)) c.as_slice-tasks.ensures.tasks
+    (All-weaker (λ a. is_before last a ≡ false) (λ a. is_before one a ≡ false) (λ a h. past_both one last a past h) (all_held c.args.running.now) c.latest-last.ensures.bound))
 
 pub returns-clause-some : goal.returns-clause-some
 returns-clause-some c = tt

@@ -1,5 +1,5 @@
 use Rattle.std.proofs.Common.{◌∙◌, length, refl, sym, arith}
-use Rattle.edf_pick.proofs.Marked.{nobody}
+use Rattle.edf_pick.proofs.Occupants.{nobody}
 use Rattle.edf_pick.proofs.Rising.{place_end, place_none}
 use Rattle.edf_pick.proofs.order.place_from_end.Goals as goal
 use Rattle.edf_pick.proofs.order.place_from_end.Goals.{then-end-eq0-via-then-end-eq0, then-end-eq0-via-else-end-eq0+then-is_before}

@@ -10,4 +10,4 @@ one_mark o n e zero = sym (ap (λ (x : Option ℕ). count_occupant x) e)
 one_mark o n e (suc cpu) = bit_at-pow_other 0 (suc cpu) (λ f. omega (arith, f))
 
 pub returns-in-Some : goal.returns-in-Some
-returns-in-Some c = one_mark c.args.stands c.in-Some.field-0 c.in-Some.is
+returns-in-Some c = one_mark c.args.is_on_cpu c.in-Some.field-0 c.in-Some.is

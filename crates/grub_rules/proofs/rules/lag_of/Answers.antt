@@ -1,8 +1,8 @@
 use Rattle.std.proofs.Common.{◌≡◌, ◌*◌, ◌/◌, ap, ◌∙◌, arith}
 use Rattle.std.proofs.Math.Nat.{div-div-eq-div-mul}
-use Rattle.attr_check.specs.Ratio.{unit}
 use Rattle.cbs_rules.specs.Budget.{above_zero, budget}
 use Rattle.grub_rules.proofs.rules.lag_of.Goals as goal
+use Rattle.limits.specs.Limits.{unit}
 
 pub returns : goal.returns
 returns c =

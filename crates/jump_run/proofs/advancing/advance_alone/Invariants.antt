@@ -1,8 +1,8 @@
 use Rattle.std.proofs.Common.{◌≡◌, ◌<◌, ◌≤◌, ◌-◌}
 use Rattle.domain_run.specs.Tick.{ticks}
-use Rattle.domain_run.specs.Happened.{told_by_ticks}
+use Rattle.domain_run.specs.Happened.{logged_by_ticks}
 use Rattle.domain_run.specs.Keys.{AreKept}
-use Rattle.domain_run.specs.Log.{Tells}
+use Rattle.domain_run.specs.Log.{HasLogged}
 use Rattle.jump_run.specs.Pieces.{IsBounded}
 use Rattle.jump_run.proofs.advancing.advance_alone.Given as goal
 
@@ -12,7 +12,7 @@ invariant-events g l = record {
   most : l.ticks ≤ l.n;
   keys : AreKept l.fn.state.tasks l.state.tasks;
   bounded : 0 < l.ticks → IsBounded l.enough l.state l.log;
-  told : Tells l.fn.log (told_by_ticks l.ticks l.fn.state) l.log;
+  logged : HasLogged l.fn.log (logged_by_ticks l.ticks l.fn.state) l.log;
 }
 
 abbrev pub decreases-events : goal.decreases-events

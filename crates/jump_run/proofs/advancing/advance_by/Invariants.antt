@@ -1,8 +1,8 @@
 use Rattle.std.proofs.Common.{◌≡◌, ◌≤◌, ◌-◌, vec_capacity}
 use Rattle.domain_run.specs.Tick.{ticks}
-use Rattle.domain_run.specs.Happened.{told_by_ticks}
+use Rattle.domain_run.specs.Happened.{logged_by_ticks}
 use Rattle.domain_run.specs.Keys.{AreKept}
-use Rattle.domain_run.specs.Log.{Tells}
+use Rattle.domain_run.specs.Log.{HasLogged}
 use Rattle.jump_run.proofs.advancing.advance_by.Given as goal
 
 abbrev pub invariant-events : goal.invariant-events
@@ -10,7 +10,7 @@ invariant-events g l = record {
   state : l.state ≡ ticks l.ticks l.fn.state;
   most : l.ticks ≤ l.n;
   keys : AreKept l.fn.state.tasks l.state.tasks;
-  told : Tells l.fn.log (told_by_ticks l.ticks l.fn.state) l.log;
+  logged : HasLogged l.fn.log (logged_by_ticks l.ticks l.fn.state) l.log;
   plans : vec_capacity l.lists.plans ≡ 64;
   slices : vec_capacity l.lists.slices ≡ 64;
 }

@@ -3,7 +3,7 @@ use Rattle.rtapp_scenario.specs.Values.{members_of}
 use Rattle.rtapp_scenario.specs.Faults.{first_fault_in}
 use Rattle.rtapp_scenario.specs.Keys.{is_event}
 use Rattle.rtapp_scenario.specs.Tests.{phase_member_fault}
-use Rattle.rtapp_scenario.specs.Told.{ref_seen}
+use Rattle.rtapp_scenario.specs.FaultText.{ref_seen}
 use Rattle.rtapp_scenario.proofs.phases.check_phase_members.Given as goal
 
 abbrev pub invariant-loop-member : goal.invariant-loop-member

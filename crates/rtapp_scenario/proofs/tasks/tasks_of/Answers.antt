@@ -11,7 +11,7 @@ use Rattle.rtapp_scenario.specs.Threads.{instances, thread_ref}
 use Rattle.rtapp_scenario.specs.ScenarioView.{TaskSpecView}
 use Rattle.rtapp_scenario.specs.Scenario.{thread_tasks, tasks_from}
 use Rattle.rtapp_scenario.specs.Tests.{own_fault, beside_fault, thread_fault, refs_in, tasks_in}
-use Rattle.rtapp_scenario.specs.Told.{IsFaultTold, flaw_seen, ref_seen}
+use Rattle.rtapp_scenario.specs.FaultText.{IsFaultTold, flaw_seen, ref_seen}
 use Rattle.rtapp_scenario.proofs.Walks.{here, before_more, order_found, order_passed}
 use Rattle.rtapp_scenario.proofs.tasks.tasks_of.Goals as goal
 

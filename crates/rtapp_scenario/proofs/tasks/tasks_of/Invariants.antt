@@ -4,7 +4,7 @@ use Rattle.rtapp_scenario.specs.Faults.{first_fault_in}
 use Rattle.rtapp_scenario.specs.Tests.{thread_fault, refs_in, tasks_in}
 use Rattle.rtapp_scenario.specs.Scenario.{tasks_from}
 use Rattle.rtapp_scenario.specs.ScenarioView.{IsTaskSpec}
-use Rattle.rtapp_scenario.specs.Told.{ref_seen}
+use Rattle.rtapp_scenario.specs.FaultText.{ref_seen}
 use Rattle.rtapp_scenario.proofs.tasks.tasks_of.Given as goal
 
 abbrev pub invariant-loop-thread : goal.invariant-loop-thread

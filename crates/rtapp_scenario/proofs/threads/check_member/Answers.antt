@@ -3,7 +3,7 @@ use Rattle.std.proofs.lemmas.Grind.{common_steps}
 use Rattle.rtapp_scenario.specs.Values.{member_of}
 use Rattle.rtapp_scenario.specs.Keys.{is_event}
 use Rattle.rtapp_scenario.specs.Tests.{is_phases}
-use Rattle.rtapp_scenario.specs.Told.{ref_seen}
+use Rattle.rtapp_scenario.specs.FaultText.{ref_seen}
 use Rattle.rtapp_scenario.proofs.Seen.{phases_refused, phases_tested, phases_added}
 use Rattle.rtapp_scenario.proofs.threads.check_member.Goals as goal
 

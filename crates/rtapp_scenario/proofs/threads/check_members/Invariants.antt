@@ -2,7 +2,7 @@ use Rattle.std.proofs.Common.{◌≡◌, ◌≤◌, drop, take, []}
 use Rattle.rtapp_scenario.specs.Values.{members_of}
 use Rattle.rtapp_scenario.specs.Faults.{first_fault_in}
 use Rattle.rtapp_scenario.specs.Tests.{thread_member_fault}
-use Rattle.rtapp_scenario.specs.Told.{ref_seen}
+use Rattle.rtapp_scenario.specs.FaultText.{ref_seen}
 use Rattle.rtapp_scenario.specs.private.Before.{IsBefore}
 use Rattle.rtapp_scenario.proofs.threads.check_members.Given as goal
 

@@ -2,7 +2,7 @@ use Rattle.std.proofs.Common.{◌∙◌, rules, tests}
 use Rattle.std.proofs.lemmas.Iterator.{YieldsList-from_slice}
 use Rattle.std.proofs.lemmas.Iterator.Search.{any_from_yields_List}
 use Rattle.rtapp_scenario.specs.Keys.{is_text}
-use Rattle.rtapp_scenario.specs.Told.{ref_seen}
+use Rattle.rtapp_scenario.specs.FaultText.{ref_seen}
 use Rattle.rtapp_scenario.proofs.Walks.{any_of_map}
 use Rattle.rtapp_scenario.proofs.threads.is_among.Goals as goal
 

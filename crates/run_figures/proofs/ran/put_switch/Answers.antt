@@ -4,7 +4,7 @@ use Rattle.std.proofs.Math.ListN.{set}
 use Rattle.run_figures.specs.declared.ran.Cpu.{Cpu}
 use Rattle.run_figures.specs.private.Running.{with_switch, with_switch_on}
 use Rattle.run_figures.proofs.Turning.{turned_place, cpus_apart, cpu_at}
-use Rattle.run_figures.proofs.Behind.{stay_keyed}
+use Rattle.run_figures.proofs.After.{stay_keyed}
 use Rattle.run_figures.proofs.ran.put_switch.Goals as goal
 
 pub take_rest-requires : goal.take_rest-requires

@@ -2,7 +2,7 @@ use Rattle.std.proofs.Common.{◌≡◌, ℕ, ◌+◌, ◌-◌, ◌%◌, List, [
 use Rattle.std.proofs.lemmas.List.{drop_more, at_drop_all}
 use Rattle.rtapp_scenario.specs.ScenarioView.{TaskSpecView}
 use Rattle.session.specs.Admissions.{refused_in}
-use Rattle.session.proofs.Admitted.{IsLeft, left_next, some_left, told_few, union_of}
+use Rattle.session.proofs.Admitted.{IsLeft, left_next, some_left, logged_few, union_of}
 use Rattle.session.proofs.admitting.gather.Goals as goal
 use Rattle.session.proofs.admitting.gather.Goals.{in-Some, in_default}
 
@@ -28,12 +28,12 @@ loop-task-preserved c =
       | in-Some w ↦
           let a = w.in-Some.answer in
           let more = c.match-pop_front.refused in
-          let told : more.items ≡ refused ++ refused_in (record { task = t; answer = a } ∷ []) = ap (λ v. v.items) w.refused-is ∙ w.note.ensures.items in
+          let logged : more.items ≡ refused ++ refused_in (record { task = t; answer = a } ∷ []) = ap (λ v. v.items) w.refused-is ∙ w.note.ensures.items in
           let first : (get_or left p d).items ≡ a ∷ y.items = ap (λ q. q.items) (sym at) ∙ w.in-Some.ensures.items in
-          let next : IsLeft (λ q. q.items) n tasks rest shares (set left p y) more.items = left_next (λ q. q.items) n tasks rest t shares left d y a refused more.items c.requires.some from first told in
+          let next : IsLeft (λ q. q.items) n tasks rest shares (set left p y) more.items = left_next (λ q. q.items) n tasks rest t shares left d y a refused more.items c.requires.some from first logged in
           record {
             left = subst (λ (m : ℕ). IsLeft (λ q. q.items) n tasks rest shares (set left m y) more.items) (sym place) next;
-            count = omega (arith, was.count, ap length told, told_few refused t a);
+            count = omega (arith, was.count, ap length logged, logged_few refused t a);
             room = ap vec_capacity w.refused-is ∙ (w.note.ensures.room ∙ was.room);
           }
       | in_default w ↦

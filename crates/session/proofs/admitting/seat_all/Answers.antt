@@ -24,9 +24,9 @@ loop-client-preserved g c =
     record {
       left = search rules;
       next = λ k x below. let h = was.next (k + 1) x in grind rules;
-      seated = λ i x s inside.
+      assigned = λ i x s inside.
           subst (λ (l : List SeatView). IsSeat tasks (length clients) i (get_or clients i x) (get_or l i s)) (sym items)
-          (by_place_more (λ j t. IsSeat tasks (length clients) j (get_or clients j x) t) old _ (λ j t low. was.seated j x t (omega (arith, low, seats.ok.0))) (here x) i s (omega (arith, inside, c.push_reserved.new.self.ok.0, ap length items)));
+          (by_place_more (λ j t. IsSeat tasks (length clients) j (get_or clients j x) t) old _ (λ j t low. was.assigned j x t (omega (arith, low, seats.ok.0))) (here x) i s (omega (arith, inside, c.push_reserved.new.self.ok.0, ap length items)));
       room = omega (arith, c.push_reserved.ensures.capacity, was.room);
       many = was.many;
     }

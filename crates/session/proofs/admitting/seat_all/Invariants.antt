@@ -10,7 +10,7 @@ invariant-loop-client g l =
     let clients = l.fn.clients.items in let rest = l.client-iterator in record {
       left : vec_len l.seats + into_iter_len rest ≡ length clients;
       next : (k : ℕ) (x : ClientView) → k < into_iter_len rest → get_or (into_iter_items rest) k x ≡ get_or clients (vec_len l.seats + k) x;
-      seated : (i : ℕ) (x : ClientView) (s : SeatView) → i < vec_len l.seats → IsSeat l.tasks (length clients) i (get_or clients i x) (get_or l.seats.items i s);
+      assigned : (i : ℕ) (x : ClientView) (s : SeatView) → i < vec_len l.seats → IsSeat l.tasks (length clients) i (get_or clients i x) (get_or l.seats.items i s);
       room : length clients ≤ vec_capacity l.seats;
       many : l.many ≡ length clients;
     }

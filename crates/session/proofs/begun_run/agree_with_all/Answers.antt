@@ -33,14 +33,14 @@ loop-place-preserved g c =
     let n = c.loop-place.place in
     let p = c.index_mut.result.now in
     let value = c.index_mut.ensures.value in
-    let told = c.agree_with.ensures in
+    let logged = c.agree_with.ensures in
     let inside : n < length books = omega (arith, c.loop-place-test.true, c.len-place-end.ensures, c.args.books.now.ok.0) in
-    let same : c.agree_with.new.clients.items ≡ clients = told.clients ∙ inv.clients in
+    let same : c.agree_with.new.clients.items ≡ clients = logged.clients ∙ inv.clients in
     let at : p ≡ get_or books n p = value ∙ ap (λ (ps : List PlayingView). get_or ps n p) inv.books in
     record {
-      books = ap (λ (x : PlayingView). set now n x) (told.book ∙ value) ∙ set-get_or now n p ∙ inv.books;
+      books = ap (λ (x : PlayingView). set now n x) (logged.book ∙ value) ∙ set-get_or now n p ∙ inv.books;
       clients = same;
       histories = histories_more n (n + 1) id clients (played_books books) refl inv.histories (λ x.
-          let there : c.agree_with.new.book.book ≡ get_or (played_books books) n x = ap book (told.book ∙ at) ∙ sym (get_or-map book books n p x inside) in
-          subst (λ (b : BookView). IsHistoryOf id n clients (section_of b)) there (subst (λ (cs : List ClientView). IsHistoryOf id n cs (section_of c.agree_with.new.book.book)) same told.history));
+          let there : c.agree_with.new.book.book ≡ get_or (played_books books) n x = ap book (logged.book ∙ at) ∙ sym (get_or-map book books n p x inside) in
+          subst (λ (b : BookView). IsHistoryOf id n clients (section_of b)) there (subst (λ (cs : List ClientView). IsHistoryOf id n cs (section_of c.agree_with.new.book.book)) same logged.history));
     }

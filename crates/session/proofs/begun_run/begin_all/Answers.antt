@@ -5,7 +5,7 @@ use Rattle.std.proofs.lemmas.List.Elements.{All-set}
 use Rattle.std.proofs.lemmas.Result.{err_from_is_err_and}
 use Rattle.call_book.specs.Book.{BookView}
 use Rattle.call_book.specs.Playing.{PlayingView, HasWholeRun}
-use Rattle.session.specs.Begun.{played_books, IsUntold, TellsItsEnd}
+use Rattle.session.specs.Begun.{played_books, IsUnlogged, LogsItsEnd}
 use Rattle.session.specs.private.Ending.{IsFullAmong}
 use Rattle.session.specs.private.Entering.{IsSessionBook}
 use Rattle.session.specs.private.Parts.{AreSessionBooks}
@@ -31,7 +31,7 @@ pub loop-place-preserved : goal.loop-place-preserved
 loop-place-preserved g c =
     let id = g.N.Names.id in
     let inv = c.loop-place.invariant in
-    let told = c.begin_book.ensures in
+    let logged = c.begin_book.ensures in
     let books = c.loop-place.books.items in
     let n = c.loop-place.place in
     let p = c.begin_book.new.book in
@@ -40,17 +40,17 @@ loop-place-preserved g c =
     let first : c.loop-place.client.number ≡ 1 = inv.made.number ∙ c.requires.first in
     let whole : HasWholeRun c.index_mut.result.now = subst HasWholeRun (sym c.index_mut.ensures.value) (inv.whole n c.index_mut.result.now inside) in
     record {
-      named = subst (AreSessionBooks id) (put_played books n p) (named_set id (played_books books) n p.book there inv.named told.named);
+      named = subst (AreSessionBooks id) (put_played books n p) (named_set id (played_books books) n p.book there inv.named logged.named);
       count = length-set books n p ∙ inv.count;
-      domains = λ some. sym inv.made.domains ∙ told.domains;
+      domains = λ some. sym inv.made.domains ∙ logged.domains;
       made = makes_more n (n + 1) c.args.duration c.args.client.now c.loop-place.client c.begin_book.new.self refl inv.made c.in_ok-begin_book.ensures.made;
       ends = subst (FirstEnd (n + 1) c.args.duration) (put_played books n p) (ends_more n (n + 1) c.args.duration (played_books books) p.book there refl inv.ends (ends_by c.args.duration c.loop-place.client.number p.book.history first c.in_ok-begin_book.ensures.ends));
       rest = rest_made n (n + 1) books p refl inv.rest;
-      whole = whole_set books n p inside inv.whole (told.whole whole);
-      untold = λ logs were.
-          let are = inv.untold logs were in
-          All-set (IsUntold logs) books n p (told.untold logs (subst (IsUntold logs) (sym c.index_mut.ensures.value) (are n c.index_mut.result.now inside))) are;
-      tell = first_more (TellsItsEnd c.args.duration) n (n + 1) books p inside refl inv.tell (c.in_ok-begin_book.ensures.tells whole);
+      whole = whole_set books n p inside inv.whole (logged.whole whole);
+      unlogged = λ logs were.
+          let are = inv.unlogged logs were in
+          All-set (IsUnlogged logs) books n p (logged.unlogged logs (subst (IsUnlogged logs) (sym c.index_mut.ensures.value) (are n c.index_mut.result.now inside))) are;
+      say = first_more (LogsItsEnd c.args.duration) n (n + 1) books p inside refl inv.say (c.in_ok-begin_book.ensures.has_logged whole);
     }
 
 pub returns-in_err-begin_book-clause-named : goal.returns-in_err-begin_book-clause-named
@@ -67,7 +67,7 @@ returns-in_err-begin_book-clause-named g c =
 pub returns-in_err-begin_book-clause-full : goal.returns-in_err-begin_book-clause-full
 returns-in_err-begin_book-clause-full g c =
     let inv = c.loop-place.invariant in
-    let told = c.begin_book.ensures in
+    let logged = c.begin_book.ensures in
     let books = c.loop-place.books.items in
     let n = c.loop-place.place in
     let p = c.begin_book.new.book in
@@ -75,7 +75,7 @@ returns-in_err-begin_book-clause-full g c =
     let now = c.begin_book.new.self in
     let inside : n < length books = omega (arith, c.loop-place-test.true, inv.count, c.len-place-end.ensures, c.args.books.now.ok.0) in
     let there : n < length (played_books books) = omega (arith, inside, length-map books book) in
-    let place : n < length a.passes = omega (arith, inside, inv.count, c.requires.count, told.domains, inv.made.domains) in
+    let place : n < length a.passes = omega (arith, inside, inv.count, c.requires.count, logged.domains, inv.made.domains) in
     let met = c.in_err-begin_book.ensures.full in
     let q = err_from_is_err_and c.from_residual.result c.from_residual.ensures.1 in
     rw q.1 (subst (λ (bs : List BookView). IsFullAmong c.args.duration bs a now) (put_played books n p)
@@ -88,16 +88,16 @@ returns-clause-made g c =
     let count = inv.domains (omega (arith, all, c.requires.domains)) in
     makes_everywhere c.args.duration c.loop-place.place c.args.client.now c.loop-place.client c.requires.some (omega (arith, count, all)) inv.made
 
-pub returns-clause-tell : goal.returns-clause-tell
-returns-clause-tell g c = λ d x inside.
-    c.loop-place.invariant.tell d x (omega (arith, inside, c.loop-place-test.false, c.loop-place.invariant.count, c.len-place-end.ensures, c.args.books.now.ok.0)) inside
+pub returns-clause-say : goal.returns-clause-say
+returns-clause-say g c = λ d x inside.
+    c.loop-place.invariant.say d x (omega (arith, inside, c.loop-place-test.false, c.loop-place.invariant.count, c.len-place-end.ensures, c.args.books.now.ok.0)) inside
 
-pub returns-in_err-begin_book-clause-untold : goal.returns-in_err-begin_book-clause-untold
-returns-in_err-begin_book-clause-untold g c = λ logs were.
+pub returns-in_err-begin_book-clause-unlogged : goal.returns-in_err-begin_book-clause-unlogged
+returns-in_err-begin_book-clause-unlogged g c = λ logs were.
     let inv = c.loop-place.invariant in
     let books = c.loop-place.books.items in
     let n = c.loop-place.place in
     let p = c.begin_book.new.book in
     let inside : n < length books = omega (arith, c.loop-place-test.true, inv.count, c.len-place-end.ensures, c.args.books.now.ok.0) in
-    let are = inv.untold logs were in
-    All-set (IsUntold logs) books n p (c.begin_book.ensures.untold logs (subst (IsUntold logs) (sym c.index_mut.ensures.value) (are n c.index_mut.result.now inside))) are
+    let are = inv.unlogged logs were in
+    All-set (IsUnlogged logs) books n p (c.begin_book.ensures.unlogged logs (subst (IsUnlogged logs) (sym c.index_mut.ensures.value) (are n c.index_mut.result.now inside))) are

@@ -1,5 +1,5 @@
 use Rattle.std.proofs.Common.{◌≡◌, ◌<◌, Bool, length}
-use Rattle.session.specs.Begun.{played_books, AreUntold, HaveWholeRuns, TellsItsEnd}
+use Rattle.session.specs.Begun.{played_books, AreUnlogged, HaveWholeRuns, LogsItsEnd}
 use Rattle.session.specs.private.Parts.{AreSessionBooks}
 use Rattle.session.proofs.Advanced.{MakesFirst, FirstEnd, all_ticks}
 use Rattle.session.proofs.Begun.{FirstOf, RestMade}
@@ -15,6 +15,6 @@ invariant-loop-place g l = record {
   ends : FirstEnd l.place l.fn.duration (played_books l.books.items);
   rest : RestMade l.place l.books.items;
   whole : HaveWholeRuns l.books.items;
-  untold : (logs : Bool) → AreUntold logs l.fn.books.items → AreUntold logs l.books.items;
-  tell : FirstOf (TellsItsEnd l.fn.duration) l.place l.books.items;
+  unlogged : (logs : Bool) → AreUnlogged logs l.fn.books.items → AreUnlogged logs l.books.items;
+  say : FirstOf (LogsItsEnd l.fn.duration) l.place l.books.items;
 }

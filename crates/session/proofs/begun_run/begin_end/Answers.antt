@@ -4,13 +4,13 @@ use Rattle.std.proofs.lemmas.List.{length-map}
 use Rattle.call_book.specs.Book.{BookView}
 use Rattle.call_book.specs.Playing.{PlayingView}
 use Rattle.session.specs.Asks.{ClientView, Makes}
-use Rattle.session.specs.Begun.{played_books, AreBookHistories, AreUntold, HaveWholeRuns, TellTheirEnds}
+use Rattle.session.specs.Begun.{played_books, AreBookHistories, AreUnlogged, HaveWholeRuns, LogTheirEnds}
 use Rattle.session.specs.RunEnd.{HaveAdvanced, advance_of}
 use Rattle.session.specs.private.Begun.{unplayed}
 use Rattle.session.specs.private.Ending.{AllEnd}
 use Rattle.session.specs.private.Parts.{AreSessionBooks}
 use Rattle.session.proofs.Advanced.{have_advanced}
-use Rattle.session.proofs.Begun.{books_named, all_made, all_untold, all_whole, played_gates, full_played}
+use Rattle.session.proofs.Begun.{books_named, all_made, all_unlogged, all_whole, played_gates, full_played}
 use Rattle.session.proofs.begun_run.begin_end.Goals as goal
 
 met_in : {A E : Type 0} (r : Result A E) (P : Type 0) → is_err r ≡ true → OnErr r P → P
@@ -45,11 +45,11 @@ returns-then-is_err-clause-err g c =
     let client = c.begin-begun.new.client in
     let now = c.begin-begun.new.books.items in
     let f : PlayingView → BookView = λ p. p.book in
-    let told = c.agree_with_all.ensures in
+    let logged = c.agree_with_all.ensures in
     let many = ap (λ (ps : List PlayingView). length ps) c.in-Ok.ensures in
     let histories : AreBookHistories id (set cs 0 client) (played_books now) =
-    subst (λ (vs : List ClientView). AreBookHistories id vs (played_books now)) told.clients
-    (subst (λ (ps : List PlayingView). AreBookHistories id c.agree_with_all.new.clients.items (played_books ps)) told.books told.histories) in
+    subst (λ (vs : List ClientView). AreBookHistories id vs (played_books now)) logged.clients
+    (subst (λ (ps : List PlayingView). AreBookHistories id c.agree_with_all.new.clients.items (played_books ps)) logged.books logged.histories) in
     full_played id c.args.duration cs c.index_mut.result.now client (played_books now) c.requires.some c.index_mut.ensures.value
     (omega (arith, length-map now f, c.begin-begun.ensures.count, many, length-map was.books.items (unplayed c.args.logs), was.count))
     c.begin-begun.ensures.named histories
@@ -78,22 +78,22 @@ returns-clause-ok g c =
     let client = c.begin-begun.new.client in
     let now = c.begin-begun.new.books.items in
     let begun = c.of-begun.result.value.items in
-    let told = c.agree_with_all.ensures in
+    let logged = c.agree_with_all.ensures in
     let f : PlayingView → BookView = λ p. p.book in
     let left : begun ≡ c.agree_with_all.new.books.items = ap (λ v. v.items) c.of-begun.ensures in
-    let same : begun ≡ now = left ∙ told.books in
+    let same : begun ≡ now = left ∙ logged.books in
     let long = ap (λ (ps : List PlayingView). length ps) same in
     let many = ap (λ (ps : List PlayingView). length ps) c.in-Ok.ensures in
     let is = sym c.is_err.ensures.value ∙ c.if-is_err.false in
     let mine : Makes first client (λ d. advance_of n 1) = made_in c.begin-begun.result _ is c.begin-begun.ensures.made in
     let ends : AllEnd n (played_books now) = made_in c.begin-begun.result _ is c.begin-begun.ensures.ends in
     record {
-      advanced = subst (HaveAdvanced n cs) (sym told.clients) (have_advanced n cs first client c.requires.some c.index_mut.ensures.value mine);
+      advanced = subst (HaveAdvanced n cs) (sym logged.clients) (have_advanced n cs first client c.requires.some c.index_mut.ensures.value mine);
       same = ap played_books (sym left);
       count = omega (arith, length-map begun f, long, c.begin-begun.ensures.count, many, length-map was.books.items (unplayed c.args.logs), was.count);
-      histories = subst (λ (ps : List PlayingView). AreBookHistories id c.agree_with_all.new.clients.items (played_books ps)) (sym left) told.histories;
+      histories = subst (λ (ps : List PlayingView). AreBookHistories id c.agree_with_all.new.clients.items (played_books ps)) (sym left) logged.histories;
       ends = subst (λ (ps : List PlayingView). AllEnd n (played_books ps)) (sym same) ends;
-      whole = subst HaveWholeRuns (sym told.books) c.begin-begun.ensures.whole;
-      untold = subst (AreUntold c.args.logs) (sym told.books) (c.begin-begun.ensures.untold c.args.logs (all_untold c.args.logs c.in-Ok.books.items was.books.items c.in-Ok.ensures));
-      tell = subst (TellTheirEnds n) (sym told.books) (made_in c.begin-begun.result _ is c.begin-begun.ensures.tell);
+      whole = subst HaveWholeRuns (sym logged.books) c.begin-begun.ensures.whole;
+      unlogged = subst (AreUnlogged c.args.logs) (sym logged.books) (c.begin-begun.ensures.unlogged c.args.logs (all_unlogged c.args.logs c.in-Ok.books.items was.books.items c.in-Ok.ensures));
+      say = subst (LogTheirEnds n) (sym logged.books) (made_in c.begin-begun.result _ is c.begin-begun.ensures.say);
     }

@@ -61,7 +61,7 @@ loop-book-preserved g c =
           (ended_more books h c.loop-book.states.items b s c.close_book-history.result.state inv.ended
           (taken_first books all rest b (length h) (into_iter_len c.loop-book.rest) (length h) c.in-Some.ensures.items some refl inv.left) made.ended));
       sums = subst (λ (ss : List SectionView). AreSums ss tickets) (sym is) (by_place_more (λ (d : ℕ) (t : SectionView). bw_of_tickets d tickets ≡ sum_left t) h s (λ d x inside. made.elsewhere d (λ at. absurd (omega (arith, at, place, inside))) ∙ inv.sums d x inside) sum_here);
-      none = λ d behind. made.elsewhere d (λ at. absurd (omega (arith, at, place, behind, count))) ∙ inv.none d (omega (arith, behind, count));
+      none = λ d following. made.elsewhere d (λ at. absurd (omega (arith, at, place, following, count))) ∙ inv.none d (omega (arith, following, count));
       few = omega (arith, made.count, inv.few, count);
       room = omega (arith, inv.room, made.room);
       sections = omega (arith, inv.sections, c.push_reserved.ensures.capacity);

@@ -9,7 +9,7 @@ returns-clause-logs g c =
     let logs = c.in_ok-logs.logs.items in
     let count : c.len.result ≡ length books = omega (arith, c.len.ensures, c.args.unlocked.now.books.ok.0, c.advance_all.ensures.count) in
     end_logs c.args.wanted c.args.duration books logs c.advance_all.new.logs.items (subst (λ (n : ℕ). AreOpenLogs n c.args.wanted logs) count c.in_ok-logs.ensures)
-    c.advance_all.ensures.logs c.in_ok-advance_all.ensures.told
+    c.advance_all.ensures.logs c.in_ok-advance_all.ensures.logged
 
 pub invariant_of-unlocked : goal.invariant_of-unlocked
 invariant_of-unlocked g c =

@@ -1,6 +1,6 @@
 use Rattle.std.proofs.Common.{◌≡◌, ◌<◌, length}
 use Rattle.session.specs.private.Parts.{AreSessionBooks}
-use Rattle.session.proofs.Advanced.{MakesFirst, FirstEnd, FirstTell, RestStay, all_ticks}
+use Rattle.session.proofs.Advanced.{MakesFirst, FirstEnd, FirstLog, RestStay, all_ticks}
 use Rattle.session.proofs.ending_run.advance_all.Given as goal
 
 -- so many domains were advanced
@@ -12,6 +12,6 @@ invariant-loop-place g l = record {
   made : MakesFirst l.place l.fn.client l.client (all_ticks l.fn.duration);
   ends : FirstEnd l.place l.fn.duration l.books.items;
   logs : length l.logs.items ≡ length l.fn.logs.items;
-  told : FirstTell l.place l.fn.duration l.books.items l.fn.logs.items l.logs.items;
+  logged : FirstLog l.place l.fn.duration l.books.items l.fn.logs.items l.logs.items;
   rest : RestStay l.place l.fn.logs.items l.logs.items;
 }

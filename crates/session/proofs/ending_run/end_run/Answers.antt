@@ -2,8 +2,8 @@ use Rattle.std.proofs.Common.{set, refl, subst}
 use Rattle.std.specs.Prelude.{IfErr, IfOk, OnOk}
 use Rattle.std.proofs.lemmas.Result.{err_from_is_err_and}
 use Rattle.session.specs.Asks.{Makes}
-use Rattle.session.specs.declared.ending_run.Told.{Told}
-use Rattle.session.specs.private.Ending.{AllEnd, AreToldAs, IsFullAmong, books_of}
+use Rattle.session.specs.declared.ending_run.Recorded.{Recorded}
+use Rattle.session.specs.private.Ending.{AllEnd, AreLoggedAs, IsFullAmong, books_of}
 use Rattle.session.specs.RunEnd.{IsFullWith, IsRunStopped, advance_of}
 use Rattle.session.proofs.Advanced.{have_advanced, is_finished, stopped_so, full_with}
 use Rattle.session.proofs.ending_run.end_run.Goals as goal
@@ -19,13 +19,13 @@ returns-clause-ok g c =
     let was = c.in_ok-logs.was in
     let mine : Makes first client (λ d. advance_of c.args.duration 1) = subst (λ r. OnOk r (Makes first client (λ d. advance_of c.args.duration 1))) was made.ensures.made in
     let ends : AllEnd c.args.duration (books_of left.books.items) = subst (λ r. OnOk r (AllEnd c.args.duration (books_of left.books.items))) was made.ensures.ends in
-    let t : Told = c.in_ok-logs.field-0 in
-    let told : AreToldAs c.args.duration c.args.wanted left.books.items t = subst (λ r. IfOk r (AreToldAs c.args.duration c.args.wanted left.books.items)) was made.ensures.told in
+    let t : Recorded = c.in_ok-logs.field-0 in
+    let logged : AreLoggedAs c.args.duration c.args.wanted left.books.items t = subst (λ r. IfOk r (AreLoggedAs c.args.duration c.args.wanted left.books.items)) was made.ensures.logged in
     is_finished g.N.Names.id c.args.duration c.args.wanted cs (set cs 0 client) left.books.items
-    (record { report = c.close-report.result.report; states = c.close-report.result.states; logs = t.logs; heard = t.heard })
+    (record { report = c.close-report.result.report; states = c.close-report.result.states; logs = t.logs; streamed = t.streamed; drawn = t.drawn })
     t
     (have_advanced c.args.duration cs first client c.requires.some c.index_mut.ensures.value mine)
-    closed.report closed.ended left.count left.named ends told refl refl
+    closed.report closed.ended left.count left.named ends logged refl refl refl
 
 pub returns-in_err-logs-clause-err : goal.returns-in_err-logs-clause-err
 returns-in_err-logs-clause-err g c =

@@ -11,7 +11,7 @@ returns-clause-replied c =
     replied c.args.domain.now c.leave.new.self c.args.pass.now c.leave.new.pass (calls.Leave c.args.number) c.leave.result c.outcome_of.result.answer
     c.leave.ensures.entered c.leave.ensures.full c.outcome_of.ensures.ok c.outcome_of.ensures.err
 
-pub returns-clause-told : goal.returns-clause-told
-returns-clause-told c =
+pub returns-clause-logged : goal.returns-clause-logged
+returns-clause-logged c =
     call_answered c.args.domain.now c.leave.new.self c.args.pass.now c.leave.new.pass (calls.Leave c.args.number) c.leave.result c.outcome_of.result.answer
     c.leave.ensures.entered c.leave.ensures.full c.outcome_of.ensures.ok c.outcome_of.ensures.err

@@ -38,8 +38,8 @@ returns-in-NotListed-clause-answered g c =
     refused_by g.N.Names.id g.row.D g.row.E _ _ c.args.prepared c.in-NotListed.prepared c.args.ticket c.in-NotListed.ticket c.give_back-in-NotListed.result refusals.Esrch c.in-NotListed.ensures.0 c.give_back-in-NotListed.ensures
     (would_reply g.N.Names.id g.row.D c.args.from.now c.args.from_pass.now (calls.Depart c.args.prepared.number) replies.NotListed c.requires.from c.requires.from_seen c.in-NotListed.ensures.2)
 
-pub returns-in-NotListed-clause-told : goal.returns-in-NotListed-clause-told
-returns-in-NotListed-clause-told g c = (c.in-NotListed.ensures.1, c.in-NotListed.ensures.2)
+pub returns-in-NotListed-clause-logged : goal.returns-in-NotListed-clause-logged
+returns-in-NotListed-clause-logged g c = (c.in-NotListed.ensures.1, c.in-NotListed.ensures.2)
 
 pub returns-in-Stale-clause-from : goal.returns-in-Stale-clause-from
 returns-in-Stale-clause-from g c = stays_named g.N.Names.id g.row.D _ _ _ _ c.requires.from c.in-Stale.ensures.0.from
@@ -52,8 +52,8 @@ returns-in-Stale-clause-answered g c =
     refused_by g.N.Names.id g.row.D g.row.E _ _ c.args.prepared c.in-Stale.prepared c.args.ticket c.in-Stale.ticket c.give_back-in-Stale.result (refusals.Stale c.in-Stale.now) c.in-Stale.ensures.0 c.give_back-in-Stale.ensures
     (was_changed g.N.Names.id g.row.D c.args.from.now c.args.from_pass.now c.args.prepared c.in-Stale.now c.requires.from c.requires.from_seen c.in-Stale.ensures.2)
 
-pub returns-in-Stale-clause-told : goal.returns-in-Stale-clause-told
-returns-in-Stale-clause-told g c = (c.in-Stale.ensures.1, c.in-Stale.ensures.2)
+pub returns-in-Stale-clause-logged : goal.returns-in-Stale-clause-logged
+returns-in-Stale-clause-logged g c = (c.in-Stale.ensures.1, c.in-Stale.ensures.2)
 
 pub returns-in-Twice-clause-from : goal.returns-in-Twice-clause-from
 returns-in-Twice-clause-from g c = stays_named g.N.Names.id g.row.D _ _ _ _ c.requires.from c.in-Twice.ensures.0.from
@@ -66,8 +66,8 @@ returns-in-Twice-clause-answered g c =
     refused_by g.N.Names.id g.row.D g.row.E _ _ c.args.prepared c.in-Twice.prepared c.args.ticket c.in-Twice.ticket c.give_back-in-Twice.result refusals.Twice c.in-Twice.ensures.0 c.give_back-in-Twice.ensures
     (would_reply g.N.Names.id g.row.E c.args.to.now c.args.to_pass.now (arrival c.args.prepared) replies.Twice c.requires.to c.requires.to_seen c.in-Twice.ensures.3)
 
-pub returns-in-Twice-clause-told : goal.returns-in-Twice-clause-told
-returns-in-Twice-clause-told g c = (c.in-Twice.ensures.1, c.in-Twice.ensures.2, c.in-Twice.ensures.3)
+pub returns-in-Twice-clause-logged : goal.returns-in-Twice-clause-logged
+returns-in-Twice-clause-logged g c = (c.in-Twice.ensures.1, c.in-Twice.ensures.2, c.in-Twice.ensures.3)
 
 pub returns-in-Busy-clause-from : goal.returns-in-Busy-clause-from
 returns-in-Busy-clause-from g c = stays_named g.N.Names.id g.row.D _ _ _ _ c.requires.from c.in-Busy.ensures.0.from
@@ -80,5 +80,5 @@ returns-in-Busy-clause-answered g c =
     refused_by g.N.Names.id g.row.D g.row.E _ _ c.args.prepared c.in-Busy.prepared c.args.ticket c.in-Busy.ticket c.give_back-in-Busy.result (refusals.Busy c.in-Busy.seen) c.in-Busy.ensures.0 c.give_back-in-Busy.ensures
     (no_room g.N.Names.id g.row.E c.args.to.now c.args.to_pass.now c.args.prepared c.in-Busy.seen c.requires.to c.requires.to_seen c.in-Busy.ensures.3)
 
-pub returns-in-Busy-clause-told : goal.returns-in-Busy-clause-told
-returns-in-Busy-clause-told g c = (c.in-Busy.ensures.1, c.in-Busy.ensures.2, c.in-Busy.ensures.3)
+pub returns-in-Busy-clause-logged : goal.returns-in-Busy-clause-logged
+returns-in-Busy-clause-logged g c = (c.in-Busy.ensures.1, c.in-Busy.ensures.2, c.in-Busy.ensures.3)

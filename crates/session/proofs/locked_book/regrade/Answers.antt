@@ -10,7 +10,7 @@ returns-clause-replied g c =
     regraded g.N.Names.id g.row.D c.args.domain.now c.regrade.new.self c.args.pass.now c.regrade.new.pass c.args.number c.args.params c.regrade.result c.outcome_of.result.answer
     c.requires.named c.requires.seen c.regrade.ensures.entered c.regrade.ensures.full c.outcome_of.ensures.ok c.outcome_of.ensures.err
 
-pub returns-clause-told : goal.returns-clause-told
-returns-clause-told g c =
+pub returns-clause-logged : goal.returns-clause-logged
+returns-clause-logged g c =
     why_not c.args.domain.now c.regrade.new.self c.args.pass.now c.regrade.new.pass c.regrade.result c.outcome_of.result.answer
     c.regrade.ensures.full c.outcome_of.ensures.ok c.outcome_of.ensures.err

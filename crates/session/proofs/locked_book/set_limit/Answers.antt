@@ -17,13 +17,13 @@ returns-clause-limited g c =
     let p = c.args.pass.now in
     let q = c.limit.new.pass in
     let made = c.limit.result in
-    let told = c.outcome_of_limit.ensures in
-    subst (λ (a : Answer). IsLimitedBy id g.row.D p q c.args.blank c.args.limit a c.outcome_of_limit.result.blank) (sym told.answer)
-    (subst (λ (o : Option BlankView). IsLimitedBy id g.row.D p q c.args.blank c.args.limit (limit_answer made) o) (sym told.blank)
+    let logged = c.outcome_of_limit.ensures in
+    subst (λ (a : Answer). IsLimitedBy id g.row.D p q c.args.blank c.args.limit a c.outcome_of_limit.result.blank) (sym logged.answer)
+    (subst (λ (o : Option BlankView). IsLimitedBy id g.row.D p q c.args.blank c.args.limit (limit_answer made) o) (sym logged.blank)
     (limited id g.row.D b c.limit.new.self p q c.args.limit c.args.blank made c.requires.named c.requires.seen c.limit.ensures.answer))
 
-pub returns-clause-told : goal.returns-clause-told
-returns-clause-told g c =
+pub returns-clause-logged : goal.returns-clause-logged
+returns-clause-logged g c =
     subst (λ (a : Answer). IsWhyNotMade c.args.domain.now a) (sym c.outcome_of_limit.ensures.answer)
     (limit_why_not c.args.domain.now c.limit.new.self c.args.pass.now c.limit.new.pass c.args.limit c.args.blank c.limit.result c.limit.ensures.answer)
 

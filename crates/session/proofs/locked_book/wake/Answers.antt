@@ -11,7 +11,7 @@ returns-clause-replied c =
     replied c.args.domain.now c.wake.new.self c.args.pass.now c.wake.new.pass (calls.Wake c.args.number) c.wake.result c.outcome_of.result.answer
     c.wake.ensures.entered c.wake.ensures.full c.outcome_of.ensures.ok c.outcome_of.ensures.err
 
-pub returns-clause-told : goal.returns-clause-told
-returns-clause-told c =
+pub returns-clause-logged : goal.returns-clause-logged
+returns-clause-logged c =
     call_answered c.args.domain.now c.wake.new.self c.args.pass.now c.wake.new.pass (calls.Wake c.args.number) c.wake.result c.outcome_of.result.answer
     c.wake.ensures.entered c.wake.ensures.full c.outcome_of.ensures.ok c.outcome_of.ensures.err

@@ -29,7 +29,7 @@ loop-d-preserved c =
     let was = c.loop-d.books.items in
     let items = c.push_reserved.ensures.items in
     let b : BookView = c.in-Ok.book in
-    let told = c.in-Ok.ensures in
+    let logged = c.in-Ok.ensures in
     let spine : BookView → TableId = λ x. x.spine in
     record {
       count = ap length items ∙ length_push was b ∙ ap (λ (k : ℕ). k + 1) inv.count;
@@ -37,12 +37,12 @@ loop-d-preserved c =
       books = λ e x inside.
           subst (λ (bs : List BookView). e < length bs → IsBookOf gate e (slice_index o.domains.items e) o.limit o.clients o.history o.workers (get_or bs e x)) (sym items)
           (λ there. each_push (λ j y. IsBookOf gate j (slice_index o.domains.items j) o.limit o.clients o.history o.workers y) was d e b x inv.count there
-          told.book
+          logged.book
           (λ front. inv.books e x front))
           inside;
       hands =
           subst (λ (ss : List TableId). AreHands gate ss c.deal.new.hands.items) (sym (ap (map spine) items ∙ map_push spine was b))
-          (c.deal.ensures.dealt gate (map spine was) b.spine inv.hands told.passes);
+          (c.deal.ensures.dealt gate (map spine was) b.spine inv.hands logged.passes);
       some = c.deal.ensures.some ∙ inv.some;
       room = c.deal.ensures.room (length o.domains.items) inv.room;
     }

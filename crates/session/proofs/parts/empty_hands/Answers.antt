@@ -17,17 +17,17 @@ loop-preserved c =
     let passes = c.in_ok-passes.passes in
     let hand : Hand = record { passes = passes; blank = c.pop-blank.result } in
     let items = c.push_reserved.ensures.items in
-    let told = c.in_ok-passes.ensures in
+    let logged = c.in_ok-passes.ensures in
     record {
       some = ap (map is_some) items ∙ map_push is_some was (Some hand) ∙ ap (λ (bs : _). bs ++ true ∷ []) inv.some ∙ replicate_more n true;
       room = λ i x inside.
           subst (λ (hs : List (Option Hand)). i < length hs → IfSome (get_or hs i x) (λ h. c.args.domains ≤ h.passes.cap)) (sym items)
-          (λ there. some_push (λ j h. c.args.domains ≤ h.passes.cap) was n i (Some hand) x inv.count there (omega (arith, told.exact)) (λ front. inv.room i x front))
+          (λ there. some_push (λ j h. c.args.domains ≤ h.passes.cap) was n i (Some hand) x inv.count there (omega (arith, logged.exact)) (λ front. inv.room i x front))
           inside;
       hands = λ gate own i x inside.
           subst (λ (hs : List (Option Hand)). i < length hs → IfSome (get_or hs i x) (IsHand gate [] (i + 1))) (sym items)
           (λ there. some_push (λ j h. IsHand gate [] (j + 1) h) was n i (Some hand) x inv.count there
-          (record { passes = told.items; own = (All-pop (λ (b : BlankView). b.gate ≡ gate) c.loop.pool.items c.pop-blank.new.self.items c.pop-blank.result c.pop-blank.ensures.items (inv.pool gate own)).1 })
+          (record { passes = logged.items; own = (All-pop (λ (b : BlankView). b.gate ≡ gate) c.loop.pool.items c.pop-blank.new.self.items c.pop-blank.result c.pop-blank.ensures.items (inv.pool gate own)).1 })
           (λ front. inv.hands gate own i x front))
           inside;
       pool = λ gate own. (All-pop (λ (b : BlankView). b.gate ≡ gate) c.loop.pool.items c.pop-blank.new.self.items c.pop-blank.result c.pop-blank.ensures.items (inv.pool gate own)).0;

@@ -6,6 +6,6 @@ use Rattle.switch_text.proofs.event_merge.next_event.Goals as goal
 pub returns : goal.returns
 returns c =
     let runs = c.args.runs.now in
-    let told = c.args.told.now in
+    let logged = c.args.logged.now in
     let places = places_of c.args.merge.now in
-    subst (IsEventFound runs told places) (sym c.first_of.ensures) (IsEventFound-first_of runs told places c.next_told.result c.next.result c.requires.few_runs c.requires.few_told c.next_told.ensures c.next.ensures)
+    subst (IsEventFound runs logged places) (sym c.first_of.ensures) (IsEventFound-first_of runs logged places c.next_logged.result c.next.result c.requires.few_runs c.requires.few_logged c.next_logged.ensures c.next.ensures)

@@ -1,11 +1,11 @@
 use Rattle.std.proofs.Common.{◌≡◌, ℕ, suc, ◌+◌, ◌<◌, ◌≤◌, length, map, set, refl, subst, ◌∙◌, arith}
 use Rattle.std.proofs.lemmas.List.{length-map}
 use Rattle.switch_text.proofs.SliceFronts.{kept_set}
-use Rattle.switch_text.proofs.EventFronts.{HaveForgottenTold, told_forgotten_none, told_forgotten_more, told_forgotten_left}
+use Rattle.switch_text.proofs.EventFronts.{HaveForgottenLogged, logged_forgotten_none, logged_forgotten_more, logged_forgotten_left}
 use Rattle.switch_text.proofs.event_slices.forget_all.Goals as goal
 
 pub runs-init : goal.runs-init
-runs-init g c = record { forgotten = told_forgotten_none c.args.cut (map g.S.EventSlices.sliced c.args.slices.now); kept = refl }
+runs-init g c = record { forgotten = logged_forgotten_none c.args.cut (map g.S.EventSlices.sliced c.args.slices.now); kept = refl }
 
 pub runs-preserved : goal.runs-preserved
 runs-preserved g c =
@@ -17,8 +17,8 @@ runs-preserved g c =
     let inside : i < length xs = omega (arith, c.runs-test.true, c.runs.auto.slices) in
     let next : suc i ≡ i + 1 = omega arith in
     record {
-      forgotten = subst (λ (k : ℕ). HaveForgottenTold c.args.cut k (map f olds) (map f (set xs i y))) next
-          (told_forgotten_more f c.args.cut i olds xs y _ c.runs.invariant.forgotten inside c.forget_before.ensures.left);
+      forgotten = subst (λ (k : ℕ). HaveForgottenLogged c.args.cut k (map f olds) (map f (set xs i y))) next
+          (logged_forgotten_more f c.args.cut i olds xs y _ c.runs.invariant.forgotten inside c.forget_before.ensures.left);
       kept = kept_set g.S.EventSlices.kept xs i y _ c.forget_before.ensures.kept ∙ c.runs.invariant.kept;
     }
 
@@ -27,4 +27,4 @@ returns-clause-left g c =
     let f = g.S.EventSlices.sliced in
     let olds = c.args.slices.now in
     let done : length (map f olds) ≤ c.runs.slice-index = omega (arith, length-map olds f, c.runs-test.false) in
-    told_forgotten_left c.args.cut c.runs.slice-index (map f olds) (map f c.runs.slices) done c.runs.invariant.forgotten
+    logged_forgotten_left c.args.cut c.runs.slice-index (map f olds) (map f c.runs.slices) done c.runs.invariant.forgotten

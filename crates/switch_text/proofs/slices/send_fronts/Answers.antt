@@ -11,8 +11,8 @@ use Rattle.switch_text.specs.private.Sliced.{lines_in, runs_before}
 use Rattle.switch_text.proofs.SliceFronts.{fronts_of, fronts_long, fronts_entries, fronts_printable, fronts_named, no_items, Sends-nothing}
 use Rattle.switch_text.proofs.slices.send_fronts.Goals as goal
 
--- what is required has no names here: behind the two of the slices and the writer stand `few`, `named`,
--- `many`, `slots`, `texts`, `room` and `faults`, in this order
+-- what is required has no names here: after the two of the slices and the writer stand `few`,
+-- `named`, `many`, `slots`, `texts`, `room` and `faults`, in this order
 
 pub returns-then-is_empty-clause-ok : goal.returns-then-is_empty-clause-ok
 returns-then-is_empty-clause-ok g c =

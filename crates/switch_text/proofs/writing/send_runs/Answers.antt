@@ -12,7 +12,7 @@ use Rattle.switch_text.proofs.UnderWay.{sent_within, Sends-more, length_from_app
 use Rattle.switch_text.proofs.Sliced.{IsSending-start, IsSending-next, IsSending-stops, IsSending-ends, sent_fits}
 use Rattle.switch_text.proofs.writing.send_runs.Goals as goal
 
--- what is required has no names here: behind the writer's, `few`, `runs`, `named`, `many`, `slots`,
+-- what is required has no names here: after the writer's, `few`, `runs`, `named`, `many`, `slots`,
 -- `texts`, `room` and `faults`, in this order
 
 pub loop-next-init : goal.loop-next-init
@@ -61,7 +61,7 @@ loop-next-preserved g c =
       room = omega (arith, c.append_line.ensures.short, c.in-Ok.ensures.room);
       many = c.append_line.ensures.many;
       slots = c.append_line.ensures.slots;
-      texts = c.look_ahead.ensures;
+      texts = c.append_line.ensures.texts;
       faults = c.in-Ok.ensures.faults ∙ c.loop-next.invariant.faults;
     }
 
@@ -89,9 +89,3 @@ returns-in-Err-clause-stopped g c =
     let bound = c.loop-next.invariant.sending.bound in
     let lt = c.in-Err.ensures.err.some_left in
     omega (arith, bound, lt, c.together.ensures)
-
-pub look_ahead-requires-clause-index : goal.look_ahead-requires-clause-index
-look_ahead-requires-clause-index g c = omega (arith, c.in-Some.ensures.run.inside, c.requires.1.0)
-
-pub look_ahead-requires-clause-texts : goal.look_ahead-requires-clause-texts
-look_ahead-requires-clause-texts g c = c.append_line.ensures.texts

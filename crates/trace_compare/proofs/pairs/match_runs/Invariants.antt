@@ -21,8 +21,8 @@ decreases-loop-i l = (length l.ms - l.i) + (length l.rs - l.j)
 
 abbrev pub invariant-rest : goal.invariant-rest
 invariant-rest l = record {
-  told : l.partners.items ++ partners (fits l.within l.shift) (drop l.i l.ms) (drop l.j l.rs) ≡ partners (fits l.within l.shift) l.ms l.rs;
-  left : l.left.items ++ left_over (fits l.within l.shift) (drop l.i l.ms) (drop l.j l.rs) ≡ left_over (fits l.within l.shift) l.ms l.rs;
+  told : l.partners.items ++ partners (fits l.within l.fn.shift) (drop l.i l.ms) (drop l.j l.rs) ≡ partners (fits l.within l.fn.shift) l.ms l.rs;
+  left : l.left.items ++ left_over (fits l.within l.fn.shift) (drop l.i l.ms) (drop l.j l.rs) ≡ left_over (fits l.within l.fn.shift) l.ms l.rs;
   short : ArePartnersShort l.partners.items;
   left_short : All IsShort l.left.items;
   ended : l.i < length l.ms → length l.rs ≤ l.j;

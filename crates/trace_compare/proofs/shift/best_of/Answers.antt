@@ -1,6 +1,8 @@
 use Rattle.std.specs.Prelude.{sum_by}
 use Rattle.std.proofs.Common.{ℕ, get_or, refl}
+use Rattle.trace_compare.specs.declared.clock.ClockShift.{ClockShift}
 use Rattle.trace_compare.specs.declared.shift.Choice.{Choice}
+use Rattle.trace_compare.specs.Clocks.{no_shift}
 use Rattle.trace_compare.specs.Shift.{task_score}
 use Rattle.trace_compare.proofs.Choosing.{better_step, better_small, best_in_all}
 use Rattle.trace_compare.proofs.shift.best_of.Goals as goal
@@ -13,11 +15,12 @@ loop-shift-preserved c =
     let v = c.loop-shift.invariant in
     let xs = c.args.shifts.now in
     let i = c.loop-shift.shift-index in
-    let f : ℕ → ℕ = λ s. sum_by (task_score c.args.within c.args.share s) c.args.tasks.now in
-    let next : Choice = record { shift = get_or xs i 0; score = f (get_or xs i 0) } in
+    let f : ClockShift → ℕ = λ s. sum_by (task_score c.args.within c.args.share s) c.args.tasks.now in
+    let d = no_shift in
+    let next : Choice = record { shift = get_or xs i d; score = f (get_or xs i d) } in
     record {
-      best = better_step f xs i c.loop-shift.best next c.next_best-best.result c.loop-shift-test.true v.best refl refl c.next_best-best.ensures;
-      small = better_small c.loop-shift.best next c.next_best-best.result c.next_best-best.ensures v.small (c.requires.small i 0 c.loop-shift-test.true);
+      best = better_step f xs i d c.loop-shift.best next c.next_best-best.result c.loop-shift-test.true v.best refl refl c.next_best-best.ensures;
+      small = better_small c.loop-shift.best next c.next_best-best.result c.next_best-best.ensures v.small (c.requires.small i d c.loop-shift-test.true);
     }
 
 pub returns-clause-small : goal.returns-clause-small

@@ -16,7 +16,7 @@ returns-clause-asked g c =
     let whole : h ≡ record { number = c.args.number; ticket = h.ticket } = λ i. record { number = there i; ticket = h.ticket } in
     record {
       before = take place items;
-      behind = drop (suc place) items;
+      following = drop (suc place) items;
       was = h.ticket;
       becomes = c.ask-ticket.result.0;
       old_tickets = split_at items place h within ∙ ap (λ (x : Held). take place items ++ x ∷ drop (suc place) items) (sym c.remove-ticket.ensures.value ∙ whole);

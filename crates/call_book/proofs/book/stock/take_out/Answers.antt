@@ -13,7 +13,7 @@ returns-clause-taken c =
     let whole : h ≡ record { number = c.args.number; ticket = h.ticket } = λ i. record { number = there i; ticket = h.ticket } in
     record {
       before = take place items;
-      behind = drop (suc place) items;
+      following = drop (suc place) items;
       old_tickets = split_at items place h within ∙ ap (λ (x : Held). take place items ++ x ∷ drop (suc place) items) (sym c.remove-ticket.ensures.value ∙ whole);
       new_tickets = c.remove-ticket.ensures.items;
     }

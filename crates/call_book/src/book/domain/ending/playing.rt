@@ -3,7 +3,7 @@
 ghost use Rattle.std.specs.Prelude.{◌≡◌, ◌<◌, ◌≤◌, ◌↔◌, ◌+◌, [], drop, length, true, All, IfErr, OnOk, OnErr, IfOk, IsTrue};
 ghost use Rattle.domain_run.specs.declared.call.Call.TheVariants as Call;
 ghost use Rattle.domain_run.specs.declared.call.Reply.TheVariants as Reply;
-ghost use Rattle.domain_run.specs.Logged.{IsToldUntil, IsToldFrom};
+ghost use Rattle.domain_run.specs.LoggedRun.{IsLoggedUntil, IsLoggedFrom};
 ghost use Rattle.domain_run.specs.Passing.{without_front, without_switches};
 ghost use Rattle.domain_run.specs.Sound.{IsDomain};
 ghost use Rattle.call_book.specs.Playing.{PlayingIsAdvancing};
@@ -52,7 +52,7 @@ impl Model for PlayingBook {
       at = domain_in b.domain;
       left = b.ticks;
       logs = logs_in b.domain;
-      told = waits_in b.domain;
+      logged = waits_in b.domain;
     } };
 
     ghost invariant = { λ b. IsPlaying (record {
@@ -60,7 +60,7 @@ impl Model for PlayingBook {
       at = domain_in b.domain;
       left = b.ticks;
       logs = logs_in b.domain;
-      told = waits_in b.domain;
+      logged = waits_in b.domain;
     }) };
 }
 
@@ -91,7 +91,7 @@ impl EndingBook {
             workers,
             left,
             alloc,
-            heard,
+            streamed,
         } = self;
         // For the prover alone: a look at the state brings what every domain keeps.
         let _ = state.now();
@@ -116,7 +116,7 @@ impl EndingBook {
                 workers,
                 left,
                 alloc,
-                heard,
+                streamed,
             }),
         }
     }
@@ -134,7 +134,7 @@ impl EndingBook {
             workers: _,
             left: _,
             alloc: _,
-            heard: _,
+            streamed: _,
         } = self;
         // For the prover alone: dropped by a call, and not field by field.
         drop(state);
@@ -145,7 +145,7 @@ impl EndingBook {
 impl PlayingBook {
     ghost use Rattle.calls_text.specs.Limits.{IsCall};
     ghost use Rattle.call_book.specs.Book.{own_entries, state_of, IsBookHistory, IsPassOf, EntersAlone, IsRefusedFull};
-    ghost use Rattle.call_book.specs.Playing.{all_switches, all_told, switches_ahead, told_ahead, HasWholeRun, LeadsToRun, IsFurther, IsSweptBook};
+    ghost use Rattle.call_book.specs.Playing.{all_switches, all_logged, switches_ahead, logged_ahead, HasWholeRun, LeadsToRun, IsFurther, IsSweptBook};
 
     /// Enters an advance of `n` ticks, 1 to 60000000, of which none is made yet. Its reply is that
     /// all are: from here on the history is that of the whole advance. Takes no memory.
@@ -188,7 +188,7 @@ impl PlayingBook {
         ensures full { 0 < self.new.left → 0 < length self.new.at.switches }
         ensures some { self.old.at.switches ≡ [] → 0 < self.old.left
             → self.new.left < self.old.left }
-        ensures told { self.new.told ≡ [] }
+        ensures logged { self.new.logged ≡ [] }
     {
         self.ticks = self.domain.fill(self.ticks);
         self.ticks > 0
@@ -196,20 +196,20 @@ impl PlayingBook {
 
     /// As [`PlayingBook::fill`], but what happens is kept, if it is logged: it is added after what
     /// waits in the log, and no more ticks are made if the log has no room for what one event more
-    /// tells. If ticks are left, something waits in the buffer or in the log. What ends a tick at
-    /// the domain's time is told then, and what begins one at that time is still to be told. Takes
-    /// no memory.
-    pub fn fill_told(&mut self) -> bool
+    /// logs. If ticks are left, something waits in the buffer or in the log. What ends a tick at
+    /// the domain's time is logged then, and what begins one at that time is still to be logged.
+    /// Takes no memory.
+    pub fn fill_logged(&mut self) -> bool
         ensures further { IsFurther self.old self.new }
         ensures switches { all_switches self.new ≡ all_switches self.old }
-        ensures told { all_told self.new ≡ all_told self.old }
+        ensures logged { all_logged self.new ≡ all_logged self.old }
         ensures later { All (λ s. self.new.at.time ≤ s.time) (switches_ahead self.new) }
-        ensures untold { All (IsToldFrom self.new.at.time) (told_ahead self.new) }
+        ensures unlogged { All (IsLoggedFrom self.new.at.time) (logged_ahead self.new) }
         ensures more { IsTrue result ↔ (0 < self.new.left) }
         ensures full { 0 < self.new.left
-            → 0 < length self.new.at.switches + length self.new.told }
+            → 0 < length self.new.at.switches + length self.new.logged }
     {
-        self.ticks = self.domain.fill_told(self.ticks);
+        self.ticks = self.domain.fill_logged(self.ticks);
         self.ticks > 0
     }
 
@@ -222,10 +222,10 @@ impl PlayingBook {
     }
 
     /// Forgets the first `count` of what waits in the log, or all if it is less. Takes no memory.
-    pub fn forget_told(&mut self, count: usize)
-        ensures { self.new ≡ record self.old { told = drop count self.old.told } }
+    pub fn forget_logged(&mut self, count: usize)
+        ensures { self.new ≡ record self.old { logged = drop count self.old.logged } }
     {
-        self.domain.forget_told(count);
+        self.domain.forget_logged(count);
     }
 
     /// Makes all ticks that are left. Neither the switches that wait nor those of these ticks are
@@ -266,12 +266,12 @@ impl PlayingBook {
         self.domain.state()
     }
 
-    /// What happened and waits in the log; it is told by now, and no cut is in it.
-    pub fn told(&self) -> &[Happened]
-        ensures told { result.now ≡ self.now.told }
-        ensures until { All (IsToldUntil self.now.at.time) self.now.told }
+    /// What happened and waits in the log; it is logged by now, and no cut is in it.
+    pub fn logged(&self) -> &[Happened]
+        ensures logged { result.now ≡ self.now.logged }
+        ensures until { All (IsLoggedUntil self.now.at.time) self.now.logged }
     {
-        self.domain.told()
+        self.domain.logged()
     }
 
     /// How many ticks are still to be made.
@@ -307,7 +307,7 @@ impl PlayingBook {
         requires gate { gate.now ≡ self.book.gate }
         requires made { self.left ≡ 0 }
         ensures swept { IsSweptBook self.book result.book }
-        ensures forgotten { result.heard ≡ true }
+        ensures forgotten { result.streamed ≡ true }
     {
         let PlayingBook {
             cpus,
@@ -332,7 +332,7 @@ impl PlayingBook {
             workers,
             left,
             alloc,
-            heard: true,
+            streamed: true,
         }
     }
 

@@ -2,7 +2,7 @@ use Rattle.std.proofs.Common.{◌≡◌, ◌∙◌, ◌∷◌, ◌++◌, [], ℕ
 use Rattle.calls_text.specs.SectionView.{SectionView}
 use Rattle.calls_text.specs.declared.section.Entry.{Entry}
 use Rattle.calls_text.specs.Reader.{ReaderView, IsWithin, IsNextEntry, section_with_entries}
-use Rattle.calls_text.proofs.Readers.{behind_none}
+use Rattle.calls_text.proofs.Readers.{after_none}
 use Rattle.calls_text.proofs.calls_reader.CallsReader.entries.Goals as goal
 
 -- a term in place of a search, which takes seconds
@@ -21,4 +21,4 @@ entries-preserved c = record {
 
 pub returns-in-Ok-None-clause-next : goal.returns-in-Ok-None-clause-next
 returns-in-Ok-None-clause-next c = λ text before s w.
-    behind_none text before (section_with_entries s c.entries.entries.items) c.next_entry.new.self c.in-Ok-None.field-0 c.in-Ok-None.field-0-is (c.in-Ok-None.ensures.next text before (section_with_entries s c.entries.entries.items) (c.entries.invariant.so_far text before s w))
+    after_none text before (section_with_entries s c.entries.entries.items) c.next_entry.new.self c.in-Ok-None.field-0 c.in-Ok-None.field-0-is (c.in-Ok-None.ensures.next text before (section_with_entries s c.entries.entries.items) (c.entries.invariant.so_far text before s w))

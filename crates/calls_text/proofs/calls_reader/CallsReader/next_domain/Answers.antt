@@ -1,7 +1,7 @@
 use Rattle.std.proofs.Common.{◌∙◌, ◌+◌, ◌-◌, ◌≡◌, length, ap, sym, subst, refl, arith}
 use Rattle.std.proofs.lemmas.List.{get_or-replicate}
 use Rattle.calls_text.specs.declared.fault.PartFault.TheVariants.{Bad}
-use Rattle.calls_text.specs.Reader.{ReaderView, IsBehind, empty_section}
+use Rattle.calls_text.specs.Reader.{ReaderView, IsAfter, empty_section}
 use Rattle.calls_text.specs.private.Reading.{LacksDomain}
 use Rattle.calls_text.proofs.Entries.{starts}
 use Rattle.calls_text.proofs.Lines.{domain_takes}
@@ -11,7 +11,7 @@ use Rattle.calls_text.proofs.calls_reader.CallsReader.next_domain.Goals as goal
 
 pub returns-then-self-eq-MOST_SECTIONS-clause-next : goal.returns-then-self-eq-MOST_SECTIONS-clause-next
 returns-then-self-eq-MOST_SECTIONS-clause-next c = λ text done b.
-    let own : IsBehind text done (view_of c.self.inside) = subst (IsBehind text done) (sym c.self.view_is) b in
+    let own : IsAfter text done (view_of c.self.inside) = subst (IsAfter text done) (sym c.self.view_is) b in
     let count : c.self.inside.sections ≡ length done = own.count in
     c.end.ensures.next text done b (λ few. absurd (omega (arith, few, count, c.if-self-eq-MOST_SECTIONS.true)))
 
@@ -28,7 +28,7 @@ returns-in-Err-Bad-clause-next c = λ text done b.
 pub returns-in-Ok-clause-next : goal.returns-in-Ok-clause-next
 returns-in-Ok-clause-next c = λ text done b.
     let was = c.self.inside in
-    let own : IsBehind text done (view_of was) = subst (IsBehind text done) (sym c.self.view_is) b in
+    let own : IsAfter text done (view_of was) = subst (IsAfter text done) (sym c.self.view_is) b in
     let line = c.in-Some.line.now in
     let after = c.in-Some.entries.now in
     let cpus = c.in-Ok.cpus in

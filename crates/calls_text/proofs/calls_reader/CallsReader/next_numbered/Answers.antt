@@ -4,25 +4,25 @@ use Rattle.calls_text.specs.ReadSoFar.{Counts}
 use Rattle.calls_text.specs.Reader.{IsWithin}
 use Rattle.calls_text.specs.private.Numbered.{numbered_entry}
 use Rattle.calls_text.proofs.Entries.{entry_takes, one_more, counts_more, lacks_unfinished, lacks_bad}
-use Rattle.calls_text.proofs.Readers.{view_of, behind_from, cut_less, found_more}
+use Rattle.calls_text.proofs.Readers.{view_of, after_from, cut_less, found_more}
 use Rattle.calls_text.proofs.calls_reader.CallsReader.next_numbered.Goals as goal
 
 pub returns-then-self-eq-MOST_CALLS-clause-next : goal.returns-then-self-eq-MOST_CALLS-clause-next
 returns-then-self-eq-MOST_CALLS-clause-next c = λ text before s w.
     let own : IsWithin text before s (view_of c.self.inside) = subst (IsWithin text before s) (sym c.self.view_is) w in
     let calls : c.self.inside.calls ≡ length s.entries = own.calls in
-    rw (← c.self.view_is) (behind_from text before s (view_of c.self.inside) own (λ few. absurd (omega (arith, few, calls, c.if-self-eq-MOST_CALLS.true))))
+    rw (← c.self.view_is) (after_from text before s (view_of c.self.inside) own (λ few. absurd (omega (arith, few, calls, c.if-self-eq-MOST_CALLS.true))))
 
 pub returns-in_default-clause-next : goal.returns-in_default-clause-next
 returns-in_default-clause-next c = λ text before s w.
     let own : IsWithin text before s (view_of c.self.inside) = subst (IsWithin text before s) (sym c.self.view_is) w in
-    rw (← c.self.view_is) (behind_from text before s (view_of c.self.inside) own (λ few. lacks_unfinished c.self.inside.later c.self.inside.rest.now (sym c.in_default.ensures)))
+    rw (← c.self.view_is) (after_from text before s (view_of c.self.inside) own (λ few. lacks_unfinished c.self.inside.later c.self.inside.rest.now (sym c.in_default.ensures)))
 
 pub returns-in-Err-Bad-clause-next : goal.returns-in-Err-Bad-clause-next
 returns-in-Err-Bad-clause-next c = λ text before s w.
     let was = c.self.inside in
     let own : IsWithin text before s (view_of was) = subst (IsWithin text before s) (sym c.self.view_is) w in
-    let b = behind_from text before s (view_of was) own (λ few. lacks_bad was.later was.rest.now c.in-Some.line.now c.in-Some.after.now (sym c.in-Some.ensures) (rw c.in-Err-Bad.field-0-is at c.in-Err-Bad.ensures.fault)) in
+    let b = after_from text before s (view_of was) own (λ few. lacks_bad was.later was.rest.now c.in-Some.line.now c.in-Some.after.now (sym c.in-Some.ensures) (rw c.in-Err-Bad.field-0-is at c.in-Err-Bad.ensures.fault)) in
     record { body = b.body; header = b.header; so_far = b.so_far; found = b.found; few = b.few; count = b.count; lines = b.lines; full = b.full }
 
 pub returns-in-Ok-clause-entry : goal.returns-in-Ok-clause-entry

@@ -13,8 +13,8 @@ returns-in_default-header_of-clause-fault c = other_header c.args.text.now c.in-
 pub invariant_of-result : goal.invariant_of-result
 invariant_of-result c = record { most = omega arith; few = omega arith; counted = omega arith; fewer = none_made }
 
-pub returns-clause-behind : goal.returns-clause-behind
-returns-clause-behind c =
+pub returns-clause-following : goal.returns-clause-following
+returns-clause-following c =
     let later = c.in-Some-header_of.later in
     record {
       body = c.in-Some.rest.now;

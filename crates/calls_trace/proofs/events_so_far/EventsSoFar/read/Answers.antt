@@ -16,4 +16,4 @@ put-requires-clause-inside c =
 pub returns-in-Ok-clause-read : goal.returns-in-Ok-clause-read
 returns-in-Ok-clause-read c = λ text done w so_far.
     let m = c.in_ok-kept.ensures.read text done w in
-    record { done = done ++ m.section ∷ []; behind = m.behind; playing = c.in-Ok.ensures done m.section so_far m.is m.same }
+    record { done = done ++ m.section ∷ []; following = m.following; playing = c.in-Ok.ensures done m.section so_far m.is m.same }

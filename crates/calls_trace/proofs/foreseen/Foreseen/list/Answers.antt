@@ -2,7 +2,7 @@ use Rattle.std.proofs.Common.{ℕ, ◌<◌, List, refl, sym, subst}
 use Rattle.std.specs.Prelude.{nat_eq, All, Contains, IfSome, Option}
 use Rattle.std.proofs.lemmas.Bool.{eqb-true}
 use Rattle.indexmap.proofs.CallerLemmas.{Contains-insert_key}
-use Rattle.calls_trace.proofs.Foretold.{inserted_keeps, inserted_small, one_listed}
+use Rattle.calls_trace.proofs.Forelogged.{inserted_keeps, inserted_small, one_listed}
 use Rattle.calls_trace.proofs.foreseen.Foreseen.list.Goals as goal
 
 pub returns-in-Ok-clause-foreseen : goal.returns-in-Ok-clause-foreseen

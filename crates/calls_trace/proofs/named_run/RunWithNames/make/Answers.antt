@@ -11,8 +11,8 @@ returns-in-Advance-clause-names c = grind (arith, common_steps)
 pub returns-in-Advance-clause-given : goal.returns-in-Advance-clause-given
 returns-in-Advance-clause-given c = grind (arith, common_steps)
 
-pub returns-in-Advance-clause-told : goal.returns-in-Advance-clause-told
-returns-in-Advance-clause-told c = grind (arith, common_steps)
+pub returns-in-Advance-clause-logged : goal.returns-in-Advance-clause-logged
+returns-in-Advance-clause-logged c = grind (arith, common_steps)
 
 pub returns-in-Advance-clause-named : goal.returns-in-Advance-clause-named
 returns-in-Advance-clause-named c = grind (arith, common_steps)
@@ -29,8 +29,8 @@ returns-in-Regrade-clause-names c = grind (arith, common_steps)
 pub returns-in-Regrade-clause-given : goal.returns-in-Regrade-clause-given
 returns-in-Regrade-clause-given c = grind (arith, common_steps)
 
-pub returns-in-Regrade-clause-told : goal.returns-in-Regrade-clause-told
-returns-in-Regrade-clause-told c = grind (arith, common_steps)
+pub returns-in-Regrade-clause-logged : goal.returns-in-Regrade-clause-logged
+returns-in-Regrade-clause-logged c = grind (arith, common_steps)
 
 pub returns-in-Regrade-clause-named : goal.returns-in-Regrade-clause-named
 returns-in-Regrade-clause-named c = grind (arith, common_steps)
@@ -47,8 +47,8 @@ returns-in-Wake-clause-names c = grind (arith, common_steps)
 pub returns-in-Wake-clause-given : goal.returns-in-Wake-clause-given
 returns-in-Wake-clause-given c = grind (arith, common_steps)
 
-pub returns-in-Wake-clause-told : goal.returns-in-Wake-clause-told
-returns-in-Wake-clause-told c = grind (arith, common_steps)
+pub returns-in-Wake-clause-logged : goal.returns-in-Wake-clause-logged
+returns-in-Wake-clause-logged c = grind (arith, common_steps)
 
 pub returns-in-Wake-clause-named : goal.returns-in-Wake-clause-named
 returns-in-Wake-clause-named c = grind (arith, common_steps)
@@ -65,8 +65,8 @@ returns-in-Leave-clause-names c = grind (arith, common_steps)
 pub returns-in-Leave-clause-given : goal.returns-in-Leave-clause-given
 returns-in-Leave-clause-given c = grind (arith, common_steps)
 
-pub returns-in-Leave-clause-told : goal.returns-in-Leave-clause-told
-returns-in-Leave-clause-told c = grind (arith, common_steps)
+pub returns-in-Leave-clause-logged : goal.returns-in-Leave-clause-logged
+returns-in-Leave-clause-logged c = grind (arith, common_steps)
 
 pub returns-in-Leave-clause-named : goal.returns-in-Leave-clause-named
 returns-in-Leave-clause-named c = grind (arith, common_steps)
@@ -83,8 +83,8 @@ returns-in-Limit-clause-names c = grind (arith, common_steps)
 pub returns-in-Limit-clause-given : goal.returns-in-Limit-clause-given
 returns-in-Limit-clause-given c = grind (arith, common_steps)
 
-pub returns-in-Limit-clause-told : goal.returns-in-Limit-clause-told
-returns-in-Limit-clause-told c = grind (arith, common_steps)
+pub returns-in-Limit-clause-logged : goal.returns-in-Limit-clause-logged
+returns-in-Limit-clause-logged c = grind (arith, common_steps)
 
 pub returns-in-Limit-clause-named : goal.returns-in-Limit-clause-named
 returns-in-Limit-clause-named c = grind (arith, common_steps)
@@ -101,8 +101,8 @@ returns-in-Depart-clause-names c = grind (arith, common_steps)
 pub returns-in-Depart-clause-given : goal.returns-in-Depart-clause-given
 returns-in-Depart-clause-given c = grind (arith, common_steps)
 
-pub returns-in-Depart-clause-told : goal.returns-in-Depart-clause-told
-returns-in-Depart-clause-told c = grind (arith, common_steps)
+pub returns-in-Depart-clause-logged : goal.returns-in-Depart-clause-logged
+returns-in-Depart-clause-logged c = grind (arith, common_steps)
 
 pub returns-in-Depart-clause-named : goal.returns-in-Depart-clause-named
 returns-in-Depart-clause-named c = grind (arith, common_steps)
@@ -110,14 +110,14 @@ returns-in-Depart-clause-named c = grind (arith, common_steps)
 pub returns-in-Depart-clause-time : goal.returns-in-Depart-clause-time
 returns-in-Depart-clause-time c = grind (arith, common_steps)
 
-pub returns-in-Admit-clause-told : goal.returns-in-Admit-clause-told
-returns-in-Admit-clause-told c = grind (arith, common_steps)
+pub returns-in-Admit-clause-logged : goal.returns-in-Admit-clause-logged
+returns-in-Admit-clause-logged c = grind (arith, common_steps)
 
 pub returns-in-Admit-clause-time : goal.returns-in-Admit-clause-time
 returns-in-Admit-clause-time c = grind (arith, common_steps)
 
-pub returns-in-Arrive-clause-told : goal.returns-in-Arrive-clause-told
-returns-in-Arrive-clause-told c = grind (arith, common_steps)
+pub returns-in-Arrive-clause-logged : goal.returns-in-Arrive-clause-logged
+returns-in-Arrive-clause-logged c = grind (arith, common_steps)
 
 pub returns-in-Arrive-clause-time : goal.returns-in-Arrive-clause-time
 returns-in-Arrive-clause-time c = grind (arith, common_steps)

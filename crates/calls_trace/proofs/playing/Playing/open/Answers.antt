@@ -9,7 +9,7 @@ use Rattle.domain_run.specs.Switch.{Switch}
 use Rattle.calls_text.specs.Limits.{IsCall}
 use Rattle.switch_text.specs.Names.{name_of_task}
 use Rattle.calls_trace.specs.Replay.{names_of}
-use Rattle.calls_trace.specs.Told.{domain_of, names_in}
+use Rattle.calls_trace.specs.DomainEvents.{domain_of, names_in}
 use Rattle.calls_trace.specs.private.Calls.{IsCallReady}
 use Rattle.calls_trace.specs.private.Kept.{room_of}
 use Rattle.calls_trace.proofs.Ready.{call_ready, kept_cpus}

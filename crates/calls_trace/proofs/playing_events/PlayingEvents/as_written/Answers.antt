@@ -8,4 +8,4 @@ use Rattle.calls_trace.proofs.playing_events.PlayingEvents.as_written.Goals as g
 pub returns-clause-names : goal.returns-clause-names
 returns-clause-names c =
     let p = c.args.self.now in
-    subst (All (SameNames (name_of_task p.run.names) (names_to_give p))) (sym c.switches.ensures.switches) (same_names p.run.logged.domain (calls_to_make p) (name_of_task p.run.names) c.switches.ensures.domain)
+    subst (All (SameNames (name_of_task p.run.names) (names_to_give p))) (sym c.switches.ensures.switches) (same_names p.run.logged_run.domain (calls_to_make p) (name_of_task p.run.names) c.switches.ensures.domain)

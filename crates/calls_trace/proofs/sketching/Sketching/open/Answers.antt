@@ -1,17 +1,17 @@
 use Rattle.std.proofs.Common.{refl, ap}
 use Rattle.chart_pieces.specs.Drawing.{DrawingView}
-use Rattle.calls_trace.specs.declared.hearing.Hearing.{Hearing}
-use Rattle.calls_trace.proofs.HeardCalls.{opened_before, opened_leads}
+use Rattle.calls_trace.specs.declared.streaming.Streaming.{Streaming}
+use Rattle.calls_trace.proofs.StreamedCalls.{opened_before, opened_leads}
 use Rattle.calls_trace.proofs.sketching.Sketching.open.Goals as goal
 
 pub returns : goal.returns
 returns c =
     let f = c.args.foreseen in
     let r = c.in-Ok-open.ensures in
-    let heard = ap (λ (d : DrawingView). d.heard) c.in-Ok.ensures in
-    let h : Hearing = record { run = c.in-Ok-open.run'; accounting = c.in-Ok.drawing.heard; calls = c.into_left.result } in
+    let streamed = ap (λ (d : DrawingView). d.streamed) c.in-Ok.ensures in
+    let h : Streaming = record { run = c.in-Ok-open.run'; accounting = c.in-Ok.drawing.streamed; calls = c.into_left.result } in
     record {
-      before = opened_before h c.args.cpus c.args.limit f c.requires.foreseen c.requires.few r.state r.wanted (r.untold refl) heard c.into_left.ensures;
-      leads = opened_leads h c.args.cpus c.args.limit f r.state r.names r.given (r.untold refl) heard c.into_left.ensures;
-      asked = ap (λ (d : DrawingView). record { window = d.window; tasks = d.heard.tasks; numbers = f.numbers.keys }) c.in-Ok.ensures;
+      before = opened_before h c.args.cpus c.args.limit f c.requires.foreseen c.requires.few r.state r.wanted (r.unlogged refl) streamed c.into_left.ensures;
+      leads = opened_leads h c.args.cpus c.args.limit f r.state r.names r.given (r.unlogged refl) streamed c.into_left.ensures;
+      asked = ap (λ (d : DrawingView). record { window = d.window; tasks = d.streamed.tasks; numbers = f.numbers.keys }) c.in-Ok.ensures;
     }

@@ -1,12 +1,12 @@
 use Rattle.std.proofs.Common.{◌≡◌, ℕ, ◌<◌, List, [], length, sym, ap, subst, ◌∙◌}
 use Rattle.std.specs.Prelude.{All, Contains}
 use Rattle.std.proofs.lemmas.List.{length-map}
-use Rattle.run_figures.specs.Accounting.{heard_run}
+use Rattle.run_figures.specs.Accounting.{streamed_run}
 use Rattle.chart_pieces.specs.declared.window.Window.{Window}
 use Rattle.chart_pieces.specs.Laws.{AreSeen}
 use Rattle.chart_pieces.specs.Rows.{row_of}
-use Rattle.calls_trace.specs.private.Hearing.{led_to}
-use Rattle.calls_trace.specs.private.Sketched.{heard_as, sketch_led}
+use Rattle.calls_trace.specs.private.Streaming.{led_to}
+use Rattle.calls_trace.specs.private.Sketched.{streamed_as, sketch_led}
 use Rattle.calls_trace.proofs.Sketches.{rows_of_numbers, sketch_is}
 use Rattle.calls_trace.proofs.sketching.Sketching.sketched.Goals as goal
 
@@ -18,10 +18,10 @@ places_in-requires-clause-among c =
 pub of-requires-clause-inside : goal.of-requires-clause-inside
 of-requires-clause-inside c =
     let s = c.args.self in
-    let a = s.drawing.heard in
+    let a = s.drawing.streamed in
     let keys = s.numbers.keys in
     let rows = c.in-Ok-rows.rows.items in
-    let long : length rows ≡ length keys = ap length (rows_of_numbers s.drawing.window a keys rows c.requires.numbers c.in-Ok-rows.ensures.rows) ∙ length-map keys (row_of s.drawing.window (heard_run a [])) in
+    let long : length rows ≡ length keys = ap length (rows_of_numbers s.drawing.window a keys rows c.requires.numbers c.in-Ok-rows.ensures.rows) ∙ length-map keys (row_of s.drawing.window (streamed_run a [])) in
     subst (λ (n : ℕ). All (λ i. i < n) c.in-Ok.places.items) (sym long) c.in-Ok.ensures.inside
 
 pub of-requires-clause-seen : goal.of-requires-clause-seen
@@ -33,5 +33,5 @@ returns-in-Ok-rows-clause-drawn c =
     let s = c.args.self in
     let w = s.drawing.window in
     c.of.ensures.drawn
-    ∙ sketch_is w (heard_as s) s.numbers.keys c.in-Ok.places.items c.in-Ok-rows.rows.items c.requires.calls c.requires.log c.requires.bare c.requires.time c.requires.numbers c.in-Ok.ensures.rows c.in-Ok-rows.ensures.rows
-    ∙ ap (λ (x : Window). sketch_led x (led_to (heard_as s))) c.requires.window
+    ∙ sketch_is w (streamed_as s) s.numbers.keys c.in-Ok.places.items c.in-Ok-rows.rows.items c.requires.calls c.requires.log c.requires.bare c.requires.time c.requires.numbers c.in-Ok.ensures.rows c.in-Ok-rows.ensures.rows
+    ∙ ap (λ (x : Window). sketch_led x (led_to (streamed_as s))) c.requires.window

@@ -2,7 +2,7 @@ use Rattle.std.proofs.Common.{map, sym, ap, ◌∙◌}
 use Rattle.run_figures.specs.declared.run.Admitted.{Admitted}
 use Rattle.chart_pieces.specs.private.Lines.{line_without_bars}
 use Rattle.chart_pieces.proofs.Moments.{map-map}
-use Rattle.chart_pieces.proofs.Hearing.{nothing_drawn}
+use Rattle.chart_pieces.proofs.Streaming.{nothing_drawn}
 use Rattle.chart_pieces.proofs.drawing.Drawing.open.Goals as goal
 
 pub invariant_of-result : goal.invariant_of-result

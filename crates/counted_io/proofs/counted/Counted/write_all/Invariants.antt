@@ -1,5 +1,6 @@
 use Rattle.std.proofs.Common.{length, take, ◌-◌, ◌≡◌, ◌≤◌}
 use Rattle.std.specs.Io.KnownBytes.{Appends}
+use Rattle.counted_io.specs.Sides.{port_calls}
 use Rattle.counted_io.proofs.Asked.{AreWrites}
 use Rattle.counted_io.proofs.counted.Counted.write_all.Given as goal
 
@@ -9,7 +10,7 @@ invariant-loop-at g l = record {
   within : l.at ≤ length l.bytes;
   faults : l.self.faults ≡ l.initial.self.faults;
   empty : length l.bytes ≡ 0 → l.self ≡ l.initial.self;
-  asked : AreWrites l.initial.self.port.calls l.self.port.calls (length l.bytes) l.at;
+  asked : AreWrites (port_calls l.initial.self) (port_calls l.self) (length l.bytes) l.at;
 }
 
 abbrev pub decreases-loop-at : goal.decreases-loop-at

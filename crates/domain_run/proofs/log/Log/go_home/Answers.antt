@@ -3,7 +3,7 @@ use Rattle.std.proofs.lemmas.List.{length-map}
 use Rattle.domain_run.specs.declared.happened.Happened.{Happened}
 use Rattle.domain_run.specs.Happened.{in_order, with_its_cpu}
 use Rattle.domain_run.specs.Log.{LogView}
-use Rattle.domain_run.proofs.ToldSorted.{length-in_order}
+use Rattle.domain_run.proofs.LoggedSorted.{length-in_order}
 use Rattle.domain_run.proofs.Logging.{written_from}
 use Rattle.domain_run.proofs.log.Log.go_home.Goals as goal
 
@@ -13,4 +13,4 @@ returns-then-from-len-clause-home c base others len is apart =
     let d = c.deref_mut in
     let f = with_its_cpu c.args.places.now in
     let keeps : (hs : List Happened) → length (in_order (map f hs)) ≡ length hs = λ hs. length-in_order (map f hs) ∙ length-map hs f in
-    written_from (λ hs. in_order (map f hs)) keeps c.args.from v.len v.items d.result.now c.all_home_in_order.new.told d.ensures.value d.ensures.len c.all_home_in_order.ensures base others len (ap (λ (l : LogView). l.happened) c.self.view_is ∙ is) apart
+    written_from (λ hs. in_order (map f hs)) keeps c.args.from v.len v.items d.result.now c.all_home_in_order.new.logged d.ensures.value d.ensures.len c.all_home_in_order.ensures base others len (ap (λ (l : LogView). l.happened) c.self.view_is ∙ is) apart

@@ -5,4 +5,4 @@ use Rattle.domain_run.proofs.log.homing.all_home.Goals as goal
 pub loop-one-preserved : goal.loop-one-preserved
 loop-one-preserved c =
     let l = c.loop-one in
-    map_written (with_its_cpu c.args.places.now) c.args.told.now l.told l.one-index _ _ c.loop-one-test.true l.auto.told l.invariant c.at_home.ensures
+    map_written (with_its_cpu c.args.places.now) c.args.logged.now l.logged l.one-index _ _ c.loop-one-test.true l.auto.logged l.invariant c.at_home.ensures

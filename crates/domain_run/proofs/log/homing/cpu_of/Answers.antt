@@ -6,10 +6,10 @@ use Rattle.domain_run.proofs.AtHome.{listed_at}
 use Rattle.domain_run.proofs.Due.{some_task}
 use Rattle.domain_run.proofs.log.homing.cpu_of.Goals as goal
 
-pub returns-then-stands_on-clause-cpu : goal.returns-then-stands_on-clause-cpu
-returns-then-stands_on-clause-cpu c =
+pub returns-then-has_cpu_on-clause-cpu : goal.returns-then-has_cpu_on-clause-cpu
+returns-then-has_cpu_on-clause-cpu c =
     let places = c.args.places.now in
-    let tasks = c.args.roster.now.tasks in
+    let tasks = c.args.task_table.now.tasks in
     let p = c.in-Some.place in
     let there = c.in-Some.ensures.there in
     let d = some_task tasks p there.within in
@@ -17,16 +17,16 @@ returns-then-stands_on-clause-cpu c =
     let at = listed_at places tasks c.args.number p t c.requires.apart c.requires.homed there (λ e. get_or_default tasks p d e there.within) in
     let cpu = c.cpu_at-cpu.ensures.cpu d in
     ap (λ n. Some n) cpu
-    ∙ sym (at ∙ ap (λ n. cond (is_task c.args.number (occupant places n)) (Some t.cpu) None) (sym cpu) ∙ ap (λ b. cond b (Some t.cpu) None) (sym c.stands_on.ensures ∙ c.if-stands_on.true))
+    ∙ sym (at ∙ ap (λ n. cond (is_task c.args.number (occupant places n)) (Some t.cpu) None) (sym cpu) ∙ ap (λ b. cond b (Some t.cpu) None) (sym c.has_cpu_on.ensures ∙ c.if-has_cpu_on.true))
 
-pub returns-else-stands_on-clause-cpu : goal.returns-else-stands_on-clause-cpu
-returns-else-stands_on-clause-cpu c =
+pub returns-else-has_cpu_on-clause-cpu : goal.returns-else-has_cpu_on-clause-cpu
+returns-else-has_cpu_on-clause-cpu c =
     let places = c.args.places.now in
-    let tasks = c.args.roster.now.tasks in
+    let tasks = c.args.task_table.now.tasks in
     let p = c.in-Some.place in
     let there = c.in-Some.ensures.there in
     let d = some_task tasks p there.within in
     let t = get_or tasks p d in
     let at = listed_at places tasks c.args.number p t c.requires.apart c.requires.homed there (λ e. get_or_default tasks p d e there.within) in
     let cpu = c.cpu_at-cpu.ensures.cpu d in
-    sym (at ∙ ap (λ n. cond (is_task c.args.number (occupant places n)) (Some t.cpu) None) (sym cpu) ∙ ap (λ b. cond b (Some t.cpu) None) (sym c.stands_on.ensures ∙ c.if-stands_on.false))
+    sym (at ∙ ap (λ n. cond (is_task c.args.number (occupant places n)) (Some t.cpu) None) (sym cpu) ∙ ap (λ b. cond b (Some t.cpu) None) (sym c.has_cpu_on.ensures ∙ c.if-has_cpu_on.false))

@@ -4,9 +4,9 @@ use Rattle.domain_run.specs.Jump.{under_way, running_numbers}
 use Rattle.domain_run.specs.Sound.{IsDomain, IsPlacement}
 use Rattle.domain_run.proofs.Ticking.{middle}
 use Rattle.domain_run.proofs.Paying.{under_way_is}
-use Rattle.domain_run.specs.Happened.{told_by_beginning}
-use Rattle.domain_run.specs.Log.{Tells}
-use Rattle.domain_run.specs.private.Telling.{told_at_home}
+use Rattle.domain_run.specs.Happened.{logged_by_beginning}
+use Rattle.domain_run.specs.Log.{HasLogged}
+use Rattle.domain_run.specs.private.TransitionLog.{logged_at_home}
 use Rattle.std.proofs.lemmas.Grind.{common_steps}
 use Rattle.domain_run.proofs.state.State.begin_in_room.Goals as goal
 
@@ -16,9 +16,9 @@ begin-changed-requires-clause-cpus c = c.self.invariant.domain.steady.wide ∙ s
 pub invariant_of-self : goal.invariant_of-self
 invariant_of-self c =
     let s = c.self.inside in
-    let d : Domain = record { cpus = s.cpus; limit = s.limit; time = s.time; tasks = s.roster.tasks; used = s.used; curr = s.roster.places; switches = s.switches.items } in
+    let d : Domain = record { cpus = s.cpus; limit = s.limit; time = s.time; tasks = s.task_table.tasks; used = s.used; curr = s.task_table.places; switches = s.switches.items } in
     let b = c.begin-changed.new in
-    let m = middle d b.roster.tasks b.roster.places b.switches.items c.self.invariant.domain c.begin-changed.ensures.prepared c.begin-changed.ensures.tasks c.begin-changed.ensures.places c.begin-changed.ensures.switches in
+    let m = middle d b.task_table.tasks b.task_table.places b.switches.items c.self.invariant.domain c.begin-changed.ensures.prepared c.begin-changed.ensures.tasks c.begin-changed.ensures.places c.begin-changed.ensures.switches in
     let early : d.time < 2 ^ 42 = subst (λ (x : Domain). x.time < 2 ^ 42) (sym c.self.view_is) c.requires.early in
     let is = under_way_is d c.self.invariant.domain early c.begin-changed.ensures.prepared in
     record {
@@ -34,15 +34,15 @@ invariant_of-self c =
 pub returns-clause-ok : goal.returns-clause-ok
 returns-clause-ok c made =
     let s = c.self.inside in
-    let d : Domain = record { cpus = s.cpus; limit = s.limit; time = s.time; tasks = s.roster.tasks; used = s.used; curr = s.roster.places; switches = s.switches.items } in
+    let d : Domain = record { cpus = s.cpus; limit = s.limit; time = s.time; tasks = s.task_table.tasks; used = s.used; curr = s.task_table.places; switches = s.switches.items } in
     let b = c.begin-changed.new in
-    let m = middle d b.roster.tasks b.roster.places b.switches.items c.self.invariant.domain c.begin-changed.ensures.prepared c.begin-changed.ensures.tasks c.begin-changed.ensures.places c.begin-changed.ensures.switches in
+    let m = middle d b.task_table.tasks b.task_table.places b.switches.items c.self.invariant.domain c.begin-changed.ensures.prepared c.begin-changed.ensures.tasks c.begin-changed.ensures.places c.begin-changed.ensures.switches in
     ap (λ (x : Domain). record x { time = d.time + 1 }) m.begun_is ∙ ap under_way c.self.view_is
 
 pub returns-clause-begun : goal.returns-clause-begun
 returns-clause-begun c made =
     let s = c.self.inside in
-    let d : Domain = record { cpus = s.cpus; limit = s.limit; time = s.time; tasks = s.roster.tasks; used = s.used; curr = s.roster.places; switches = s.switches.items } in
+    let d : Domain = record { cpus = s.cpus; limit = s.limit; time = s.time; tasks = s.task_table.tasks; used = s.used; curr = s.task_table.places; switches = s.switches.items } in
     let early : d.time < 2 ^ 42 = subst (λ (x : Domain). x.time < 2 ^ 42) (sym c.self.view_is) c.requires.early in
     let placed : IsPlacement (under_way d) = (under_way_is d c.self.invariant.domain early c.begin-changed.ensures.prepared).1 in
     let same = returns-clause-ok c made in
@@ -54,18 +54,18 @@ begin-changed-requires-clause-narrow c = omega (arith, c.self.invariant.domain.s
 pub begin-changed-requires-clause-log : goal.begin-changed-requires-clause-log
 begin-changed-requires-clause-log c wanted = omega (arith, c.requires.log wanted, ap (λ (x : Domain). length x.tasks) c.self.view_is)
 
-pub returns-clause-told : goal.returns-clause-told
-returns-clause-told c made =
+pub returns-clause-logged : goal.returns-clause-logged
+returns-clause-logged c made =
     let s = c.self.inside in
-    let d : Domain = record { cpus = s.cpus; limit = s.limit; time = s.time; tasks = s.roster.tasks; used = s.used; curr = s.roster.places; switches = s.switches.items } in
+    let d : Domain = record { cpus = s.cpus; limit = s.limit; time = s.time; tasks = s.task_table.tasks; used = s.used; curr = s.task_table.places; switches = s.switches.items } in
     let b = c.begin-changed.new in
-    let m = middle d b.roster.tasks b.roster.places b.switches.items c.self.invariant.domain c.begin-changed.ensures.prepared c.begin-changed.ensures.tasks c.begin-changed.ensures.places c.begin-changed.ensures.switches in
-    let home : told_at_home b.roster.places d.time d.tasks ≡ told_by_beginning d = ap (λ (x : Domain). told_at_home x.curr d.time d.tasks) m.begun_is in
-    subst (λ hs. Tells c.args.log.now hs b.log) (home ∙ ap told_by_beginning c.self.view_is) c.begin-changed.ensures.told
+    let m = middle d b.task_table.tasks b.task_table.places b.switches.items c.self.invariant.domain c.begin-changed.ensures.prepared c.begin-changed.ensures.tasks c.begin-changed.ensures.places c.begin-changed.ensures.switches in
+    let home : logged_at_home b.task_table.places d.time d.tasks ≡ logged_by_beginning d = ap (λ (x : Domain). logged_at_home x.curr d.time d.tasks) m.begun_is in
+    subst (λ hs. HasLogged c.args.log.now hs b.log) (home ∙ ap logged_by_beginning c.self.view_is) c.begin-changed.ensures.logged
 
 pub returns-clause-room : goal.returns-clause-room
 returns-clause-room c made wanted =
-    omega (arith, c.requires.log (sym c.begin-changed.ensures.told.wanted ∙ wanted), c.begin-changed.ensures.log, ap (λ (x : Domain). length x.tasks) c.self.view_is)
+    omega (arith, c.requires.log (sym c.begin-changed.ensures.logged.wanted ∙ wanted), c.begin-changed.ensures.log, ap (λ (x : Domain). length x.tasks) c.self.view_is)
 
 pub begin-changed-requires-clause-numbered : goal.begin-changed-requires-clause-numbered
 begin-changed-requires-clause-numbered c = c.self.invariant.domain.steady.numbered

@@ -1,9 +1,9 @@
 use Rattle.std.proofs.Common.{◌<◌, ◌^◌, [], length, ap, sym, subst, ◌∙◌, arith}
 use Rattle.domain_run.specs.Domain.{Domain}
 use Rattle.domain_run.specs.Jump.{under_way}
-use Rattle.domain_run.specs.Happened.{told_by_beginning}
-use Rattle.domain_run.specs.Log.{Tells}
-use Rattle.domain_run.proofs.Logging.{tells_more}
+use Rattle.domain_run.specs.Happened.{logged_by_beginning}
+use Rattle.domain_run.specs.Log.{HasLogged}
+use Rattle.domain_run.proofs.Logging.{logs_more}
 use Rattle.domain_run.proofs.state.State.begin_unlisted.Goals as goal
 
 pub overflow_mul-len : goal.overflow_mul-len
@@ -30,17 +30,17 @@ returns-then-begin_in_room-clause-err c = tt
 pub returns-then-begin_in_room-clause-domain : goal.returns-then-begin_in_room-clause-domain
 returns-then-begin_in_room-clause-domain c = c.make_room.ensures.domain
 
-pub returns-then-begin_in_room-clause-told : goal.returns-then-begin_in_room-clause-told
-returns-then-begin_in_room-clause-told c =
-    let told : Tells c.make_room-2.new.self (told_by_beginning c.args.self.now) c.begin_in_room.new.log =
-    subst (λ (x : Domain). Tells c.make_room-2.new.self (told_by_beginning x) c.begin_in_room.new.log) c.make_room.ensures.same (c.begin_in_room.ensures.told c.if-begin_in_room.true) in
-    tells_more [] (told_by_beginning c.args.self.now) c.args.log.now c.make_room-2.new.self c.begin_in_room.new.log c.make_room-2.ensures.told told
+pub returns-then-begin_in_room-clause-logged : goal.returns-then-begin_in_room-clause-logged
+returns-then-begin_in_room-clause-logged c =
+    let logged : HasLogged c.make_room-2.new.self (logged_by_beginning c.args.self.now) c.begin_in_room.new.log =
+    subst (λ (x : Domain). HasLogged c.make_room-2.new.self (logged_by_beginning x) c.begin_in_room.new.log) c.make_room.ensures.same (c.begin_in_room.ensures.logged c.if-begin_in_room.true) in
+    logs_more [] (logged_by_beginning c.args.self.now) c.args.log.now c.make_room-2.new.self c.begin_in_room.new.log c.make_room-2.ensures.logged logged
 
 pub returns-then-begin_in_room-clause-room : goal.returns-then-begin_in_room-clause-room
 returns-then-begin_in_room-clause-room c = c.begin_in_room.ensures.room c.if-begin_in_room.true
 
-pub returns-then-begin_in_room-clause-untold : goal.returns-then-begin_in_room-clause-untold
-returns-then-begin_in_room-clause-untold c = tt
+pub returns-then-begin_in_room-clause-unlogged : goal.returns-then-begin_in_room-clause-unlogged
+returns-then-begin_in_room-clause-unlogged c = tt
 
 pub returns-else-begin_in_room-clause-ok : goal.returns-else-begin_in_room-clause-ok
 returns-else-begin_in_room-clause-ok c = tt
@@ -48,8 +48,8 @@ returns-else-begin_in_room-clause-ok c = tt
 pub returns-else-begin_in_room-clause-begun : goal.returns-else-begin_in_room-clause-begun
 returns-else-begin_in_room-clause-begun c = tt
 
-pub returns-else-begin_in_room-clause-told : goal.returns-else-begin_in_room-clause-told
-returns-else-begin_in_room-clause-told c = tt
+pub returns-else-begin_in_room-clause-logged : goal.returns-else-begin_in_room-clause-logged
+returns-else-begin_in_room-clause-logged c = tt
 
 pub returns-else-begin_in_room-clause-room : goal.returns-else-begin_in_room-clause-room
 returns-else-begin_in_room-clause-room c = tt
@@ -60,5 +60,5 @@ returns-else-begin_in_room-clause-err c = c.begin_in_room.ensures.full c.if-begi
 pub returns-else-begin_in_room-clause-domain : goal.returns-else-begin_in_room-clause-domain
 returns-else-begin_in_room-clause-domain c = c.make_room.ensures.domain
 
-pub returns-else-begin_in_room-clause-untold : goal.returns-else-begin_in_room-clause-untold
-returns-else-begin_in_room-clause-untold c = subst (λ l. Tells c.args.log.now [] l) (sym (c.begin_in_room.ensures.untold c.if-begin_in_room.false)) c.make_room-2.ensures.told
+pub returns-else-begin_in_room-clause-unlogged : goal.returns-else-begin_in_room-clause-unlogged
+returns-else-begin_in_room-clause-unlogged c = subst (λ l. HasLogged c.args.log.now [] l) (sym (c.begin_in_room.ensures.unlogged c.if-begin_in_room.false)) c.make_room-2.ensures.logged

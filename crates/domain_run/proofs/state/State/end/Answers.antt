@@ -6,20 +6,20 @@ use Rattle.domain_run.specs.Sound.{IsDomain}
 use Rattle.domain_run.proofs.Changing.{leave_keeps}
 use Rattle.domain_run.proofs.state.State.end.Goals as goal
 
-abbrev before : goal.After-turn_number → Domain
-before c = let s = c.self.inside in record { cpus = s.cpus; limit = s.limit; time = s.time; tasks = s.roster.tasks; used = s.used; curr = s.roster.places; switches = s.switches.items }
+abbrev before : goal.After-apply_number → Domain
+before c = let s = c.self.inside in record { cpus = s.cpus; limit = s.limit; time = s.time; tasks = s.task_table.tasks; used = s.used; curr = s.task_table.places; switches = s.switches.items }
 
-after_is : (c : goal.After-turn_number) → record (before c) { tasks = c.turn_number.new.self.tasks; curr = c.turn_number.new.self.places } ≡ with_task_changed (before c) c.args.number (ended_at c.self.inside.time)
-after_is c = λ i. record (before c) { tasks = c.turn_number.ensures.tasks i; curr = c.turn_number.ensures.places i }
+after_is : (c : goal.After-apply_number) → record (before c) { tasks = c.apply_number.new.self.tasks; curr = c.apply_number.new.self.places } ≡ with_task_changed (before c) c.args.number (ended_at c.self.inside.time)
+after_is c = λ i. record (before c) { tasks = c.apply_number.ensures.tasks i; curr = c.apply_number.ensures.places i }
 
-pub turn_number-requires-clause-may : goal.turn_number-requires-clause-may
-turn_number-requires-clause-may c k d h same = tt
+pub apply_number-requires-clause-may : goal.apply_number-requires-clause-may
+apply_number-requires-clause-may c k d h same = tt
 
 pub invariant_of-self : goal.invariant_of-self
 invariant_of-self c = record {
-  domain = subst IsDomain (sym (after_is c)) (leave_keeps (before c) c.args.number c.self.invariant.domain (rw (← c.turn_number.ensures.tasks) c.turn_number.ensures.sound));
-  wide = c.turn_number.ensures.cpus ∙ c.self.invariant.wide;
-  running_is = λ listed. c.self.invariant.running_is listed ∙ ap running_numbers (sym c.turn_number.ensures.places);
+  domain = subst IsDomain (sym (after_is c)) (leave_keeps (before c) c.args.number c.self.invariant.domain (rw (← c.apply_number.ensures.tasks) c.apply_number.ensures.sound));
+  wide = c.apply_number.ensures.cpus ∙ c.self.invariant.wide;
+  running_is = λ listed. c.self.invariant.running_is listed ∙ ap running_numbers (sym c.apply_number.ensures.places);
   running_room = c.self.invariant.running_room;
   switch_room = c.self.invariant.switch_room;
 }

@@ -6,7 +6,7 @@ use Rattle.domain_run.proofs.Passing.{forgets_keeps}
 use Rattle.domain_run.proofs.state.State.forget_switches.Goals as goal
 
 abbrev before : goal.After-clear → Domain
-before c = let s = c.self.inside in record { cpus = s.cpus; limit = s.limit; time = s.time; tasks = s.roster.tasks; used = s.used; curr = s.roster.places; switches = s.switches.items }
+before c = let s = c.self.inside in record { cpus = s.cpus; limit = s.limit; time = s.time; tasks = s.task_table.tasks; used = s.used; curr = s.task_table.places; switches = s.switches.items }
 
 pub invariant_of-self : goal.invariant_of-self
 invariant_of-self c = record {

@@ -9,5 +9,5 @@ returns-clause-quiet c =
     let s = c.self.inside in
     ap (λ (n : ℕ). 1 + n)
     (c.ticks_to_due.ensures
-    ∙ rest_least s.time s.roster.tasks c.self.invariant.domain.steady.early)
+    ∙ rest_least s.time s.task_table.tasks c.self.invariant.domain.steady.early)
     ∙ ap (λ (d : Domain). ticks_to_event d) c.self.view_is

@@ -2,8 +2,8 @@ use Rattle.std.proofs.Common.{arith}
 use Rattle.std.proofs.lemmas.Grind.{common_steps}
 use Rattle.domain_run.proofs.state.State.regrade.Goals as goal
 
-pub change-requires : goal.change-requires
-change-requires c = grind (arith, common_steps)
+pub transition-requires : goal.transition-requires
+transition-requires c = grind (arith, common_steps)
 
 pub returns-then-eq-clause-reply : goal.returns-then-eq-clause-reply
 returns-then-eq-clause-reply c = grind (arith, common_steps)

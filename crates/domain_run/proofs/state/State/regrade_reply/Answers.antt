@@ -10,7 +10,7 @@ use Rattle.domain_run.specs.Busy.{LacksRoomToChange}
 use Rattle.domain_run.specs.Calls.{regrade_reply, task_of, word_reply}
 use Rattle.domain_run.specs.Domain.{Domain}
 use Rattle.domain_run.specs.Tick.{sum_of}
-use Rattle.domain_run.specs.private.Roster.{IsSeenAs}
+use Rattle.domain_run.specs.private.TaskTable.{IsSeenAs}
 use Rattle.domain_run.proofs.state.State.regrade_reply.Goals as goal
 
 -- where the task is listed, and its bandwidth does not fit
@@ -35,7 +35,7 @@ whatever (Some n) P h = tt
 pub returns-then-saturating_sub-bandwidth-clause-reply : goal.returns-then-saturating_sub-bandwidth-clause-reply
 returns-then-saturating_sub-bandwidth-clause-reply c =
     let s = c.self.inside in
-    let d : Domain = record { cpus = s.cpus; limit = s.limit; time = s.time; tasks = s.roster.tasks; used = s.used; curr = s.roster.places; switches = s.switches.items } in
+    let d : Domain = record { cpus = s.cpus; limit = s.limit; time = s.time; tasks = s.task_table.tasks; used = s.used; curr = s.task_table.places; switches = s.switches.items } in
     let sum : c.sum-sum.result ≡ sum_of d.tasks = c.sum-sum.ensures.sum ∙ ap (λ (x : Domain). sum_of x.tasks) (sym c.self.view_is) in
     let above : cap d.cpus d.limit < sum_of d.tasks - c.in-Some.task.now.params.bw + c.args.params.now.bw = over (cap d.cpus d.limit) (sum_of d.tasks) c.in-Some.task.now.params.bw c.args.params.now.bw c.saturating_sub.result c.bandwidth.result
     (c.saturating_sub.ensures ∙ ap (λ (t : Task). c.sum-sum.result - t.params.bw) c.task.view_is ∙ ap (λ (n : ℕ). n - c.in-Some.task.now.params.bw) sum) c.bandwidth.ensures.value c.if-saturating_sub-bandwidth.true in
@@ -45,7 +45,7 @@ returns-then-saturating_sub-bandwidth-clause-reply c =
 pub returns-then-saturating_sub-bandwidth-clause-busy : goal.returns-then-saturating_sub-bandwidth-clause-busy
 returns-then-saturating_sub-bandwidth-clause-busy c =
     let s = c.self.inside in
-    let d : Domain = record { cpus = s.cpus; limit = s.limit; time = s.time; tasks = s.roster.tasks; used = s.used; curr = s.roster.places; switches = s.switches.items } in
+    let d : Domain = record { cpus = s.cpus; limit = s.limit; time = s.time; tasks = s.task_table.tasks; used = s.used; curr = s.task_table.places; switches = s.switches.items } in
     let sum : c.sum-sum.result ≡ sum_of d.tasks = c.sum-sum.ensures.sum ∙ ap (λ (x : Domain). sum_of x.tasks) (sym c.self.view_is) in
     let above : cap d.cpus d.limit < c.sum-sum.result - c.in-Some.task.now.params.bw + c.args.params.now.bw = over (cap d.cpus d.limit) c.sum-sum.result c.in-Some.task.now.params.bw c.args.params.now.bw c.saturating_sub.result c.bandwidth.result
     (c.saturating_sub.ensures ∙ ap (λ (t : Task). c.sum-sum.result - t.params.bw) c.task.view_is) c.bandwidth.ensures.value c.if-saturating_sub-bandwidth.true in

@@ -7,23 +7,23 @@ use Rattle.domain_run.specs.Sound.{IsDomain}
 use Rattle.domain_run.proofs.Changing.{woken_may, wake_keeps}
 use Rattle.domain_run.proofs.state.State.release.Goals as goal
 
-abbrev before : goal.After-turn_number → Domain
-before c = let s = c.self.inside in record { cpus = s.cpus; limit = s.limit; time = s.time; tasks = s.roster.tasks; used = s.used; curr = s.roster.places; switches = s.switches.items }
+abbrev before : goal.After-apply_number → Domain
+before c = let s = c.self.inside in record { cpus = s.cpus; limit = s.limit; time = s.time; tasks = s.task_table.tasks; used = s.used; curr = s.task_table.places; switches = s.switches.items }
 
-after_is : (c : goal.After-turn_number) → record (before c) { tasks = c.turn_number.new.self.tasks; curr = c.turn_number.new.self.places } ≡ with_task_changed (before c) c.args.number (blocked_until c.self.inside.time)
-after_is c = λ i. record (before c) { tasks = c.turn_number.ensures.tasks i; curr = c.turn_number.ensures.places i }
+after_is : (c : goal.After-apply_number) → record (before c) { tasks = c.apply_number.new.self.tasks; curr = c.apply_number.new.self.places } ≡ with_task_changed (before c) c.args.number (blocked_until c.self.inside.time)
+after_is c = λ i. record (before c) { tasks = c.apply_number.ensures.tasks i; curr = c.apply_number.ensures.places i }
 
-pub turn_number-requires-clause-may : goal.turn_number-requires-clause-may
-turn_number-requires-clause-may c =
+pub apply_number-requires-clause-may : goal.apply_number-requires-clause-may
+apply_number-requires-clause-may c =
     let s = c.self.inside in
-    let d : Domain = record { cpus = s.cpus; limit = s.limit; time = s.time; tasks = s.roster.tasks; used = s.used; curr = s.roster.places; switches = s.switches.items } in
+    let d : Domain = record { cpus = s.cpus; limit = s.limit; time = s.time; tasks = s.task_table.tasks; used = s.used; curr = s.task_table.places; switches = s.switches.items } in
     woken_may d c.args.number c.self.invariant.domain.steady (subst (λ (e : Domain). wake_reply (task_of e c.args.number) ≡ Woken) (sym c.self.view_is) c.requires)
 
 pub invariant_of-self : goal.invariant_of-self
 invariant_of-self c = record {
-  domain = subst IsDomain (sym (after_is c)) (wake_keeps (before c) c.args.number c.self.invariant.domain (rw (← c.turn_number.ensures.tasks) c.turn_number.ensures.sound));
-  wide = c.turn_number.ensures.cpus ∙ c.self.invariant.wide;
-  running_is = λ listed. c.self.invariant.running_is listed ∙ ap running_numbers (sym c.turn_number.ensures.places);
+  domain = subst IsDomain (sym (after_is c)) (wake_keeps (before c) c.args.number c.self.invariant.domain (rw (← c.apply_number.ensures.tasks) c.apply_number.ensures.sound));
+  wide = c.apply_number.ensures.cpus ∙ c.self.invariant.wide;
+  running_is = λ listed. c.self.invariant.running_is listed ∙ ap running_numbers (sym c.apply_number.ensures.places);
   running_room = c.self.invariant.running_room;
   switch_room = c.self.invariant.switch_room;
 }

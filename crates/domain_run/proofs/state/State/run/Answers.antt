@@ -2,16 +2,16 @@ use Rattle.std.proofs.Common.{◌≡◌, ◌<◌, ℕ, ◌+◌, ◌-◌, ◌≤�
 use Rattle.std.specs.Prelude.{All}
 use Rattle.std.specs.List.{flat_map}
 use Rattle.domain_run.specs.Happened.{in_order}
-use Rattle.domain_run.specs.Log.{Tells}
-use Rattle.domain_run.specs.private.Expiring.{told_leapt}
+use Rattle.domain_run.specs.Log.{HasLogged}
+use Rattle.domain_run.specs.private.Expiring.{logged_leapt}
 use Rattle.edf_pick.specs.Places.{Places}
 use Rattle.domain_run.specs.Domain.{Domain}
 use Rattle.domain_run.specs.Jump.{under_way, ticks_to_event, running_numbers}
 use Rattle.domain_run.specs.Sound.{IsDomain, IsPlacement}
 use Rattle.domain_run.specs.Tick.{sum_of}
-use Rattle.domain_run.specs.private.Roster.{leapt, LastsIf}
+use Rattle.domain_run.specs.private.TaskTable.{leapt, LastsIf}
 use Rattle.attr_check.specs.Ratio.{cap}
-use Rattle.domain_run.proofs.Leapt.{may_sit_on, same_leapt, leap_is, leap_last, leap_quiet}
+use Rattle.domain_run.proofs.Leapt.{may_start_on, same_leapt, leap_is, leap_last, leap_quiet}
 use Rattle.domain_run.proofs.Paying.{later_is}
 use Rattle.domain_run.proofs.state.State.run.Goals as goal
 
@@ -25,17 +25,17 @@ pub leap-ticks-requires-clause-limit : goal.leap-ticks-requires-clause-limit
 leap-ticks-requires-clause-limit c = c.self.invariant.domain.steady.limit
 
 pub leap-ticks-requires-clause-within : goal.leap-ticks-requires-clause-within
-leap-ticks-requires-clause-within c = subst (λ n. sum_of c.self.inside.roster.tasks ≤ cap n c.self.inside.limit) (sym c.self.invariant.wide) c.self.invariant.domain.steady.within
+leap-ticks-requires-clause-within c = subst (λ n. sum_of c.self.inside.task_table.tasks ≤ cap n c.self.inside.limit) (sym c.self.invariant.wide) c.self.invariant.domain.steady.within
 
 pub leap-ticks-requires-clause-homes : goal.leap-ticks-requires-clause-homes
-leap-ticks-requires-clause-homes c = subst (λ n. All (λ t. t.cpu < n) c.self.inside.roster.tasks) (sym c.self.invariant.wide) c.self.invariant.domain.steady.homes
+leap-ticks-requires-clause-homes c = subst (λ n. All (λ t. t.cpu < n) c.self.inside.task_table.tasks) (sym c.self.invariant.wide) c.self.invariant.domain.steady.homes
 
 pub leap-ticks-requires-clause-may : goal.leap-ticks-requires-clause-may
 leap-ticks-requires-clause-may c =
     let s = c.self.inside in
-    let d : Domain = record { cpus = s.cpus; limit = s.limit; time = s.time; tasks = s.roster.tasks; used = s.used; curr = s.roster.places; switches = s.switches.items } in
+    let d : Domain = record { cpus = s.cpus; limit = s.limit; time = s.time; tasks = s.task_table.tasks; used = s.used; curr = s.task_table.places; switches = s.switches.items } in
     let placed : IsPlacement d = subst IsPlacement (sym c.self.view_is) c.requires.begun.placed in
-    may_sit_on d c.self.invariant.domain.steady placed
+    may_start_on d c.self.invariant.domain.steady placed
 
 pub leap-ticks-requires-clause-apart : goal.leap-ticks-requires-clause-apart
 leap-ticks-requires-clause-apart c = c.self.invariant.domain.steady.apart
@@ -46,26 +46,26 @@ leap-ticks-requires-clause-sound c = c.self.invariant.domain.steady.sound
 pub leap-ticks-requires-clause-early : goal.leap-ticks-requires-clause-early
 leap-ticks-requires-clause-early c = omega (arith, c.requires.early, ap (λ (x : Domain). x.time) c.self.view_is)
 
--- the tasks behind the leap
-tasks_are : (c : goal.After-self-1) → let s = c.self.inside in let k = c.leap-ticks.result in c.leap-ticks.new.roster.tasks ≡ map (leapt (s.time + (k - 1)) k s.roster.places s.cpus s.limit s.roster.tasks) s.roster.tasks
+-- the tasks after the leap
+tasks_are : (c : goal.After-self-1) → let s = c.self.inside in let k = c.leap-ticks.result in c.leap-ticks.new.task_table.tasks ≡ map (leapt (s.time + (k - 1)) k s.task_table.places s.cpus s.limit s.task_table.tasks) s.task_table.tasks
 tasks_are c =
     let s = c.self.inside in
     let k = c.leap-ticks.result in
     c.leap-ticks.ensures.tasks
-    ∙ ap (λ n. map (leapt (s.time + (k - 1)) k s.roster.places n s.limit s.roster.tasks) s.roster.tasks) c.self.invariant.wide
+    ∙ ap (λ n. map (leapt (s.time + (k - 1)) k s.task_table.places n s.limit s.task_table.tasks) s.task_table.tasks) c.self.invariant.wide
 
 pub invariant_of-self : goal.invariant_of-self
 invariant_of-self c =
     let s = c.self.inside in
-    let d : Domain = record { cpus = s.cpus; limit = s.limit; time = s.time; tasks = s.roster.tasks; used = s.used; curr = s.roster.places; switches = s.switches.items } in
+    let d : Domain = record { cpus = s.cpus; limit = s.limit; time = s.time; tasks = s.task_table.tasks; used = s.used; curr = s.task_table.places; switches = s.switches.items } in
     let k = c.leap-ticks.result in
     let end : ℕ = s.time + (k - 1) in
-    let f = leapt end k s.roster.places s.cpus s.limit s.roster.tasks in
-    let same = same_leapt end k s.roster.places s.cpus s.limit s.roster.tasks in
+    let f = leapt end k s.task_table.places s.cpus s.limit s.task_table.tasks in
+    let same = same_leapt end k s.task_table.places s.cpus s.limit s.task_table.tasks in
     let same_time : s.time ≡ c.args.self.now.time = ap (λ (x : Domain). x.time) c.self.view_is in
     let early : end ≤ 2 ^ 42 = omega (arith, same_time, c.requires.early, c.leap-ticks.ensures.some, c.leap-ticks.ensures.most) in
     record {
-      domain = subst (λ (ps : Places). IsDomain (record d { time = end; tasks = c.leap-ticks.new.roster.tasks; curr = ps })) (sym c.leap-ticks.ensures.places) (later_is d f end c.leap-ticks.new.roster.tasks c.self.invariant.domain same (omega arith) early (tasks_are c) c.leap-ticks.ensures.sound);
+      domain = subst (λ (ps : Places). IsDomain (record d { time = end; tasks = c.leap-ticks.new.task_table.tasks; curr = ps })) (sym c.leap-ticks.ensures.places) (later_is d f end c.leap-ticks.new.task_table.tasks c.self.invariant.domain same (omega arith) early (tasks_are c) c.leap-ticks.ensures.sound);
       wide = c.leap-ticks.ensures.cpus ∙ c.self.invariant.wide;
       running_is = λ listed. c.self.invariant.running_is listed ∙ ap running_numbers (sym c.leap-ticks.ensures.places);
       running_room = c.self.invariant.running_room;
@@ -75,37 +75,37 @@ invariant_of-self c =
 pub returns-clause-domain : goal.returns-clause-domain
 returns-clause-domain c e is =
     let s = c.self.inside in
-    let d : Domain = record { cpus = s.cpus; limit = s.limit; time = s.time; tasks = s.roster.tasks; used = s.used; curr = s.roster.places; switches = s.switches.items } in
+    let d : Domain = record { cpus = s.cpus; limit = s.limit; time = s.time; tasks = s.task_table.tasks; used = s.used; curr = s.task_table.places; switches = s.switches.items } in
     let k = c.leap-ticks.result in
     let end : ℕ = s.time + (k - 1) in
     let same : d ≡ under_way e = c.self.view_is ∙ is in
     let tasks = tasks_are c ∙ ap (λ (x : Domain). map (leapt end k x.curr x.cpus x.limit x.tasks) x.tasks) same in
-    let lasts2 = subst (λ n. All (LastsIf k s.roster.places n s.limit s.roster.tasks) s.roster.tasks) c.self.invariant.wide c.leap-ticks.ensures.lasts in
+    let lasts2 = subst (λ n. All (LastsIf k s.task_table.places n s.limit s.task_table.tasks) s.task_table.tasks) c.self.invariant.wide c.leap-ticks.ensures.lasts in
     let lasts = subst (λ (x : Domain). All (LastsIf k x.curr x.cpus x.limit x.tasks) x.tasks) same lasts2 in
     let quiet = subst (λ (x : Domain). c.args.most ≤ ticks_to_event x) is c.requires.quiet in
-    ap (λ (ps : Places). record d { time = end; tasks = c.leap-ticks.new.roster.tasks; curr = ps }) c.leap-ticks.ensures.places
-    ∙ ap (λ (x : Domain). record x { time = end; tasks = c.leap-ticks.new.roster.tasks }) same
-    ∙ leap_is e k end c.leap-ticks.new.roster.tasks c.leap-ticks.ensures.some (omega (arith, quiet, c.leap-ticks.ensures.most)) (ap (λ (x : Domain). x.time + (k - 1)) same) lasts tasks
+    ap (λ (ps : Places). record d { time = end; tasks = c.leap-ticks.new.task_table.tasks; curr = ps }) c.leap-ticks.ensures.places
+    ∙ ap (λ (x : Domain). record x { time = end; tasks = c.leap-ticks.new.task_table.tasks }) same
+    ∙ leap_is e k end c.leap-ticks.new.task_table.tasks c.leap-ticks.ensures.some (omega (arith, quiet, c.leap-ticks.ensures.most)) (ap (λ (x : Domain). x.time + (k - 1)) same) lasts tasks
 
 -- before a leap from the domain that begins so
 lasts_are : (c : goal.After-self-1) (e : Domain) → c.args.self.now ≡ under_way e → All (LastsIf c.leap-ticks.result (under_way e).curr (under_way e).cpus (under_way e).limit (under_way e).tasks) (under_way e).tasks
 lasts_are c e is =
     let s = c.self.inside in
     let k = c.leap-ticks.result in
-    let lasts2 = subst (λ n. All (LastsIf k s.roster.places n s.limit s.roster.tasks) s.roster.tasks) c.self.invariant.wide c.leap-ticks.ensures.lasts in
+    let lasts2 = subst (λ n. All (LastsIf k s.task_table.places n s.limit s.task_table.tasks) s.task_table.tasks) c.self.invariant.wide c.leap-ticks.ensures.lasts in
     subst (λ (x : Domain). All (LastsIf k x.curr x.cpus x.limit x.tasks) x.tasks) (c.self.view_is ∙ is) lasts2
 
-pub returns-clause-told : goal.returns-clause-told
-returns-clause-told c e is =
+pub returns-clause-logged : goal.returns-clause-logged
+returns-clause-logged c e is =
     let s = c.self.inside in
     let k = c.leap-ticks.result in
     let end : ℕ = s.time + (k - 1) in
     let same = c.self.view_is ∙ is in
     let quiet = subst (λ (x : Domain). c.args.most ≤ ticks_to_event x) is c.requires.quiet in
-    let told = ap (λ n. in_order (flat_map (told_leapt end k s.roster.places n s.limit s.roster.tasks) s.roster.tasks)) c.self.invariant.wide
-    ∙ ap (λ (x : Domain). in_order (flat_map (told_leapt end k x.curr x.cpus x.limit x.tasks) x.tasks)) same
+    let logged = ap (λ n. in_order (flat_map (logged_leapt end k s.task_table.places n s.limit s.task_table.tasks) s.task_table.tasks)) c.self.invariant.wide
+    ∙ ap (λ (x : Domain). in_order (flat_map (logged_leapt end k x.curr x.cpus x.limit x.tasks) x.tasks)) same
     ∙ leap_last e k c.leap-ticks.ensures.some (omega (arith, quiet, c.leap-ticks.ensures.most)) (lasts_are c e is) end (ap (λ (x : Domain). x.time + (k - 1)) same) in
-    subst (λ hs. Tells c.args.log.now hs c.leap-ticks.new.log) told c.leap-ticks.ensures.told
+    subst (λ hs. HasLogged c.args.log.now hs c.leap-ticks.new.log) logged c.leap-ticks.ensures.logged
 
 pub returns-clause-quiet : goal.returns-clause-quiet
 returns-clause-quiet c e is =

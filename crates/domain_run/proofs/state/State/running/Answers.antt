@@ -43,8 +43,8 @@ returns-clause-short c =
     let is = runner_now c.self.view_is c.self.invariant.domain.steady c.requires.placed (ap running_numbers c.occupants-places.ensures.occupants) c.in-Some.ensures c.runner.ensures in
     subst (λ o. IfSome o (λ (x : Running). x.uinact ≤ 2 ^ 26)) (sym is.is) is.short
 
-pub standing_at-requires : goal.standing_at-requires
-standing_at-requires c listed = c.deref.ensures.value ∙ c.self.invariant.running_is listed ∙ ap running_numbers (sym c.occupants-places.ensures.occupants)
+pub running_at-requires : goal.running_at-requires
+running_at-requires c listed = c.deref.ensures.value ∙ c.self.invariant.running_is listed ∙ ap running_numbers (sym c.occupants-places.ensures.occupants)
 
 pub returns-in_default-clause-running : goal.returns-in_default-clause-running
 returns-in_default-clause-running c = grind (arith, common_steps)

@@ -7,7 +7,7 @@ use Rattle.domain_run.proofs.Departing.{depart_keeps}
 use Rattle.domain_run.proofs.state.State.take_off.Goals as goal
 
 abbrev before : goal.After-take_off → Domain
-before c = let s = c.self.inside in record { cpus = s.cpus; limit = s.limit; time = s.time; tasks = s.roster.tasks; used = s.used; curr = s.roster.places; switches = s.switches.items }
+before c = let s = c.self.inside in record { cpus = s.cpus; limit = s.limit; time = s.time; tasks = s.task_table.tasks; used = s.used; curr = s.task_table.places; switches = s.switches.items }
 
 after_is : (c : goal.After-take_off) → record (before c) { tasks = c.take_off.new.self.tasks; curr = c.take_off.new.self.places } ≡ after_departure (before c) c.args.number
 after_is c = λ i. record (before c) { tasks = c.take_off.ensures.tasks i; curr = c.take_off.ensures.places i }

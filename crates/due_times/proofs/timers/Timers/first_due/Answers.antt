@@ -7,12 +7,12 @@ use Rattle.due_times.proofs.timers.Timers.first_due.Goals as goal
 pub first_come-requires-clause-come : goal.first_come-requires-clause-come
 first_come-requires-clause-come c =
     let is = c.self.inside in
-    let same = least_kept is.tournament is.order.items is.order.cap c.self.invariant ∙ ap least c.self.view_is in
+    let same = least_kept is.timer_tree is.order.items is.order.cap c.self.invariant ∙ ap least c.self.view_is in
     omega (arith, same, c.requires)
 
 pub returns-clause-others : goal.returns-clause-others
 returns-clause-others c =
-    let times = c.self.inside.tournament in
+    let times = c.self.inside.timer_tree in
     let order = c.self.inside.order.items in
     let leaf = c.first_come.result in
     let first = subst (λ (xs : List ℕ). IsFirstFrom xs leaf c.first_from.result) c.deref.ensures.value c.first_from.ensures in
@@ -22,7 +22,7 @@ returns-clause-others c =
 pub returns-clause-due : goal.returns-clause-due
 returns-clause-due c = λ h.
     let is = c.self.inside in
-    let times = is.tournament in
+    let times = is.timer_tree in
     let order = is.order.items in
     let come = c.first_come in
     let first = subst (λ (xs : List ℕ). IsFirstFrom xs come.result c.first_from.result) c.deref.ensures.value c.first_from.ensures in

@@ -6,7 +6,7 @@ use Rattle.due_times.proofs.timers.Timers.set.Goals as goal
 
 pub returns : goal.returns
 returns c =
-    let times = c.self.inside.tournament in
+    let times = c.self.inside.timer_tree in
     let order = c.self.inside.order.items in
     let place = c.args.place in
     let there : place < length order = omega (arith, c.requires, ap length c.self.view_is, count_is times order) in

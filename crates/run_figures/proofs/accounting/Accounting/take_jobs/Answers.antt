@@ -15,12 +15,12 @@ closed_lines-requires-clause-among c = subst (λ (a : AccountingView). All (λ (
 pub closed_lines-requires-clause-as_many : goal.closed_lines-requires-clause-as_many
 closed_lines-requires-clause-as_many c =
     let own = c.self.inside in
-    as_many_lines (happened_in own.heard) own.places c.in-Some.table.items (subst (AreLinesKept (happened_in own.heard) own.places) (sym c.in-Some.ensures.value) c.self.invariant.4)
+    as_many_lines (happened_in own.streamed) own.places c.in-Some.table.items (subst (AreLinesKept (happened_in own.streamed) own.places) (sym c.in-Some.ensures.value) c.self.invariant.4)
 
 pub returns-clause-jobs : goal.returns-clause-jobs
 returns-clause-jobs c =
     let own = c.self.inside in
-    let kept : AreLinesKept (happened_in own.heard) own.places (Some c.in-Some.table) = subst (AreLinesKept (happened_in own.heard) own.places) (sym c.in-Some.ensures.value) c.self.invariant.4 in
+    let kept : AreLinesKept (happened_in own.streamed) own.places (Some c.in-Some.table) = subst (AreLinesKept (happened_in own.streamed) own.places) (sym c.in-Some.ensures.value) c.self.invariant.4 in
     let kept_now : AreLinesKept c.args.self.now.happened own.places (Some c.in-Some.table) = subst (λ (hs : List Happened). AreLinesKept hs own.places (Some c.in-Some.table)) (ap (λ (a : AccountingView). a.happened) c.self.view_is) kept in
     closed_are c.args.self.now.happened c.args.tasks.now own.places c.in-Some.table.items c.closed_lines.result kept_now c.closed_lines.ensures
 

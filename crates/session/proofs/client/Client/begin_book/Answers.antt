@@ -6,7 +6,7 @@ use Rattle.domain_run.specs.declared.call.Reply.TheVariants as replies
 use Rattle.session.specs.Asks.{ClientView}
 use Rattle.session.specs.private.Entering.{pass_after}
 use Rattle.session.proofs.Asked.{makes_at}
-use Rattle.session.proofs.Begun.{ok_so, both_ok, untold_still, tells_end}
+use Rattle.session.proofs.Begun.{ok_so, both_ok, unlogged_still, logs_end}
 use Rattle.session.proofs.client.Client.begin_book.Goals as goal
 
 pub returns-clause-made : goal.returns-clause-made
@@ -22,12 +22,12 @@ returns-clause-made g c =
     makes_at c.args.self.now _ ps d p q (Advance n) (Ok (replies.Done n)) (sym (ap (λ (v : ClientView). v.passes) c.self.view_is)) refl (ap (λ (v : ClientView). v.number) c.self.view_is) inside owner
     (subst (λ (r : PassView Entry). q ≡ pass_after r (Advance n) (Ok (replies.Done n))) c.index_mut.ensures.value is.entered.pass))
 
-pub returns-clause-untold : goal.returns-clause-untold
-returns-clause-untold g c = λ logs was.
-    untold_still c.begin_advance.result c.args.book.now c.begin_advance.new.self c.begin_advance.new.self.book c.args.ticks logs c.begin_advance.ensures.left c.begin_advance.ensures.same was
+pub returns-clause-unlogged : goal.returns-clause-unlogged
+returns-clause-unlogged g c = λ logs was.
+    unlogged_still c.begin_advance.result c.args.book.now c.begin_advance.new.self c.begin_advance.new.self.book c.args.ticks logs c.begin_advance.ensures.left c.begin_advance.ensures.same was
 
-pub returns-clause-tells : goal.returns-clause-tells
-returns-clause-tells g c =
-    let told = c.begin_advance.ensures in
-    both_ok c.begin_advance.result _ _ _ told.entered told.left (λ entered left whole.
-    tells_end c.args.book.now c.begin_advance.new.self c.index_mut.result.now c.begin_advance.new.pass c.args.ticks (c.state.ensures.run c.requires.made whole) entered left)
+pub returns-clause-has_logged : goal.returns-clause-has_logged
+returns-clause-has_logged g c =
+    let logged = c.begin_advance.ensures in
+    both_ok c.begin_advance.result _ _ _ logged.entered logged.left (λ entered left whole.
+    logs_end c.args.book.now c.begin_advance.new.self c.index_mut.result.now c.begin_advance.new.pass c.args.ticks (c.state.ensures.run c.requires.made whole) entered left)

@@ -1,7 +1,7 @@
 use Rattle.std.proofs.Common.{◌≡◌, ◌∙◌, List, length, sym, ap, subst}
 use Rattle.std.proofs.lemmas.List.{length-map}
 use Rattle.call_book.specs.Ending.{EndingView}
-use Rattle.session.specs.private.Ending.{books_of, unheard_ending}
+use Rattle.session.specs.private.Ending.{books_of, unstreamed_ending}
 use Rattle.session.specs.private.Parts.{AreSessionBooks}
 use Rattle.session.proofs.Closed.{books_ended}
 use Rattle.session.proofs.closing_session.Unlocked.end.Goals as goal
@@ -15,7 +15,7 @@ invariant_of-result g c =
       session = own.session;
       same_limit = own.same_limit;
       same_gate = own.same_gate;
-      count = ap (λ (es : List EndingView). length es) c.end_all.ensures ∙ length-map own.books.items unheard_ending ∙ own.count;
+      count = ap (λ (es : List EndingView). length es) c.end_all.ensures ∙ length-map own.books.items unstreamed_ending ∙ own.count;
       named = subst (AreSessionBooks g.N.Names.id) (sym books) own.named;
       blanks_own = own.blanks_own;
       enough = own.enough;

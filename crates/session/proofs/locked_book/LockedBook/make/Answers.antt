@@ -28,4 +28,4 @@ returns-clause-seen g c =
     let named = subst (IsSessionBook id d) (sym c.agree.ensures.book) (subst (IsSessionBook id d) (sym c.deref_mut-domain.ensures.value) c.args.self.now.named) in
     let shown : IsSeenBook c.agree.new.self c.agree.new.pass = record { history = c.agree.ensures.history; own = c.agree.ensures.own } in
     subst (λ (p : PassView Entry). WasSeenFor id d (part_with p) c.args.ask c.make_seen.result.answer) c.agree.ensures.pass
-    (seen_as id d c.agree.new.self c.agree.new.pass c.args.ask c.make_seen.result.answer named shown c.make_seen.ensures.told)
+    (seen_as id d c.agree.new.self c.agree.new.pass c.args.ask c.make_seen.result.answer named shown c.make_seen.ensures.logged)

@@ -9,13 +9,13 @@ invariant_of-result c =
     let books = c.in_ok-books.books in
     let sets = map (λ (v : _). v.items) c.in_ok-cpu_sets.cpu_sets.items in
     let hands = c.books_of.new.hands in
-    let told = c.in_ok-books.ensures in
-    let clients : hands.len ≡ o.clients = hands.ok.0 ∙ count_hands hands.items o.clients told.some in (
+    let logged = c.in_ok-books.ensures in
+    let clients : hands.len ≡ o.clients = hands.ok.0 ∙ count_hands hands.items o.clients logged.some in (
       record {
-        session = is_session o gate books.items sets hands.len c.requires c.in_ok-gate.ensures.terms c.in_ok-cpu_sets.ensures told.count clients;
-        named = are_named o gate books.items sets hands.len c.in_ok-cpu_sets.ensures told.count clients told.books;
-        some = told.some ∙ ap (λ (n : ℕ). replicate n true) (sym clients);
-        dealt = told.hands;
+        session = is_session o gate books.items sets hands.len c.requires c.in_ok-gate.ensures.terms c.in_ok-cpu_sets.ensures logged.count clients;
+        named = are_named o gate books.items sets hands.len c.in_ok-cpu_sets.ensures logged.count clients logged.books;
+        some = logged.some ∙ ap (λ (n : ℕ). replicate n true) (sym clients);
+        dealt = logged.hands;
         own = c.empty_hands.ensures.pool gate c.in_ok-gate.ensures.blanks;
       },
       c.in-Ok.ensures.items,

@@ -25,11 +25,11 @@ invariant_of-self-in_default g c =
     let reply = c.set_limit-reply.result in
     let lawful = c.set_limit-reply.ensures.reply in
     let set = not_refused inside.state c.args.limit word reply lawful c.in_default.not-Busy in
-    let told = is_set inside.state c.args.gate.now c.domain-domain.result c.args.limit c.args.blank back word c.ask_limit-blank.ensures set in
-    let carries = told.2.answer.0 ∙ ap (λ (n : ℕ). n * c.args.limit) c.self.invariant.machine.0 in
-    let more = set_entry inside.ledger c.enter.new.self p c.args.limit word reply c.enter.ensures.ledger told.0 (lawful ∙ set) in
+    let logged = is_set inside.state c.args.gate.now c.domain-domain.result c.args.limit c.args.blank back word c.ask_limit-blank.ensures set in
+    let carries = logged.2.answer.0 ∙ ap (λ (n : ℕ). n * c.args.limit) c.self.invariant.machine.0 in
+    let more = set_entry inside.ledger c.enter.new.self p c.args.limit word reply c.enter.ensures.ledger logged.0 (lawful ∙ set) in
     let becomes = set_state inside.state c.set_limit-reply.new.self c.args.limit word c.set_limit-reply.ensures.domain set in
-    let grown = limit_set_grows inside.cpus inside.limit inside.workers.count inside.left inside.ledger c.enter.new.self inside.stock inside.state c.set_limit-reply.new.self c.args.limit (word_of_blank back) p c.self.invariant c.requires.limit carries more told.1 becomes in
+    let grown = limit_set_grows inside.cpus inside.limit inside.workers.count inside.left inside.ledger c.enter.new.self inside.stock inside.state c.set_limit-reply.new.self c.args.limit (word_of_blank back) p c.self.invariant c.requires.limit carries more logged.1 becomes in
     subst (λ (n : ℕ). IsBook (book_of inside.cpus inside.limit inside.workers.count (Some n) c.enter.new.self inside.stock) c.set_limit-reply.new.self) (sym c.last.ensures) grown
 
 pub returns-in-Busy-clause-answer : goal.returns-in-Busy-clause-answer
@@ -56,13 +56,13 @@ returns-in_default g c =
     let set = not_refused inside.state c.args.limit word reply lawful c.in_default.not-Busy in
     let own = c.requires.gate ∙ sym (ap (λ (b : BookView). b.gate) c.self.view_is) in
     let asked = asked_of_book inside.state c.args.gate.now inside.stock.gate c.domain-domain.result inside.stock.domain c.args.limit c.args.blank back word own c.domain-domain.ensures c.ask_limit-blank.ensures in
-    let told = is_set inside.state inside.stock.gate inside.stock.domain c.args.limit c.args.blank back word asked set in
-    let more = set_entry inside.ledger c.enter.new.self p c.args.limit word reply c.enter.ensures.ledger told.0 (lawful ∙ set) in
-    let made = set_pass p c.enter.new.pass c.args.limit word reply c.enter.ensures.pass told.0 (lawful ∙ set) in
+    let logged = is_set inside.state inside.stock.gate inside.stock.domain c.args.limit c.args.blank back word asked set in
+    let more = set_entry inside.ledger c.enter.new.self p c.args.limit word reply c.enter.ensures.ledger logged.0 (lawful ∙ set) in
+    let made = set_pass p c.enter.new.pass c.args.limit word reply c.enter.ensures.pass logged.0 (lawful ∙ set) in
     let becomes = set_state inside.state c.set_limit-reply.new.self c.args.limit word c.set_limit-reply.ensures.domain set in
     let free = has_room c.is_full.result (length inside.ledger.history) inside.ledger.room c.is_full.ensures.full c.if-is_full.false c.is_full.ensures.history.within in
-    let answer = limit_set_answer c.args.self.now inside.cpus inside.limit inside.workers.count inside.left inside.ledger c.enter.new.self inside.stock inside.state c.set_limit-reply.new.self c.args.limit c.args.blank back p c.enter.new.pass c.self.view_is c.self.invariant c.requires.limit free more made told.1 told.2 becomes in
+    let answer = limit_set_answer c.args.self.now inside.cpus inside.limit inside.workers.count inside.left inside.ledger c.enter.new.self inside.stock inside.state c.set_limit-reply.new.self c.args.limit c.args.blank back p c.enter.new.pass c.self.view_is c.self.invariant c.requires.limit free more made logged.1 logged.2 becomes in
     record {
       answer = subst (λ (n : ℕ). IsLimitSet c.args.self.now (book_of inside.cpus inside.limit inside.workers.count (Some n) c.enter.new.self inside.stock) p c.enter.new.pass c.args.limit c.args.blank back) (sym c.last.ensures) answer;
-      own = told.2.own ∙ c.requires.blank;
+      own = logged.2.own ∙ c.requires.blank;
     }

@@ -30,6 +30,6 @@ returns-then-not-is_of c =
             let yes = c.is_of.ensures.1 e in
             let no : true ≡ false = sym yes ∙ c.if-not-is_of.true in
             absurd cc;
-        told = refl;
+        logged = refl;
       },
     )

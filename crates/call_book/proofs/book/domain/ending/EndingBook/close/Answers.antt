@@ -24,7 +24,7 @@ returns-clause-state c = c.self.invariant.left ∙ ap (λ (e : EndingView). stat
 
 pub returns-clause-machine : goal.returns-clause-machine
 returns-clause-machine c =
-    let machine = machine_left _ c.self.inside.heard c.self.inside.state c.self.invariant in
+    let machine = machine_left _ c.self.inside.streamed c.self.inside.state c.self.invariant in
     (machine.0 ∙ ap (λ (e : EndingView). e.book.cpus) c.self.view_is, machine.1)
 
 pub returns-clause-limited : goal.returns-clause-limited
@@ -59,7 +59,7 @@ returns-clause-own c =
 pub returns-clause-held : goal.returns-clause-held
 returns-clause-held c =
     let inside = c.self.inside in
-    subst (λ (e : EndingView). HoldsTickets inside.state e.book.tickets) c.self.view_is (holds_left _ inside.heard inside.state c.self.invariant)
+    subst (λ (e : EndingView). HoldsTickets inside.state e.book.tickets) c.self.view_is (holds_left _ inside.streamed inside.state c.self.invariant)
 
 pub returns-clause-sums : goal.returns-clause-sums
 returns-clause-sums c =

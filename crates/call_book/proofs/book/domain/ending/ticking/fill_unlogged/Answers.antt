@@ -15,7 +15,7 @@ state_on n left after start d e f was made same fits within =
 pub fill-left-requires : goal.fill-left-requires
 fill-left-requires c =
     let inv = c.pieces.invariant in
-    let start = c.args.logged.now.domain in
+    let start = c.args.logged_run.now.domain in
     let time = ap (λ (d : Domain). d.time) inv.state ∙ ticks_time (c.args.n - c.pieces.left) start in
     omega (arith, time, inv.most, c.requires)
 
@@ -23,16 +23,16 @@ pub returns-then-not-is_empty-clause-made : goal.returns-then-not-is_empty-claus
 returns-then-not-is_empty-clause-made c =
     let inv = c.pieces.invariant in
     let made = c.fill-left in
-    state_on c.args.n c.pieces.left made.result c.args.logged.now.domain c.pieces.logged.domain made.new.self.domain c.forget_told-in-pieces.new.logged.domain
-    inv.state made.ensures.made c.forget_told-in-pieces.ensures.domain inv.most made.ensures.most
+    state_on c.args.n c.pieces.left made.result c.args.logged_run.now.domain c.pieces.logged_run.domain made.new.self.domain c.forget_logged-in-pieces.new.logged_run.domain
+    inv.state made.ensures.made c.forget_logged-in-pieces.ensures.domain inv.most made.ensures.most
 
 pub pieces-preserved : goal.pieces-preserved
 pieces-preserved c =
     let inv = c.pieces.invariant in
     let made = c.fill-left in
     record {
-      state = state_on c.args.n c.pieces.left made.result c.args.logged.now.domain c.pieces.logged.domain made.new.self.domain c.forget_told-in-pieces.new.logged.domain
-          inv.state made.ensures.made c.forget_told-in-pieces.ensures.domain inv.most made.ensures.most;
+      state = state_on c.args.n c.pieces.left made.result c.args.logged_run.now.domain c.pieces.logged_run.domain made.new.self.domain c.forget_logged-in-pieces.new.logged_run.domain
+          inv.state made.ensures.made c.forget_logged-in-pieces.ensures.domain inv.most made.ensures.most;
       most = omega (arith, inv.most, made.ensures.most);
-      told = c.forget_told-in-pieces.ensures.told;
+      logged = c.forget_logged-in-pieces.ensures.logged;
     }

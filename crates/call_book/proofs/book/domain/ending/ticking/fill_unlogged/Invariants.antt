@@ -5,9 +5,9 @@ use Rattle.call_book.proofs.book.domain.ending.ticking.fill_unlogged.Given as go
 -- the ticks so far are made, and the log is empty
 abbrev pub invariant-pieces : goal.invariant-pieces
 invariant-pieces l = record {
-  state : l.logged.domain ≡ ticks (l.n - l.left) l.fn.logged.domain;
+  state : l.logged_run.domain ≡ ticks (l.n - l.left) l.fn.logged_run.domain;
   most : l.left ≤ l.n;
-  told : l.logged.told ≡ [];
+  logged : l.logged_run.logged ≡ [];
 }
 
 abbrev pub decreases-pieces : goal.decreases-pieces

@@ -1,6 +1,6 @@
 use Rattle.std.proofs.Common.{◌≡◌, ◌-◌, ◌<◌, [], All, sym, subst, arith}
 use Rattle.std.proofs.lemmas.List.Elements.{All-nil}
-use Rattle.domain_run.specs.Logged.{IsToldUntil}
+use Rattle.domain_run.specs.LoggedRun.{IsLoggedUntil}
 use Rattle.domain_run.proofs.CallerLemmas.{to_come_later}
 use Rattle.call_book.specs.Playing.{PlayingView, IsFurther, all_switches}
 use Rattle.call_book.specs.private.Kept.{book_of}
@@ -15,7 +15,7 @@ invariant_of-self c =
     let new = domain_in made.new.self in
     record {
       on = playing_on (book_of own.cpus own.limit own.workers.count own.left own.ledger own.stock) (domain_in own.domain) new own.ticks made.result c.self.invariant.on made.ensures.made made.ensures.most;
-      until = subst (All (IsToldUntil new.time)) (sym made.ensures.told) (All-nil (IsToldUntil new.time));
+      until = subst (All (IsLoggedUntil new.time)) (sym made.ensures.logged) (All-nil (IsLoggedUntil new.time));
     }
 
 pub returns-clause-further : goal.returns-clause-further
@@ -27,11 +27,11 @@ returns-clause-further c =
     let at = made.ensures.made in
     let logs = made.ensures.logs in
     let left : made.result ≡ own.ticks - (own.ticks - made.result) = omega (arith, most) in
-    let new : PlayingView = record { book = book; at = domain_in made.new.self; left = made.result; logs = logs_in made.new.self; told = waits_in made.new.self } in
+    let new : PlayingView = record { book = book; at = domain_in made.new.self; left = made.result; logs = logs_in made.new.self; logged = waits_in made.new.self } in
     subst (λ (p : PlayingView). IsFurther p new) c.self.view_is (record {
       made = own.ticks - made.result;
       most = omega arith;
-      play = λ i. record { book = book; at = at i; left = left i; logs = logs i; told = waits_in made.new.self };
+      play = λ i. record { book = book; at = at i; left = left i; logs = logs i; logged = waits_in made.new.self };
     })
 
 pub returns-clause-switches : goal.returns-clause-switches
@@ -39,7 +39,7 @@ returns-clause-switches c =
     let own = c.self.inside in
     let made = c.fill-self-inside in
     let book = book_of own.cpus own.limit own.workers.count own.left own.ledger own.stock in
-    let new : PlayingView = record { book = book; at = domain_in made.new.self; left = made.result; logs = logs_in made.new.self; told = waits_in made.new.self } in
+    let new : PlayingView = record { book = book; at = domain_in made.new.self; left = made.result; logs = logs_in made.new.self; logged = waits_in made.new.self } in
     let most = made.ensures.most in
     subst (λ (p : PlayingView). all_switches new ≡ all_switches p) c.self.view_is
     (to_come_more own.ticks (own.ticks - made.result) made.result (domain_in own.domain) (domain_in made.new.self) made.ensures.made (omega (arith, most)))

@@ -15,7 +15,7 @@ invariant_of-self c =
     let new = domain_in gone.new.self in
     record {
       on = playing_after (book_of own.cpus own.limit own.workers.count own.left own.ledger own.stock) old new own.ticks c.self.invariant.on (ap without_switches gone.ensures.domain);
-      until = until_same old new (waits_in own.domain) (waits_in gone.new.self) (ap (λ (d : Domain). d.time) gone.ensures.domain) gone.ensures.told c.self.invariant.until;
+      until = until_same old new (waits_in own.domain) (waits_in gone.new.self) (ap (λ (d : Domain). d.time) gone.ensures.domain) gone.ensures.logged c.self.invariant.until;
     }
 
 pub returns : goal.returns
@@ -25,6 +25,6 @@ returns c =
     let book = book_of own.cpus own.limit own.workers.count own.left own.ledger own.stock in
     let at = gone.ensures.domain in
     let logs = gone.ensures.logs in
-    let told = gone.ensures.told in
-    let new : PlayingView = record { book = book; at = domain_in gone.new.self; left = own.ticks; logs = logs_in gone.new.self; told = waits_in gone.new.self } in
-    subst (λ (p : PlayingView). new ≡ record p { at = without_front c.args.count p.at }) c.self.view_is (λ i. record { book = book; at = at i; left = own.ticks; logs = logs i; told = told i })
+    let logged = gone.ensures.logged in
+    let new : PlayingView = record { book = book; at = domain_in gone.new.self; left = own.ticks; logs = logs_in gone.new.self; logged = waits_in gone.new.self } in
+    subst (λ (p : PlayingView). new ≡ record p { at = without_front c.args.count p.at }) c.self.view_is (λ i. record { book = book; at = at i; left = own.ticks; logs = logs i; logged = logged i })

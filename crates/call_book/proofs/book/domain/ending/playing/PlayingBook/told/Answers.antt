@@ -1,7 +1,0 @@
-use Rattle.std.proofs.Common.{All, subst}
-use Rattle.domain_run.specs.Logged.{IsToldUntil}
-use Rattle.call_book.specs.Playing.{PlayingView}
-use Rattle.call_book.proofs.book.domain.ending.playing.PlayingBook.told.Goals as goal
-
-pub returns-clause-until : goal.returns-clause-until
-returns-clause-until c = subst (λ (p : PlayingView). All (IsToldUntil p.at.time) p.told) c.self.view_is c.self.invariant.until

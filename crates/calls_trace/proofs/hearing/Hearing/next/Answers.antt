@@ -1,9 +1,0 @@
-use Rattle.std.proofs.Common.{◌∷◌}
-use Rattle.calls_trace.proofs.HeardCalls.{moved_before}
-use Rattle.calls_trace.proofs.hearing.Hearing.next.Goals as goal
-
-pub make-requires : goal.make-requires
-make-requires c =
-    let h = c.args.self.now in
-    let left = c.next.new.self in
-    record { before = moved_before h left h.calls (c.in-Some.call ∷ left) c.in-Some.ensures.next c.requires.before }

@@ -1,9 +1,0 @@
-use Rattle.std.proofs.Common.{◌≡◌, ◌≤◌, length, map, take, vec_capacity}
-use Rattle.calls_trace.specs.Told.{admitted_with_params, no_params}
-use Rattle.calls_trace.proofs.hearing.by_numbers.Given as goal
-
-abbrev pub invariant-loop-number : goal.invariant-loop-number
-invariant-loop-number l = record {
-  tasks : l.tasks.items ≡ map (admitted_with_params no_params) (take l.number-index l.listed);
-  room : length l.listed ≤ vec_capacity l.tasks;
-}

@@ -1,7 +1,0 @@
-use Rattle.chart_pieces.specs.private.Keeping.{drawing_view_of}
-use Rattle.chart_pieces.proofs.Hearing.{IsHeard}
-use Rattle.chart_pieces.proofs.drawing.hear_piece.Given as goal
-
--- all moments of the piece, and the bars of its first switches
-abbrev pub invariant-loop-switch : goal.invariant-loop-switch
-invariant-loop-switch l = IsHeard (drawing_view_of l.window l.heard l.places) l.happened l.switches l.switch-index l.table.lines.items l.table.holders.items

@@ -1,6 +1,0 @@
-use Rattle.std.proofs.Common.{arith}
-use Rattle.std.proofs.lemmas.Grind.{common_steps}
-use Rattle.domain_run.proofs.roster.Roster.number_at.Goals as goal
-
-pub at-requires : goal.at-requires
-at-requires c = grind (arith, common_steps)

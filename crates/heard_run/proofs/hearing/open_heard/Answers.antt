@@ -1,5 +1,0 @@
-use Rattle.std.proofs.Common.{rules}
-use Rattle.heard_run.proofs.hearing.open_heard.Goals as goal
-
-pub returns : goal.returns
-returns c = search rules

@@ -1,6 +1,0 @@
-use Rattle.std.proofs.lemmas.Grind.{common_steps}
-use Rattle.std.proofs.Common.{arith}
-use Rattle.run_figures.proofs.accounting.Accounting.hear.Goals as goal
-
-pub invariant_of-self : goal.invariant_of-self
-invariant_of-self c = grind (arith, common_steps)
