@@ -1,4 +1,4 @@
-mod limits;
+mod limiting;
 mod mark;
 
 use crate::answer::{Regrade, Take, Words};

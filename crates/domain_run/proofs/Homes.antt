@@ -3,7 +3,7 @@ use Rattle.std.proofs.Common.{◌≡◌, ◌≢◌, ℕ, suc, true, false, cond,
 use Rattle.std.specs.Prelude.{All, position, option_map}
 use Rattle.std.proofs.lemmas.List.Elements.{All-map, All-weaker, All-cons, All-head, All-tail, Contains-get_or}
 use Rattle.edf_pick.specs.declared.candidate.Candidate.{Candidate}
-use Rattle.edf_pick.specs.Changes.{runs_home}
+use Rattle.edf_pick.specs.Changes.{is_home}
 use Rattle.edf_pick.specs.Order.{by_deadline}
 use Rattle.edf_pick.specs.Places.{Places, is_task, is_on_cpu}
 use Rattle.edf_pick.specs.Schedule.{IsAtHome}
@@ -44,7 +44,7 @@ nowhere n (o ∷ places) e =
 pub is_at_home : (places : Places) (t : Task) → with_last_cpu places t ≡ t → IsAtHome places (candidate_of t)
 is_at_home places t homed on_one = by_position (position (is_task t.number) places) refl
   where
-    by_position : (o : Option ℕ) → position (is_task t.number) places ≡ o → runs_home places (candidate_of t) ≡ true
+    by_position : (o : Option ℕ) → position (is_task t.number) places ≡ o → is_home places (candidate_of t) ≡ true
     by_position None e = let no : true ≡ false = sym on_one ∙ nowhere t.number places (sym (first_is (is_task t.number) places) ∙ e) in absurd cc
     by_position (Some cpu) e =
         let same : cpu ≡ t.cpu = ap (λ (x : Task). x.cpu) (sym (ap (λ o. with_cpu o t) e) ∙ homed) in

@@ -2,7 +2,7 @@
 use Rattle.std.specs.Prelude.{ℕ, ◌≤◌, ◌<◌, ◌≡◌, ◌≢◌, ◌==◌, max, ◌≤ℤ◌, ◌<ℤ◌, pos, List, length, All, Any, AllPairs, Option, Some, None, slice_index_or, IfSome, IsSome, IsTrue}
 use Rattle.std.specs.List.{list_any}
 use Rattle.attr_check.specs.Ratio.{cap}
-use Rattle.edf_pick.specs.Places.{Places}
+use Rattle.edf_pick.specs.Places.{Places, AreSingle}
 use Rattle.domain_run.specs.declared.task.Task.{Task}
 use Rattle.domain_run.specs.declared.task.Condition.{Condition}
 use Rattle.domain_run.specs.declared.task.Condition.TheVariants.{Ready, Throttled, Blocked, Waiting, Leaving}
@@ -37,7 +37,7 @@ occupant places cpu = slice_index_or places cpu None
 
 -- no task runs on two CPUs
 pub record HasNoTaskTwice (places : Places) : Type 0 where
-  pub once : (i j n : ℕ) → occupant places i ≡ Some n → occupant places j ≡ Some n → i ≡ j
+  pub once : AreSingle places
 
 -- a task of this number that may run on a CPU: it is ready, has budget left and belongs to that CPU
 abbrev pub MayRunThere : ℕ → ℕ → Task → Type 0

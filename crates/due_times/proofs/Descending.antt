@@ -3,12 +3,12 @@ use Rattle.std.proofs.Common.{◌≡◌, ℕ, zero, suc, ◌+◌, ◌*◌, ◌/�
 use Rattle.std.proofs.lemmas.Bool.{cases_lt}
 use Rattle.std.proofs.lemmas.List.{length-drop, get_or-drop}
 use Rattle.due_times.specs.Timers.{least, AreLater, IsSize}
-use Rattle.due_times.specs.private.TimerTree.{IsLeast, IsTimerTreeOf, AreAhead, ArePassed, IsOnWay, leaves}
+use Rattle.due_times.specs.private.TimerTree.{IsLeast, IsTimerTreeOf, ArePassed, IsOnWay, leaves}
 use Rattle.due_times.proofs.Rooted.{rooted}
 use Rattle.due_times.proofs.Climbing.{Covers, covers_pow, four_times, some_wide, down_low, down_high, down_inner}
 
 -- after those of one more node that has not come
-ahead_more : (nodes : List ℕ) (time low b s : ℕ) → Covers nodes b s → time < get_or nodes b 0 → AreAhead nodes time low (b * s) → AreAhead nodes time low ((b + 1) * s)
+ahead_more : (nodes : List ℕ) (time low b s : ℕ) → Covers nodes b s → time < get_or nodes b 0 → AreLater nodes time low (b * s) → AreLater nodes time low ((b + 1) * s)
 ahead_more nodes time low b s covers later ahead node above before within =
     elim (cases_lt node (b * s)) [
       | inl less ↦ ahead node above less within
@@ -19,14 +19,14 @@ ahead_more nodes time low b s covers later ahead node above before within =
 
 module _ (nodes : List ℕ) (time at n k : ℕ) (is : IsTimerTreeOf nodes) (one : 1 ≤ at) (passed : ArePassed (get_or nodes (4 * at) 0) (get_or nodes (4 * at + 1) 0) (get_or nodes (4 * at + 2) 0) time n) where
   -- as many of the four as have not come lie after
-  down_ahead : (low : ℕ) → AreAhead nodes time low (at * (4 ^ k * 4)) → AreAhead nodes time low ((4 * at + n) * 4 ^ k)
+  down_ahead : (low : ℕ) → AreLater nodes time low (at * (4 ^ k * 4)) → AreLater nodes time low ((4 * at + n) * 4 ^ k)
   down_ahead low ahead =
       let s = 4 ^ k in
-      let upto = λ (b : ℕ) (e : b ≡ 4 * at + n) (h : AreAhead nodes time low (b * 4 ^ k)). subst (λ (j : ℕ). AreAhead nodes time low (j * 4 ^ k)) e h in
-      let first : AreAhead nodes time low (4 * at * s) = subst (AreAhead nodes time low) (omega arith) ahead in
+      let upto = λ (b : ℕ) (e : b ≡ 4 * at + n) (h : AreLater nodes time low (b * 4 ^ k)). subst (λ (j : ℕ). AreLater nodes time low (j * 4 ^ k)) e h in
+      let first : AreLater nodes time low (4 * at * s) = subst (AreLater nodes time low) (omega arith) ahead in
       let second = λ (h : 0 < n). ahead_more nodes time low (4 * at) s (covers_pow nodes is k (4 * at) (omega (arith, one))) (passed.one h) first in
       let third = λ (h : 1 < n). ahead_more nodes time low (4 * at + 1) s (covers_pow nodes is k (4 * at + 1) (omega arith)) (passed.two h) (second (omega (arith, h))) in
-      let last = λ (h : 2 < n). ahead_more nodes time low (4 * at + 2) s (covers_pow nodes is k (4 * at + 2) (omega arith)) (passed.three h) (subst (λ (j : ℕ). AreAhead nodes time low (j * 4 ^ k)) (omega arith) (third (omega (arith, h)))) in
+      let last = λ (h : 2 < n). ahead_more nodes time low (4 * at + 2) s (covers_pow nodes is k (4 * at + 2) (omega arith)) (passed.three h) (subst (λ (j : ℕ). AreLater nodes time low (j * 4 ^ k)) (omega arith) (third (omega (arith, h)))) in
       elim (cases_lt 0 n) [
         | inr none ↦ upto (4 * at) (omega (arith, none)) first
         | inl some ↦ elim (cases_lt 1 n) [
@@ -64,7 +64,7 @@ way_down nodes time at n k is passed way =
       one = omega (arith, way.one);
       low = down_low (length nodes / 2) at (4 * at + n) (4 ^ k) (subst (λ n. length nodes / 2 ≤ at * n) wide way.low) (omega arith);
       high = down_high (length nodes) at (4 * at + n) (4 ^ k) high (omega (arith, passed.most));
-      ahead = down_ahead nodes time at n k is way.one passed (length nodes / 2) (subst (λ n. AreAhead nodes time (length nodes / 2) (at * n)) wide way.ahead);
+      ahead = down_ahead nodes time at n k is way.one passed (length nodes / 2) (subst (λ n. AreLater nodes time (length nodes / 2) (at * n)) wide way.ahead);
       come = down_come nodes time at n k is way.one passed least_of way.come;
     }
 

@@ -203,7 +203,7 @@ fn following(nodes: &[u64], from: usize, time: u64) -> usize
     requires few { length nodes.now ≤ 2048 }
     requires later { time < slice_index_or nodes.now from 0 }
     ensures next { from < result }
-    ensures others { spec.AreAhead nodes.now time from result }
+    ensures others { AreLater nodes.now time from result }
 {
     let mut at = from;
     let mut span = 1;

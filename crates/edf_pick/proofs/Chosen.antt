@@ -14,7 +14,7 @@ use Rattle.edf_pick.specs.Order.{IsRising, has_candidate, with_candidate}
 use Rattle.edf_pick.specs.Places.{Places, is_task, is_on_cpu}
 use Rattle.edf_pick.specs.Schedule.{IsAtHome}
 use Rattle.edf_pick.specs.private.Choosing.{chosen_stays, chosen_movers, IsChoosing, IsChosen, AreBefore, total}
-use Rattle.edf_pick.specs.private.First.{is_home}
+use Rattle.edf_pick.specs.Changes.{is_home}
 use Rattle.edf_pick.specs.private.RunningSet.{bare_key}
 use Rattle.edf_pick.specs.private.Ready.{all_held, AreOn, IsReady}
 use Rattle.edf_pick.proofs.Before.{key, before_logs, before_both, before_other, number_differs}

@@ -8,7 +8,7 @@ use Rattle.edf_pick.specs.declared.candidate.Candidate.{Candidate}
 use Rattle.edf_pick.specs.Choice.{is_before}
 use Rattle.edf_pick.specs.Places.{Places, is_free}
 use Rattle.edf_pick.specs.private.Choosing.{chosen_stays, chosen_movers, IsChoosing, IsChosen}
-use Rattle.edf_pick.specs.private.First.{is_home}
+use Rattle.edf_pick.specs.Changes.{is_home}
 use Rattle.edf_pick.specs.private.Ready.{all_held, running_places, AreOn, AreAssigned}
 use Rattle.edf_pick.proofs.Chosen.{home_within, chosen_is}
 use Rattle.edf_pick.proofs.Rising.{rising_first}

@@ -4,8 +4,8 @@ use Rattle.edf_pick.specs.declared.candidate.Candidate.{Candidate}
 use Rattle.edf_pick.specs.Places.{Places, is_task}
 
 -- a task that runs on the CPU to which it belongs
-abbrev pub runs_home : Places → Candidate → Bool
-runs_home places c = is_task c.number (slice_index_or places c.home None)
+abbrev pub is_home : Places → Candidate → Bool
+is_home places c = is_task c.number (slice_index_or places c.home None)
 
 abbrev pub home_on : Candidate → Option ℕ → Candidate
 home_on c None = c

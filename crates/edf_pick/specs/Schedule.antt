@@ -2,7 +2,7 @@
 use Rattle.std.specs.Prelude.{ℕ, ◌≡◌, true, if◌then◌else◌, List, fold, IsTrue, None, slice_index_or}
 use Rattle.edf_pick.specs.declared.candidate.Candidate.{Candidate}
 use Rattle.edf_pick.specs.declared.moves.Moved.{Moved}
-use Rattle.edf_pick.specs.Changes.{runs_home}
+use Rattle.edf_pick.specs.Changes.{is_home}
 use Rattle.edf_pick.specs.Places.{Places, is_task, is_on_cpu}
 
 pub record ScheduleView : Type 0 where
@@ -15,7 +15,7 @@ pub record ScheduleView : Type 0 where
 
 -- a task that runs does so on the CPU to which it belongs
 abbrev pub IsAtHome : Places → Candidate → Type 0
-IsAtHome places c = IsTrue (is_on_cpu c.number places) → runs_home places c ≡ true
+IsAtHome places c = IsTrue (is_on_cpu c.number places) → is_home places c ≡ true
 
 -- the task that runs on this CPU belongs to it
 abbrev pub homed_on : Places → ℕ → Candidate → Candidate

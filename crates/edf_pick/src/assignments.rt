@@ -3,7 +3,7 @@
 
 ghost use Rattle.std.specs.Prelude.{◌≡◌, ◌<◌, ◌≤◌, vec_len, vec_capacity, is_none, slice_get, slice_index_or, slice_set, position, None, Some, IfSome, length};
 ghost use Rattle.edf_pick.specs.Places as spec;
-ghost use Rattle.edf_pick.specs.private.First.{is_home};
+ghost use Rattle.edf_pick.specs.Changes.{is_home};
 
 use crate::candidate::Candidate;
 use cpu_marks::{first_bare, with, without};

@@ -6,7 +6,7 @@ ghost use Rattle.std.specs.Prelude.{◌≡◌, ◌<◌, ◌≤◌, ◌+◌, ◌�
 ghost use Rattle.std.specs.List.Sorted.{IsPermutation};
 ghost use Rattle.edf_pick.specs.Choice as choice;
 ghost use Rattle.edf_pick.specs.private.Choosing as spec;
-ghost use Rattle.edf_pick.specs.private.First.{is_home};
+ghost use Rattle.edf_pick.specs.Changes.{is_home};
 ghost use Rattle.edf_pick.specs.private.RunningSet.{bare_key};
 ghost use Rattle.edf_pick.specs.private.Ready.{all_held};
 

@@ -6,7 +6,8 @@ use Rattle.std.proofs.lemmas.List.{length-append, length-replicate}
 use Rattle.domain_run.specs.declared.switch.PrevState.{PrevState}
 use Rattle.domain_run.specs.declared.switch.PrevState.TheVariants.{Running, Preempted, Sleeping, Dead}
 use Rattle.switch_text.specs.Names.{Names, name_of_task, HasName}
-use Rattle.switch_text.specs.Line.{right_in, padded_right, digits_in, pid_of, prio_of, title_of, comm_of, letters_of, task_part, cpu_part}
+use Rattle.draft.specs.Columns.{right}
+use Rattle.switch_text.specs.Line.{padded_right, digits_in, pid_of, prio_of, title_of, comm_of, letters_of, task_part, cpu_part}
 use Rattle.switch_text.proofs.Digits.{digits_three, length-digits_three}
 use Rattle.switch_text.specs.private.Parts.{second_part, leaving_part, state_part, coming_part}
 
@@ -18,8 +19,8 @@ pub IsShort-from_name : (names : Names) (task : Option ℕ) → IfSome task (Has
 IsShort-from_name names None h = tt
 IsShort-from_name names (Some n) h = h.most
 
-length-right_in : (width most : ℕ) (text : List ℕ) → width ≤ most → length text ≤ most → length (right_in width text) ≤ most
-length-right_in width most text h k = omega (arith, length-append (replicate (width - length text) 32) text, length-replicate {A = ℕ} (width - length text) 32)
+length-right : (width most : ℕ) (text : List ℕ) → width ≤ most → length text ≤ most → length (right width text) ≤ most
+length-right width most text h k = omega (arith, length-append (replicate (width - length text) 32) text, length-replicate {A = ℕ} (width - length text) 32)
 
 length-left_in : (width most : ℕ) (text : List ℕ) → width ≤ most → length text ≤ most → length (padded_right width text) ≤ most
 length-left_in width most text h k = omega (arith, length-append text (replicate (width - length text) 32), length-replicate {A = ℕ} (width - length text) 32)
@@ -48,9 +49,9 @@ length-comm names cpu (Some n) lt h = h
 pub length-task_part : (names : ℕ → List ℕ) (prev : Option ℕ) → IsShort names prev → pid_of prev < 2 ^ 33 → length (task_part names prev) ≤ 27
 unfolding task_part
 length-task_part names prev h small =
-    let title = right_in 16 (title_of names prev) in
+    let title = right 16 (title_of names prev) in
     let number = padded_right 7 (decimal (pid_of prev)) in
-    omega (arith, length-append (title ++ codes "-") number, length-append title (codes "-"), length-right_in 16 16 (title_of names prev) (omega arith) (length-title names prev h), length-left_in 7 10 (decimal (pid_of prev)) (omega arith) (length-pid prev small))
+    omega (arith, length-append (title ++ codes "-") number, length-append title (codes "-"), length-right 16 16 (title_of names prev) (omega arith) (length-title names prev h), length-left_in 7 10 (decimal (pid_of prev)) (omega arith) (length-pid prev small))
 
 pub length-cpu_part : (cpu : ℕ) → cpu < 512 → length (cpu_part cpu) ≡ 13
 unfolding cpu_part
@@ -66,7 +67,7 @@ cpu_text cpu n two e lt q =
 
 pub length-second_part : (second : ℕ) → second < 10000000 → length (second_part second) ≤ 8
 length-second_part second lt =
-    omega (arith, length-append (right_in 5 (decimal second)) (codes "."), length-right_in 5 7 (decimal second) (omega arith) (length-decimal-le 7 second (omega arith) (omega arith) (omega arith)))
+    omega (arith, length-append (right 5 (decimal second)) (codes "."), length-right 5 7 (decimal second) (omega arith) (length-decimal-le 7 second (omega arith) (omega arith) (omega arith)))
 
 pub length-leaving_part : (names : ℕ → List ℕ) (cpu : ℕ) (prev : Option ℕ) → cpu < 512 → IsShort names prev → pid_of prev < 2 ^ 33 → length (leaving_part names cpu prev) ≤ 61
 unfolding leaving_part

@@ -3,13 +3,10 @@
 -- The event's own fields, from prev_comm to next_prio, are ftrace's. The widths, the part before
 -- them and the letters of the states are this project's own profile.
 use Rattle.std.specs.Prelude.{ℕ, ◌+◌, ◌-◌, ◌/◌, ◌%◌, List, ◌++◌, length, replicate, codes, decimal, Option, Some, None}
+use Rattle.draft.specs.Columns.{right}
 use Rattle.domain_run.specs.Switch.{Switch}
 use Rattle.domain_run.specs.declared.switch.PrevState.{PrevState}
 use Rattle.domain_run.specs.declared.switch.PrevState.TheVariants.{Running, Preempted, Sleeping, Dead}
-
--- spaces before a text, as many as it is short of the width
-abbrev pub right_in : ℕ → List ℕ → List ℕ
-right_in width text = replicate (width - length text) 32 ++ text
 
 -- spaces after a text, as many as it is short of the width
 abbrev pub padded_right : ℕ → List ℕ → List ℕ
@@ -50,7 +47,7 @@ letters_of Dead = codes "X"
 -- whose place is taken
 unfoldable pub task_part : (ℕ → List ℕ) → Option ℕ → List ℕ
 task_part names prev =
-    right_in 16 (title_of names prev) ++ codes "-" ++ padded_right 7 (decimal (pid_of prev))
+    right 16 (title_of names prev) ++ codes "-" ++ padded_right 7 (decimal (pid_of prev))
 
 -- on which CPU of the machine
 unfoldable pub cpu_part : ℕ → List ℕ
@@ -58,7 +55,7 @@ cpu_part cpu = codes " [" ++ digits_in 3 cpu ++ codes "] d..2. "
 
 -- when: seconds, and microseconds
 unfoldable pub time_part : ℕ → List ℕ
-time_part time = right_in 5 (decimal (time / 1000000)) ++ codes "." ++ digits_in 6 (time % 1000000)
+time_part time = right 5 (decimal (time / 1000000)) ++ codes "." ++ digits_in 6 (time % 1000000)
 
 -- the event's fields of who leaves
 unfoldable pub prev_part : (ℕ → List ℕ) → ℕ → Option ℕ → PrevState → List ℕ

@@ -2,7 +2,8 @@
 
 ghost use Rattle.std.specs.Prelude.{◌≡◌, ◌+◌, ◌<◌, ◌≤◌, ◌++◌, length, take};
 ghost use Rattle.switch_text.specs.Names.{name_of_task, HasLine};
-ghost use Rattle.switch_text.specs.Line.{right_in, padded_right, digits_in, prio_of, letters_of, cpu_part, switch_line};
+ghost use Rattle.draft.specs.Columns.{right};
+ghost use Rattle.switch_text.specs.Line.{padded_right, digits_in, prio_of, letters_of, cpu_part, switch_line};
 ghost use Rattle.switch_text.specs.private.Parts.{second_part, event_part, task_text, leaving_text, state_part, coming_text};
 ghost use Rattle.switch_text.specs.private.Pieces.{short_text_of};
 
@@ -17,9 +18,9 @@ use indexmap::IndexMap;
 fn put_right(out: &mut [u8], at: usize, width: usize, text: &ShortPiece) -> usize
     requires width { width ≤ 16 }
     requires room { at + 48 ≤ length out.old }
-    ensures place { result ≡ at + length (right_in width (short_text_of text.now)) }
+    ensures place { result ≡ at + length (right width (short_text_of text.now)) }
     ensures text { take result out.new
-        ≡ take at out.old ++ right_in width (short_text_of text.now) }
+        ≡ take at out.old ++ right width (short_text_of text.now) }
 {
     let at = ShortPiece::spaces(width.saturating_sub(text.len())).put(out, at);
     text.put(out, at)

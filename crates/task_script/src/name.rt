@@ -57,12 +57,4 @@ impl Name {
     {
         self.text.as_str()
     }
-
-    /// The name as a string.
-    pub fn into_string(self) -> String
-        ensures { string_bytes result ≡ self }
-    {
-        let Name { text } = self;
-        text
-    }
 }

@@ -2,7 +2,7 @@
 -- below it, and the leaves are the second half. So the nodes of a level are 4, 16, 64, 256 or 1024,
 -- after as many that it has no use for.
 use Rattle.std.specs.Prelude.{ℕ, ◌+◌, ◌*◌, ◌/◌, ◌<◌, ◌≤◌, ◌≡◌, ◌≢◌, min, List, length, drop, slice_index_or}
-use Rattle.due_times.specs.Timers.{IsSize}
+use Rattle.due_times.specs.Timers.{AreLater, IsSize}
 
 abbrev pub least_below : List ℕ → ℕ → ℕ
 least_below nodes i =
@@ -41,19 +41,13 @@ pub record ArePassed (first second third time count : ℕ) : Type 0 where
   pub at_two : count ≡ 1 → second ≤ time
   pub at_three : count ≡ 2 → third ≤ time
 
--- from this node on, up to that, none has come
-abbrev pub AreAhead : List ℕ → ℕ → ℕ → ℕ → Type 0
-AreAhead nodes time from end =
-    (node : ℕ) → from ≤ node → node < end → node < length nodes
-    → time < slice_index_or nodes node 0
-
 -- a node on the way from the root down to the first leaf that has come, so many leaves below it:
 -- something has come in it, and no leaf before those has
 pub record IsOnWay (nodes : List ℕ) (time at span : ℕ) : Type 0 where
   pub one : 1 ≤ at
   pub low : length nodes / 2 ≤ at * span
   pub high : (at + 1) * span ≤ length nodes
-  pub ahead : AreAhead nodes time (length nodes / 2) (at * span)
+  pub ahead : AreLater nodes time (length nodes / 2) (at * span)
   pub come : slice_index_or nodes at 0 ≤ time
 
 -- of eight halves the second is in the fifth as well, for so many nodes; the others are as they

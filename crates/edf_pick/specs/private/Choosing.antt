@@ -7,7 +7,7 @@ use Rattle.edf_pick.specs.Choice.{is_before}
 use Rattle.edf_pick.specs.Order.{IsRising}
 use Rattle.edf_pick.specs.Places.{Places, is_on_cpu}
 use Rattle.edf_pick.specs.Schedule.{IsAtHome}
-use Rattle.edf_pick.specs.private.First.{is_home}
+use Rattle.edf_pick.specs.Changes.{is_home}
 use Rattle.edf_pick.specs.private.Ready.{all_held, AreOn}
 
 -- a task that has been chosen stays where it runs

@@ -9,10 +9,6 @@ abbrev pub kept_running : List Candidate → Option ℕ → Option ℕ
 kept_running chosen None = None
 kept_running chosen (Some n) = if list_any (λ c. c.number == n) chosen then Some n else None
 
--- runs on the CPU to which it belongs
-abbrev pub is_home : Places → Candidate → Bool
-is_home places c = is_task c.number (slice_index_or places c.home None)
-
 -- the chosen tasks, placed one after another
 abbrev pub assigned_all : List Candidate → Places → Places
 assigned_all chosen places = fold assigned places chosen

@@ -1,11 +1,12 @@
 -- A line in the parts that are kept ready. The trace text knows nothing of these words.
 use Rattle.std.specs.Prelude.{ℕ, List, ◌++◌, codes, decimal, Option}
 use Rattle.domain_run.specs.declared.switch.PrevState.{PrevState}
-use Rattle.switch_text.specs.Line.{right_in, padded_right, pid_of, prio_of, comm_of, letters_of}
+use Rattle.draft.specs.Columns.{right}
+use Rattle.switch_text.specs.Line.{padded_right, pid_of, prio_of, comm_of, letters_of}
 
 -- the second, and the point after it
 abbrev pub second_part : ℕ → List ℕ
-second_part second = right_in 5 (decimal second) ++ codes "."
+second_part second = right 5 (decimal second) ++ codes "."
 
 -- the event's name
 unfoldable pub event_part : List ℕ
@@ -21,7 +22,7 @@ leaving_part names cpu task =
 
 -- the same three, of what the trace calls a task
 unfoldable pub task_text : List ℕ → List ℕ → List ℕ
-task_text title pid = right_in 16 title ++ codes "-" ++ padded_right 7 pid
+task_text title pid = right 16 title ++ codes "-" ++ padded_right 7 pid
 
 unfoldable pub leaving_text : List ℕ → List ℕ → Option ℕ → List ℕ
 leaving_text comm pid task =
