@@ -1,9 +1,8 @@
 -- The chart of runs as they are drawn.
 use Rattle.std.proofs.Common.{◌≡◌, ◌≢◌, ℕ, ◌+◌, ◌<◌, ◌≤◌, true, List, [], ◌∷◌, ◌++◌, length, map, get_or, take, refl, sym, ap, ◌∙◌, append_assoc, arith}
-use Rattle.std.specs.Prelude.{All, AllPairs, flat_map, fold, max, sum_by}
-use Rattle.std.proofs.lemmas.List.{length-map, get_or-map, map-append, take_more, flat_map_more}
-use Rattle.std.proofs.lemmas.List.Folds.{fold-map, flat_map-map}
-use Rattle.std.proofs.lemmas.List.Elements.{All-head, All-tail, All-map, All-contains}
+use Rattle.std.specs.Prelude.{All, AllPairs, flat_map, fold, max}
+use Rattle.std.proofs.lemmas.List.{length-map, get_or-map, map-append, take_more}
+use Rattle.std.proofs.lemmas.List.Elements.{All-map, All-contains}
 use Rattle.std.proofs.lemmas.Bool.{eqb-true}
 use Rattle.std.proofs.lemmas.Bool.Decides.{Decides-eqb}
 use Rattle.std.proofs.lemmas.Map.Made.{IsDistinct-from_AllPairs}
@@ -12,21 +11,17 @@ use Rattle.std.proofs.lemmas.Map.Steps.{length-le_from_distinct_below}
 use Rattle.domain_run.specs.Domain.{empty_domain}
 use Rattle.calls_text.specs.SectionView.{SectionView}
 use Rattle.run_figures.specs.declared.run.Admitted.{Admitted}
-use Rattle.run_figures.specs.Runs.{RunView, AreTasks}
+use Rattle.run_figures.specs.Runs.{AreTasks}
 use Rattle.chart_pieces.specs.declared.window.Span.{Span}
 use Rattle.chart_pieces.specs.declared.window.Window.{Window}
-use Rattle.chart_pieces.specs.RowView.{RowView}
 use Rattle.chart_pieces.specs.Window.{window_of}
-use Rattle.chart_pieces.specs.Rows.{row_of, rows_of}
 use Rattle.chart.specs.Rows.{ChartRowView}
 use Rattle.chart.specs.Chart.{chart_text}
-use Rattle.calls_trace.specs.declared.placed_run.PlacedRun.{PlacedRun}
-use Rattle.calls_trace.specs.declared.run_text.RunText.TheVariants.{Chart}
 use Rattle.calls_trace.specs.Replay.{calls_in_section}
 use Rattle.calls_trace.specs.DomainEvents.{domain_of}
 use Rattle.calls_trace.specs.Charted.{last_time, cpus_of_sections, rows_at, rows_from, chart_of_sections}
-use Rattle.calls_trace.specs.private.Replaying.{PlacedView, placed_view_of, views_from, end_in, cpus_of_placed, rows_in, chart_of_placed, text_of_runs}
-use Rattle.calls_trace.proofs.Written.{calls_cpus}
+use Rattle.calls_trace.specs.private.Replaying.{PlacedView, views_from, end_in, cpus_of_placed, rows_in, chart_of_placed}
+use Rattle.calls_trace.proofs.Sections.{calls_cpus}
 
 -- ---- of sections
 
@@ -54,32 +49,6 @@ chart_same span ss =
 
 -- ---- of runs as they are drawn
 
--- all in one window
-same_rows : {D : Type 0} (window_in : D → Window) (placed_in : D → PlacedRun) (w : Window) (drawn : List D) → All (λ d. window_in d ≡ w) drawn
-    → flat_map (λ d. rows_in (window_in d) (placed_view_of (placed_in d))) drawn ≡ flat_map (λ d. rows_in w (placed_view_of (placed_in d))) drawn
-same_rows window_in placed_in w [] same = refl
-same_rows window_in placed_in w (d ∷ drawn) same =
-    ap (λ (x : Window). rows_in x (placed_view_of (placed_in d)) ++ flat_map (λ d. rows_in (window_in d) (placed_view_of (placed_in d))) drawn) (All-head (λ d. window_in d ≡ w) d drawn same)
-    ∙ ap (λ (rs : List ChartRowView). rows_in w (placed_view_of (placed_in d)) ++ rs) (same_rows window_in placed_in w drawn (All-tail (λ d. window_in d ≡ w) d drawn same))
-
-pub chart_is : {D : Type 0} (window_in : D → Window) (placed_in : D → PlacedRun) (span : Span) (w : Window) (end cpus : ℕ) (drawn : List D) (rows : List ChartRowView) (placed : List PlacedRun)
-    → w ≡ window_of span end → end ≡ fold (λ (e : ℕ) (p : PlacedRun). max e p.run.state.time) 0 placed → cpus ≡ sum_by (λ (p : PlacedRun). p.run.state.cpus) placed
-    → map placed_in drawn ≡ placed → All (λ d. window_in d ≡ w) drawn → rows ≡ flat_map (λ d. rows_in (window_in d) (placed_view_of (placed_in d))) drawn
-    → chart_text w cpus rows ≡ text_of_runs (Chart span) placed
-unfolding text_of_runs
-chart_is window_in placed_in span w end cpus drawn rows placed shown last many same window are =
-    let vs = map placed_view_of placed in
-    let ends : end ≡ end_in vs = last ∙ sym (fold-map (λ (e : ℕ) (v : PlacedView). max e v.domain.time) placed_view_of 0 placed) in
-    let counts : cpus ≡ cpus_of_placed vs = many ∙ sym (fold-map (λ (n : ℕ) (v : PlacedView). n + v.domain.cpus) placed_view_of 0 placed) in
-    let all : rows ≡ flat_map (rows_in w) vs =
-    are ∙ same_rows window_in placed_in w drawn window
-    ∙ sym (flat_map-map (λ p. rows_in w (placed_view_of p)) placed_in drawn)
-    ∙ ap (flat_map (λ p. rows_in w (placed_view_of p))) same
-    ∙ sym (flat_map-map (rows_in w) placed_view_of placed) in
-    ap (chart_text w cpus) all
-    ∙ ap (λ (n : ℕ). chart_text w n (flat_map (rows_in w) vs)) counts
-    ∙ ap (λ (x : Window). chart_text x (cpus_of_placed vs) (flat_map (rows_in x) vs)) (shown ∙ ap (window_of span) ends)
-
 -- ---- rows, one run or one row more
 
 pub row_more : {X Y Z : Type 0} (g : Y → Z) (f : X → Z) (before : List Z) (made : List Y) (y : Y) (xs : List X) (i : ℕ) (item : X) → i < length xs → item ≡ get_or xs i item → g y ≡ f item
@@ -92,11 +61,6 @@ row_more {X} {Y} {Z} g f before made y xs i item inside is same so_far =
     ap (λ (z : Z). map f (take i xs) ++ z ∷ []) (same ∙ ap f is)
     ∙ sym (map-append f (take i xs) (get_or xs i item ∷ []))
     ∙ ap (map f) (sym (take_more xs i item inside)))
-
-pub run_more : {X A : Type 0} (f : X → List A) (xs : List X) (i : ℕ) (x : X) (before after : List A) → i < length xs → x ≡ get_or xs i x → before ≡ flat_map f (take i xs) → after ≡ before ++ f x → after ≡ flat_map f (take (i + 1) xs)
-run_more {X} {A} f xs i x before after inside is so_far more =
-    more ∙ ap (λ (t : List A). t ++ f x) so_far ∙ flat_map_more f [] (take i xs) x
-    ∙ ap (flat_map f) (sym (take_more xs i x inside ∙ ap (λ (y : X). take i xs ++ y ∷ []) (sym is)))
 
 -- ---- how many
 
@@ -117,9 +81,3 @@ few_tasks tasks are =
     let second : get_or ns j d ≡ (get_or tasks j none).number = get_or-map number tasks j none d (omega (arith, within, long)) in
     are.apart i j none less (omega (arith, within, long)) (sym first ∙ same ∙ second) in
     omega (arith, long, few_numbers ns small apart)
-
--- a run has a row for each task
-pub few_rows : (w : Window) (run : RunView) (rows : List RowView) → AreTasks run.tasks → rows ≡ rows_of w run → length rows ≤ 65536
-few_rows w run rows are is =
-    let long : length rows ≡ length run.tasks = ap length is ∙ length-map run.tasks (λ t. row_of w run t.number) in
-    omega (arith, long, few_tasks run.tasks are)

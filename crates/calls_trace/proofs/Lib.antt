@@ -6,7 +6,6 @@ mod Rising
 mod LittleRoom
 mod Ready
 mod Pieces
-mod Written
 mod ReadRuns
 mod Starting
 mod Charts

@@ -9,7 +9,7 @@ use Rattle.task_script.specs.script.ScriptView.{ScriptView}
 use Rattle.domain_run.specs.declared.call.Call.TheVariants.{Admit}
 use Rattle.domain_run.specs.declared.call.Reply.TheVariants.{Admitted}
 use Rattle.domain_run.specs.Domain.{Domain}
-use Rattle.domain_run.specs.Calls.{reply_to, is_refusal, after_call, after_granted}
+use Rattle.domain_run.specs.Calls.{reply_to, after_call, after_granted}
 use Rattle.domain_run.specs.Tick.{ticks}
 use Rattle.domain_run.specs.Sound.{IsAdmitted}
 use Rattle.domain_run.proofs.CallerLemmas.{with_number_contains}
@@ -50,10 +50,6 @@ named_step d was is number name params delay script reply old good each n h =
     let h2 : (eqb number n || list_any (λ m. eqb m n) d.used) ≡ true = sym (with_number_contains number n d.used) ∙ subst (λ (x : Domain). IsAdmitted x.used n) one h in
     let both = one_more_named d.used number name (name_of_task was) good (λ m there. let had = old m there in (had.some, had.most)) n h2 in
     record { some = rw (each n) both.0; most = rw (each n) both.1 }
-
-pub admit_time : (d : Domain) (number : ℕ) (name : List ℕ) (params : ParamsView) (delay : ℕ) (script : ScriptView) → (after_call d (Admit number name params delay script)).time ≡ d.time
-admit_time d number name params delay script =
-    elim (is_refusal (reply_to d (Admit number name params delay script))) as (λ b. (cond b d (after_granted d (Admit number name params delay script))).time ≡ d.time) [ true ↦ refl | false ↦ refl ]
 
 -- the same names, and as many that were admitted
 pub still_named : (d e : Domain) (was is : Names) → e ≡ d → ((n : ℕ) → name_of_task is n ≡ name_of_task was n) → AdmittedHaveNames d was → AdmittedHaveNames e is

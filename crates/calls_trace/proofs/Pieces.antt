@@ -1,5 +1,5 @@
 -- The run of a section while it is made: what is at hand and what is left.
-use Rattle.std.proofs.Common.{◌≡◌, ℕ, ◌+◌, ◌≤◌, Option, Some, None, List, [], ◌∷◌, ◌++◌, sym, ap, ◌∙◌, append-nil, arith}
+use Rattle.std.proofs.Common.{◌≡◌, ℕ, ◌+◌, ◌≤◌, Option, Some, None, List, [], ◌∷◌, ◌++◌, sym, ap, ◌∙◌, append-nil}
 use Rattle.std.specs.Prelude.{All, IfSome}
 use Rattle.std.proofs.lemmas.List.Elements.{All-weaker}
 use Rattle.domain_run.specs.Switch.{Switch}
@@ -11,11 +11,9 @@ use Rattle.domain_run.specs.Run.{after_calls}
 use Rattle.domain_run.specs.Tick.{ticks}
 use Rattle.domain_run.specs.Sound.{IsAdmitted, IsDomain, IsSwitch}
 use Rattle.domain_run.proofs.CallerLemmas.{after_calls_after}
-use Rattle.switch_text.specs.Names.{Names, name_of_task, HasName, HasLine}
 use Rattle.switch_text.specs.Names.{SameNames}
 use Rattle.switch_text.specs.Trace.{SwitchesView}
 use Rattle.calls_trace.specs.Replay.{names_of}
-use Rattle.calls_trace.specs.private.Replaying.{AdmittedHaveNames}
 use Rattle.calls_trace.proofs.Keeping.{names_later, names_kept, rest_advanced, names_advanced}
 
 -- ---- the switches at hand, and those that are left
@@ -71,15 +69,6 @@ end_begun d e c left now cs all none more made =
     ap (λ (x : Domain). after_calls x cs) made ∙ ap (after_calls d) (sym more) ∙ ap (λ (k : ℕ). after_calls d (Advance k ∷ all)) (sym none)
 
 -- ---- as it is written
-
-some_named : (d : Domain) (names : Names) → AdmittedHaveNames d names → (o : Option ℕ) → IfSome o (IsAdmitted d.used) → IfSome o (HasName names)
-some_named d names name_of_task None h = tt
-some_named d names name_of_task (Some n) h = name_of_task n h
-
--- each switch of a domain has a line
-pub named_lines : (d : Domain) (names : Names) (base : ℕ) → IsDomain d → AdmittedHaveNames d names → base + d.cpus ≤ 512 → All (HasLine names base) d.switches
-named_lines d names base is called inside =
-    All-weaker (IsSwitch d.cpus d.time d.used) (HasLine names base) (λ s h. record { time = omega (arith, h.past, is.steady.early); cpu = omega (arith, h.inside, inside); prev = some_named d names called s.prev h.prev; next = some_named d names called s.next h.next }) d.switches is.traced.switches
 
 some_same : (d : Domain) (cs : List Call) (names : ℕ → List ℕ) (o : Option ℕ) → IfSome o (IsAdmitted d.used) → IfSome o (λ n. names n ≡ names_of d cs names n)
 some_same d cs names None h = tt

@@ -1,21 +1,14 @@
 -- The calls of a section, from its first entry on.
-use Rattle.std.proofs.Common.{◌≡◌, ℕ, Bool, true, false, cond, List, [], ◌∷◌, ◌++◌, refl, sym, ap, subst, ◌∙◌, append_assoc, append-nil}
+use Rattle.std.proofs.Common.{◌≡◌, ℕ, List, [], ◌∷◌, ◌++◌, refl, ◌∙◌}
 use Rattle.std.proofs.lemmas.List.{map-append}
-use Rattle.attr_check.specs.ParamsView.{ParamsView}
 use Rattle.domain_run.specs.declared.call.Call.{Call}
-use Rattle.domain_run.specs.declared.happened.Happened.{Happened}
-use Rattle.domain_run.specs.Domain.{Domain, empty_domain}
+use Rattle.domain_run.specs.Domain.{Domain}
 use Rattle.domain_run.specs.Calls.{after_call}
 use Rattle.domain_run.specs.Run.{after_calls}
-use Rattle.domain_run.specs.Happened.{logged_by_call, logged_by_calls}
-use Rattle.domain_run.specs.Log.{LogView, HasLogged}
 use Rattle.calls_text.specs.declared.section.Entry.{Entry}
 use Rattle.calls_text.specs.SectionView.{SectionView}
 use Rattle.calls_text.specs.Reader.{section_with_entries}
-use Rattle.switch_text.specs.Names.{Names, name_of_task}
-use Rattle.calls_trace.specs.Replay.{calls_in_section, names_of, names_after, no_names}
-use Rattle.calls_trace.specs.DomainEvents.{domain_of, logged_of, params_in, params_by_calls, params_after, no_params}
-use Rattle.calls_trace.specs.private.Replaying.{AdmittedHaveNames, MapGives, Given, GivesParams, given_in, IsRunOf, IsLoggedOf}
+use Rattle.calls_trace.specs.Replay.{calls_in_section, names_of, names_after}
 
 -- ---- one call more
 

@@ -1,14 +1,12 @@
 -- The names and the parameters that a legal history's replies tell are those of its run.
-use Rattle.std.proofs.Common.{◌≡◌, ℕ, suc, arith, get_or, drop, ◌++◌, ◌<◌, ◌≤◌, Bool, true, false, cond, eqb, leb, ltb, ◌+◌, List, [], ◌∷◌, length, map, Option, Some, None, Result, refl, sym, ap, ◌∙◌, subst}
-use Rattle.std.specs.Prelude.{All, IsTrue, IfOk}
+use Rattle.std.proofs.Common.{◌≡◌, ℕ, ◌++◌, ◌<◌, ◌≤◌, Bool, true, false, cond, eqb, leb, ltb, ◌+◌, List, [], ◌∷◌, length, map, Option, Some, None, Result, refl, sym, ap, ◌∙◌, subst}
+use Rattle.std.specs.Prelude.{All, IfOk}
 use Rattle.std.specs.List.{list_any}
-use Rattle.std.proofs.lemmas.List.{length_push, drop_more}
 use Rattle.std.proofs.lemmas.Result.{IfOk-weaker}
 use Rattle.std.proofs.lemmas.List.Elements.{All-head, All-tail}
 use Rattle.attr_check.specs.ParamsView.{ParamsView}
 use Rattle.attr_check.specs.Ratio.{cap}
 use Rattle.domain_run.specs.declared.task.Task.{Task}
-use Rattle.domain_run.specs.declared.happened.Happened.{Happened}
 use Rattle.domain_run.specs.declared.call.Call.{Call}
 use Rattle.domain_run.specs.declared.call.Call.TheVariants.{Admit, Regrade, Wake, Leave, Advance, Limit, Depart, Arrive}
 use Rattle.domain_run.specs.declared.call.Reply.{Reply}
@@ -18,21 +16,17 @@ use Rattle.domain_run.specs.Tick.{sum_of}
 use Rattle.domain_run.specs.Calls.{admit_reply, reply_to, is_refusal, after_granted, after_call, task_of, word_reply, regrade_reply, wake_reply, leave_reply, limit_reply, depart_reply}
 use Rattle.domain_run.specs.Run.{after_calls, replies_to, run_of}
 use Rattle.domain_run.specs.Sound.{IsAdmitted}
-use Rattle.domain_run.specs.Log.{LogView}
 use Rattle.domain_run.proofs.CallerLemmas.{with_number_contains}
 use Rattle.calls_text.specs.declared.section.Entry.{Entry}
 use Rattle.calls_text.specs.SectionView.{SectionView}
 use Rattle.calls_text.specs.Limits.{IsCall, IsEntry, IsSection}
 use Rattle.calls_text.specs.Histories.{calls_of, IsLegal}
-use Rattle.calls_text.specs.Histories.{AreLogged}
 use Rattle.switch_text.specs.Names.{Names, name_of_task}
-use Rattle.calls_trace.specs.declared.placed_run.PlacedRun.{PlacedRun}
 use Rattle.calls_trace.specs.Replay.{with_name, named_by, names_after, names_of, no_names}
-use Rattle.calls_trace.specs.DomainEvents.{names_in, params_in, logged_of, no_params, with_params, params_by, params_after, params_by_calls}
-use Rattle.calls_trace.specs.private.Replaying.{MapGives, Given, GivesParams, given_in, IsRunOf, IsLoggedOf, PlacedView, placed_view_of, views_from}
+use Rattle.calls_trace.specs.DomainEvents.{names_in, params_in, no_params, with_params, params_by, params_after, params_by_calls}
+use Rattle.calls_trace.specs.private.Replaying.{MapGives, Given, GivesParams, given_in, IsRunOf}
 use Rattle.calls_trace.specs.private.Recorded.{named_where, names_given_by, given_by_all, HaveNames, params_where, params_given_by, params_given_by_all}
 use Rattle.calls_trace.proofs.Naming.{ticks_used, one_more_named}
-use Rattle.calls_trace.proofs.Written.{runs_more}
 
 -- ---- the names are those of the run
 
@@ -125,21 +119,6 @@ params_are d (e ∷ entries) given legal =
     let here : params_given_by e given ≡ params_after d e.call given = ap (λ (r : Option Reply). params_where e.call r given) first ∙ params_as d e.call given in
     ap (params_given_by_all entries) here ∙ params_are (after_call d e.call) entries (params_after d e.call given) others
 
--- what a history leaves: its parameters, and what its log was logged
-pub logged_is : (s : SectionView) (given : Given) (log : LogView) (entries : List Entry) → IsLegal s.cpus s.limit s.entries → entries ≡ s.entries → GivesParams given (cond log.wanted (params_given_by_all entries no_params) no_params)
-    → (IsTrue log.wanted → log.happened ≡ logged_of s) → IsLoggedOf log.wanted s given log
-logged_is s given log entries legal same gives logged =
-    let are = ap (λ (es : List Entry). params_given_by_all es no_params) same ∙ params_are (empty_domain s.cpus s.limit) s.entries no_params legal in
-    record { params = known log.wanted are gives; alike = refl; logged = takes_stream log.wanted log.happened (logged_of s) logged }
-  where
-    known : (w : Bool) → params_given_by_all entries no_params ≡ params_in s → GivesParams given (cond w (params_given_by_all entries no_params) no_params) → GivesParams given (cond w (params_in s) no_params)
-    known true are gives = λ n. gives n ∙ ap (λ (f : ℕ → ParamsView). f n) are
-    known false are gives = gives
-
-    takes_stream : (w : Bool) (hs ts : List Happened) → (IsTrue w → hs ≡ ts) → cond w hs [] ≡ cond w ts []
-    takes_stream true hs ts same = same refl
-    takes_stream false hs ts same = refl
-
 -- the names and the parameters of a history
 pub history_names : {E : Type 0} (s : SectionView) (entries : List Entry) (r : Result Names E) → IsLegal s.cpus s.limit s.entries → entries ≡ s.entries → IfOk r (λ names. MapGives names (given_by_all entries no_names)) → IfOk r (λ names. name_of_task names ≡ names_in s)
 history_names s entries r legal same given =
@@ -201,52 +180,4 @@ run_is s d names entries is legal state same gives =
 
 -- ---- the histories of several domains
 
--- the state that a history leads to
-abbrev pub state_in : SectionView → Domain
-state_in s = run_of s.cpus s.limit (calls_of s.entries)
-
--- so many states are what the histories from here on lead to
-abbrev pub AreRunsFrom : ℕ → List SectionView → ℕ → List Domain → Type 0
-AreRunsFrom from histories left states =
-    (j : ℕ) (s : SectionView) (x : Domain) → j < left → get_or states j x ≡ state_in (get_or histories (from + j) s)
-
-pub next_state : (from left : ℕ) (histories : List SectionView) (states more : List Domain) (h : SectionView) (d : Domain) → AreRunsFrom from histories left states → 0 < left → states ≡ d ∷ more → h ≡ get_or histories from h → d ≡ state_in h
-next_state from left histories states more h d are some first is =
-    let read : get_or states 0 d ≡ d = ap (λ (xs : List Domain). get_or xs 0 d) first in
-    let place : from + 0 ≡ from = omega arith in
-    sym read ∙ are 0 h d some ∙ ap (λ (i : ℕ). state_in (get_or histories i h)) place ∙ ap state_in (sym is)
-
-pub states_left : (from next left after : ℕ) (histories : List SectionView) (states more : List Domain) (d : Domain) → AreRunsFrom from histories left states → states ≡ d ∷ more → next ≡ from + 1 → left ≡ after + 1
-    → AreRunsFrom next histories after more
-states_left from next left after histories states more d are first place one j s x inside =
-    let same : from + suc j ≡ next + j = omega (arith, place) in
-    let at : get_or states (suc j) x ≡ get_or more j x = ap (λ (xs : List Domain). get_or xs (suc j) x) first in
-    let there : suc j < left = omega (arith, inside, one) in
-    sym at ∙ are (suc j) s x there ∙ ap (λ (i : ℕ). state_in (get_or histories i s)) same
-
--- one run more
-pub placed_more : (wanted : Bool) (histories : List SectionView) (was new : List PlacedRun) (r : PlacedRun) (h : SectionView) (base : ℕ) (all : List PlacedView) → new ≡ was ++ r ∷ [] → h ≡ get_or histories (length was) h → length was < length histories
-    → r.base ≡ base → IsRunOf h r.run.state r.run.names → IsLoggedOf wanted h r.run.given r.run.log
-    → map placed_view_of was ++ views_from wanted base (drop (length was) histories) ≡ all → map placed_view_of new ++ views_from wanted (base + h.cpus) (drop (length new) histories) ≡ all
-placed_more wanted histories was new r h base all is here inside at is_run is_logged so_far =
-    let n = length was in
-    let long : length new ≡ n + 1 = ap length is ∙ length_push was r in
-    let left = drop (n + 1) histories in
-    let first : drop n histories ≡ h ∷ left = drop_more histories n h inside ∙ ap (λ (x : SectionView). x ∷ left) (sym here) in
-    ap (λ (k : ℕ). map placed_view_of new ++ views_from wanted (base + h.cpus) (drop k histories)) long
-    ∙ ap (λ (rs : List PlacedRun). map placed_view_of rs ++ views_from wanted (base + h.cpus) left) is
-    ∙ runs_more wanted was r h base left (drop n histories) all at is_run is_logged first so_far
-
 -- ---- the logs in their places
-
-pub log_there : (logs now : List LogView) (n place : ℕ) (log : LogView) → place ≡ n → ((x : LogView) → log ≡ get_or now place x) → ((d : ℕ) (x : LogView) → n ≤ d → get_or now d x ≡ get_or logs d x) → log ≡ get_or logs n log
-log_there logs now n place log at taken left = taken log ∙ ap (λ (k : ℕ). get_or now k log) at ∙ left n log (omega arith)
-
-pub log_wanted : (wanted : Bool) (histories : List SectionView) (logs : List LogView) (n : ℕ) (log : LogView) → AreLogged wanted histories logs → n < length histories → log ≡ get_or logs n log → log.wanted ≡ wanted
-log_wanted wanted histories logs n log logged inside is = ap (λ (l : LogView). l.wanted) is ∙ logged.alike n log inside
-
-pub log_logged : (wanted : Bool) (histories : List SectionView) (logs : List LogView) (n : ℕ) (log : LogView) (h : SectionView) → AreLogged wanted histories logs → n < length histories → log ≡ get_or logs n log → h ≡ get_or histories n h → IsTrue log.wanted → log.happened ≡ logged_of h
-log_logged wanted histories logs n log h logged inside is at wants =
-    ap (λ (l : LogView). l.happened) is
-    ∙ logged.logged n h log inside (subst IsTrue (log_wanted wanted histories logs n log logged inside is) wants)
-    ∙ ap logged_of (sym at)

@@ -20,7 +20,6 @@ use Rattle.calls_text.specs.SectionView.{SectionView}
 use Rattle.calls_text.specs.Limits.{IsSection}
 use Rattle.calls_trace.specs.Replay.{calls_in_section}
 use Rattle.calls_trace.specs.DomainEvents.{domain_of}
-use Rattle.calls_trace.proofs.LoggedLines.{section_time}
 
 abbrev Rises : Switch → Switch → Type 0
 Rises a b = IsTrue (is_switch_before a b)
@@ -158,6 +157,3 @@ opened_runs cpus limit some most = record {
 -- the run of a section
 pub section_trace : (s : SectionView) → IsSection s → IsTrace (domain_of s)
 section_trace s is = (calls_keep (empty_domain s.cpus s.limit) (calls_in_section s) (opened_runs s.cpus s.limit is.some_cpus is.most_cpus)).trace
-
-pub section_few : (s : SectionView) → IsSection s → length (domain_of s).switches ≤ 2 ^ 54
-section_few s is = omega (arith, (section_trace s is).few, section_time s is)

@@ -48,7 +48,7 @@ use Rattle.calls_trace.proofs.Charts.{few_tasks}
 use Rattle.calls_trace.proofs.Figured.{numbers_are}
 use Rattle.calls_trace.proofs.Forelogged.{calls_few}
 use Rattle.calls_trace.proofs.Texts.{both, text_is}
-use Rattle.calls_trace.proofs.Written.{calls_cpus}
+use Rattle.calls_trace.proofs.Sections.{calls_cpus}
 
 -- ---- the places of some tasks
 
@@ -171,10 +171,6 @@ ready_to_run f s is are foreseen = record {
 }
 
 -- ---- the rows of several
-
--- one more
-pub charted_more : (base : ℕ) (s : SketchView) (ss : List SketchView) → map (chart_row_of s.names base) s.rows ++ charted_from (base + s.cpus) ss ≡ charted_from base (s ∷ ss)
-charted_more base s ss = refl
 
 -- ---- the chart of sections
 

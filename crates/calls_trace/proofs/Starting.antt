@@ -1,11 +1,8 @@
 -- The calls of a section before its first advance.
 use Rattle.std.proofs.Common.{◌≡◌, ℕ, Bool, true, false, cond, List, [], ◌∷◌, ◌++◌, refl, sym, ap, ◌∙◌, append_assoc, arith}
 use Rattle.std.proofs.lemmas.List.Elements.{All-append}
-use Rattle.attr_check.specs.ParamsView.{ParamsView}
 use Rattle.domain_run.specs.declared.call.Call.{Call}
 use Rattle.domain_run.specs.declared.call.Call.TheVariants.{Admit, Regrade, Wake, Leave, Advance, Limit, Depart, Arrive}
-use Rattle.domain_run.specs.declared.call.Reply.TheVariants.{Admitted, Full, Twice, Busy}
-use Rattle.domain_run.specs.declared.call.Reply.{Reply}
 use Rattle.domain_run.specs.Domain.{Domain, empty_domain}
 use Rattle.domain_run.specs.Calls.{reply_to, is_refusal, after_granted, after_call}
 use Rattle.domain_run.specs.Run.{after_calls}
@@ -40,21 +37,6 @@ no_switch d (Arrive number name params script) none = let c = Arrive number name
 -- it takes no time
 pub no_time : (d : Domain) (c : Call) → ticks_given c ≡ 0 → (after_call d c).time ≡ d.time
 no_time d c none = let all = call_left_time d (after_call d c) c 0 refl in omega (arith, all, none)
-
--- what is no admission is a refusal
-pub not_admitted : (a t c : Bool) (sum : ℕ) → (◌≡◌ {A = Reply} (cond a Full (cond t Twice (cond c (Busy sum) Admitted))) Admitted → ⊥) → is_refusal (cond a Full (cond t Twice (cond c (Busy sum) Admitted))) ≡ true
-not_admitted true t c sum isnt = refl
-not_admitted false true c sum isnt = refl
-not_admitted false false true sum isnt = refl
-not_admitted false false false sum isnt = absurd (isnt refl)
-
--- a call that is made at once, where none is kept
-pub made_first : (d e : Domain) (cs : List Call) (c : Call) → cs ≡ [] → e ≡ after_call d c → after_calls e cs ≡ after_calls d (cs ++ c ∷ [])
-made_first d e cs c none made = ap (after_calls e) none ∙ made ∙ ap (λ (xs : List Call). after_calls d (xs ++ c ∷ [])) (sym none)
-
-pub named_first : (d e : Domain) (cs : List Call) (c : Call) (was is : ℕ → List ℕ) → cs ≡ [] → e ≡ after_call d c → ((n : ℕ) → is n ≡ names_after d c was n) → (n : ℕ) → names_of e cs is n ≡ names_of d (cs ++ c ∷ []) was n
-named_first d e cs c was is none made each n =
-    ap (λ (xs : List Call). names_of e xs is n) none ∙ each n ∙ ap (λ (xs : List Call). names_of d (xs ++ c ∷ []) was n) (sym none)
 
 -- a section with one call more
 pub made_more : (s : SectionView) (e : Entry) (was is : KeptSection) → IsMadeUpTo s was.calls was.run → IsOneMore was e.call is → IsMadeUpTo (section_with_entries s (e ∷ [])) is.calls is.run
@@ -99,12 +81,3 @@ begun_more s e was is begun taken =
     }
 
 -- ---- a refused call
-
-pub refused_names : (b : Bool) (names more : ℕ → List ℕ) (n : ℕ) → b ≡ true → names n ≡ (cond b names more) n
-refused_names true names more n is = refl
-refused_names false names more n is = absurd cc
-
-pub refused_params : (w b : Bool) (given more : ℕ → ParamsView) (n : ℕ) → b ≡ true → given n ≡ (cond w (cond b given more) given) n
-refused_params true true given more n is = refl
-refused_params false true given more n is = refl
-refused_params w false given more n is = absurd cc

@@ -223,10 +223,6 @@ ticks_of_first c cs = sum_by-cons ticks_given c cs
 
 -- ---- what several Oks say
 
-pub on_ok2 : {T E : Type 0} (r : Result T E) (P Q R : Type 0) → (P → Q → R) → OnOk r P → OnOk r Q → OnOk r R
-on_ok2 (Ok x) P Q R f p q = f p q
-on_ok2 (Err e) P Q R f p q = tt
-
 pub on_ok3 : {T E : Type 0} (r : Result T E) (P Q R S : Type 0) → (P → Q → R → S) → OnOk r P → OnOk r Q → OnOk r R → OnOk r S
 on_ok3 (Ok x) P Q R S f p q h = f p q h
 on_ok3 (Err e) P Q R S f p q h = tt

@@ -5,8 +5,7 @@
 //! part of their run; [`replay`] writes the trace. They meet the definition of what a replay
 //! answers (`specs/Answer.antt`), over the trace of the sections that a calls text spells
 //! (`specs/Replay.antt`), what happens in them (`specs/DomainEvents.antt`), and their chart
-//! (`specs/Charted.antt`). [`write_run_as`] writes the same of histories whose states and logs are
-//! at hand (`specs/Written.antt`). [`write_streamed_summary`] and [`write_streamed_jobs`] write the
+//! (`specs/Charted.antt`). [`write_streamed_summary`] and [`write_streamed_jobs`] write the
 //! summary and the jobs of histories whose runs were streamed as they were made, while their
 //! switches were forgotten (`specs/Streamed.antt`); [`write_drawn_chart`] writes the chart of
 //! histories whose runs were drawn then. Nothing is run again. To the crate above they promise:
@@ -24,7 +23,6 @@
 //! its replay writes the same trace; and the switches of sections are few enough to be written.
 #![tactic(auto)]
 
-mod charting;
 mod counted_run;
 mod drawn_chart;
 mod events_so_far;
@@ -37,7 +35,6 @@ mod kept;
 mod kept_section;
 mod laid_out;
 mod named_run;
-mod placed_run;
 mod playing;
 mod playing_events;
 mod playing_so_far;
@@ -64,4 +61,3 @@ pub use replaying::{replay, replay_as};
 pub use run_options::ReplayPrint;
 pub use streamed_jobs::write_streamed_jobs;
 pub use streamed_summary::write_streamed_summary;
-pub use writing::write_run_as;

@@ -8,15 +8,14 @@ ghost use Rattle.domain_run.specs.Domain.{IsLimit, empty_domain};
 ghost use Rattle.domain_run.specs.Calls.{after_call};
 ghost use Rattle.domain_run.specs.Happened.{logged_by_call, logged_by_ticks};
 ghost use Rattle.domain_run.specs.Log.{HasLogged};
-ghost use Rattle.domain_run.specs.Run.{run_of};
 ghost use Rattle.domain_run.specs.Tick.{ticks as ticked_by};
-ghost use Rattle.calls_text.specs.Limits.{IsTaskNumber, IsCall, IsSection};
+ghost use Rattle.calls_text.specs.Limits.{IsTaskNumber, IsCall};
 ghost use Rattle.calls_text.specs.Histories.{IsLegal};
 ghost use Rattle.calls_text.specs.KeptCall.{call_kept};
 ghost use Rattle.switch_text.specs.Names.{name_of_task};
-ghost use Rattle.calls_trace.specs.Replay.{no_names, with_name, names_after, calls_in_section};
-ghost use Rattle.calls_trace.specs.DomainEvents.{names_in, params_in, no_params, with_params, params_after, logged_of};
-ghost use Rattle.calls_trace.specs.private.Replaying.{AdmittedHaveNames, MapGives, GivesParams, given_in, IsRunOf, IsLoggedOf};
+ghost use Rattle.calls_trace.specs.Replay.{no_names, with_name, names_after};
+ghost use Rattle.calls_trace.specs.DomainEvents.{names_in, params_in, no_params, with_params, params_after};
+ghost use Rattle.calls_trace.specs.private.Replaying.{AdmittedHaveNames, MapGives, GivesParams, given_in};
 ghost use Rattle.calls_trace.specs.private.Recorded.{names_given_by, given_by_all, params_given_by, params_given_by_all};
 ghost use Rattle.limits.specs.Limits.{clock_end, max_advance, max_script_number};
 
@@ -397,22 +396,6 @@ fn params_given(alloc: Global, entries: &[Entry]) -> Result<IndexMap<u32, Params
     Ok(given)
 }
 
-/// The parameters that entries leave, by number, where they are wanted; else none.
-fn params_if(
-    alloc: Global,
-    entries: &[Entry],
-    wanted: bool,
-) -> Result<IndexMap<u32, Params>, NoMemory>
-    ensures given { IfOk result (λ given. GivesParams given
-        (if wanted then params_given_by_all entries.now no_params else no_params)) }
-{
-    if wanted {
-        params_given(alloc, entries)
-    } else {
-        Ok(IndexMap::new(alloc))
-    }
-}
-
 /// The names of the tasks of a history, by number, as its replies tell them.
 pub(crate) fn names_of(alloc: Global, history: &Section) -> Result<IndexMap<u32, String>, NoMemory>
     requires { IsLegal history.now.cpus history.now.limit history.now.entries }
@@ -427,46 +410,4 @@ pub(crate) fn params_of(alloc: Global, history: &Section) -> Result<IndexMap<u32
     ensures { IfOk result (λ given. given_in given ≡ params_in history.now) }
 {
     params_given(alloc, &history.entries)
-}
-
-/// The run that a history led to, which is not made again: its state, what its log was logged, and
-/// the names that its replies tell, and the parameters where the log is wanted.
-pub(crate) fn recorded(
-    alloc: Global,
-    history: &Section,
-    state: State,
-    log: Log,
-) -> Result<RunWithNames, NoMemory>
-    requires section { IsSection history.now }
-    requires legal { IsLegal history.now.cpus history.now.limit history.now.entries }
-    requires state { state
-        ≡ run_of history.now.cpus history.now.limit (calls_in_section history.now) }
-    requires logged { IsTrue log.wanted → log.happened ≡ logged_of history.now }
-    ensures run { IfOk result (λ r. IsRunOf history.now r.state r.names) }
-    ensures logged { IfOk result (λ r. IsLoggedOf log.wanted history.now r.given r.log) }
-{
-    // State and log are let go of by one call each: their parts would be written out on each way.
-    let names = match names_given(alloc, &history.entries) {
-        Ok(names) => names,
-        Err(error) => {
-            drop(log);
-            drop(state);
-            return Err(error);
-        }
-    };
-    let given = match params_if(alloc, &history.entries, log.is_wanted()) {
-        Ok(given) => given,
-        Err(error) => {
-            drop(names);
-            drop(log);
-            drop(state);
-            return Err(error);
-        }
-    };
-    Ok(RunWithNames {
-        state,
-        names,
-        given,
-        log,
-    })
 }

@@ -30,14 +30,4 @@ impl RunText {
             ReplayPrint::Chart(span) => Some(RunText::Chart(span)),
         }
     }
-
-    /// Whether it needs to be known what happens.
-    pub(crate) fn has_logged(self) -> bool
-        ensures { result ≡ texts.is_logged_text self }
-    {
-        match self {
-            RunText::Trace => false,
-            RunText::Events | RunText::Jobs | RunText::Summary | RunText::Chart(_) => true,
-        }
-    }
 }

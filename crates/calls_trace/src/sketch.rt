@@ -7,12 +7,21 @@ ghost use Rattle.switch_text.specs.Names.{name_of_task};
 ghost use Rattle.calls_trace.specs.Charted.{chart_row_of};
 ghost use Rattle.limits.specs.Limits.{max_history};
 
-use crate::charting::name_of;
 use crate::named_run::RunWithNames;
 use chart::ChartRow;
 use chart_pieces::{Row, Window};
 use domain_run::NoMemory;
 use indexmap::IndexMap;
+
+/// The name of a number; empty where it has none.
+fn name_of(names: &IndexMap<u32, String>, number: u32) -> &[u8]
+    ensures { result.now ≡ name_of_task names.now number }
+{
+    match names.get(&number) {
+        Some(name) => name.as_bytes(),
+        None => b"",
+    }
+}
 
 /// What is drawn of a run in a window, and the names of its tasks. The run itself is not kept.
 #[derive(Drop)]

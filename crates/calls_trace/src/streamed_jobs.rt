@@ -98,7 +98,7 @@ fn all_as_written(alloc: Global, named: &[NamedJobs]) -> Result<Vec<DomainJobs<'
 }
 
 /// Writes the jobs of the tasks of 1 to 8 histories: the text that
-/// [`write_run_as`](crate::write_run_as) writes for
+/// [`replay_as`](crate::replay_as) writes of their calls text for
 /// [`ReplayPrint::Jobs`](crate::ReplayPrint::Jobs). The accountings have streamed all that happened
 /// in the runs of the histories, and all their switches, and have kept the jobs; they do not have
 /// them any more after the call. The states are those that the histories led to. Their switches are

@@ -121,7 +121,7 @@ fn streamed_text(
 }
 
 /// Writes the figures of each task, of each CPU and of each domain of 1 to 8 histories: the text
-/// that [`write_run_as`](crate::write_run_as) writes for
+/// that [`replay_as`](crate::replay_as) writes of their calls text for
 /// [`ReplayPrint::Summary`](crate::ReplayPrint::Summary). The accountings have streamed all that
 /// happened in the runs of the histories, and all their switches; the states are those that the
 /// histories led to. Nobody looks at the switches that a state still has, so it may have forgotten

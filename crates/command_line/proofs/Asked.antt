@@ -1,10 +1,9 @@
 -- What words ask for, from what is read of them.
-use Rattle.std.proofs.Common.{◌≡◌, ◌∙◌, inl, inr, List, Option, Some, None, Result, Ok, Err, IfOk, IfErr, ap, ap₂, codes, option_map, refl, subst, sym, unwrap_or, true≢false, is_some}
+use Rattle.std.proofs.Common.{◌≡◌, ◌∙◌, inl, inr, List, Option, Some, None, Result, Ok, Err, IfOk, IfErr, option_map, refl, subst, sym, true≢false}
 use Rattle.std.specs.Prelude.{Box}
 use Rattle.std.specs.Box.{box_value}
 use Rattle.clap.specs.Simple.{subcommand_rows}
 use Rattle.clap.specs.Words.{App, Row, Text, subcommand_name_of, subcommand_of, subcommand_rows_of}
-use Rattle.clap.specs.declared.error.Error.{Error}
 use Rattle.clap.specs.declared.parser.matches.ArgMatches.{ArgMatches}
 use Rattle.clap.specs.declared.parser.matches.ArgMatches.TheViews.{out-ArgMatches, out-SubCommand}
 use Rattle.clap.specs.declared.parser.matches.SubCommand.{SubCommand}
@@ -22,25 +21,6 @@ name_in (Some b) = refl
 -- the name of the command with what is found there
 pub name_found : (m : ArgMatches) → command_name (subcommand_rows_of m) ≡ subcommand_name_of m
 name_found m = name_in (out-ArgMatches m).subcommand
-
-both_parts : (o : Option (Text × List Row)) (name : Text) (rows : List Row) → command_name o ≡ Some name → option_map (λ p. p.1) o ≡ Some rows → o ≡ Some (name, rows)
-both_parts None name rows is found = absurd (true≢false (sym (ap is_some is)))
-both_parts (Some p) name rows is found = ap₂ (λ (n : Text) (rs : List Row). Some (n, rs)) (ap (λ (o : Option Text). unwrap_or o name) is) (ap (λ (o : Option (List Row)). unwrap_or o rows) found)
-
--- what is found for `run`
-pub run_found : (m : ArgMatches) (rows : List Row) → subcommand_name_of m ≡ Some (codes "run") → option_map (λ p. p.1) (subcommand_rows_of m) ≡ Some rows
-    → subcommand_rows_of m ≡ Some (codes "run", rows)
-run_found m rows is found = both_parts (subcommand_rows_of m) (codes "run") rows (name_found m ∙ is) found
-
--- and for another command
-pub rows_found : (m : ArgMatches) (name : Text) (mine rows : List Row) → subcommand_rows_of m ≡ Some (name, rows) → option_map (λ p. p.1) (subcommand_rows_of m) ≡ Some mine → mine ≡ rows
-rows_found m name mine rows is found = ap (λ (o : Option (List Row)). unwrap_or o rows) (sym found ∙ ap (option_map (λ p. p.1)) is)
-
-pub not_found : (m : ArgMatches) (name : Text) (rows : List Row) → subcommand_rows_of m ≡ Some (name, rows) → subcommand_name_of m ≡ Some name
-not_found m name rows is = sym (name_found m) ∙ ap command_name is
-
-pub of_error : (words : List Text) (e : Error) → ReadsWords words (Err e) → IsAskedBy words (Err (wrong.Clap e))
-of_error words e read = record { run = read.run; replay = read.replay; import = read.import; are_held = read.are_held; named = tt; meant = tt; taken = tt; taken_by_replay = tt; wrong = read.refused }
 
 is_wrong : (app : App) (words : List Text) (w : Wrong) → IsRefusedBy (subcommand_of app words) w → IsWrong app words w
 is_wrong app words (wrong.Clap e) (inl r) = absurd r.2

@@ -3,7 +3,7 @@ use Rattle.std.proofs.Common.{◌≡◌, ◌∙◌, ℕ, List, Option, Some, Non
 use Rattle.clap.specs.Words.{Row, first_of}
 use Rattle.command_line.specs.Found.{AreSpanWordsAt, IsAskedAt, IsCutBy, IsCutFault, IsPrintAt, IsReplayPrintAt, IsTextAt, print_text, replay_print_text, replay_span_in, span_in}
 use Rattle.chart_pieces.specs.declared.window.Span.{Span}
-use Rattle.run_options.specs.Words.{span_of, no_part_asked}
+use Rattle.run_options.specs.Words.{no_part_asked}
 use Rattle.run_options.specs.declared.words.SpanWords.{SpanWords}
 use Rattle.run_options.specs.declared.words.WordsFault.{WordsFault}
 use Rattle.run_options.specs.declared.options.Print.{Print}
@@ -59,20 +59,6 @@ other text_of span otherwise rows text words read at_words differs cut = record 
 
 no_text : length (codes "") ≡ length (codes "chart") → ⊥
 no_text bad = absurd (omega (arith, bad))
-
--- a chart's part is none
-pub chart_fault : (rows : List Row) (text : List ℕ) (words : SpanWords) (fault : WordsFault) → IsTextAt rows (codes "print") text → AreSpanWordsAt rows words
-    → text ≡ codes "chart" → span_of words ≡ Err fault → IsCutFault rows fault
-chart_fault rows text words fault read at_words is refused = record {
-  words = words;
-  are_found = at_words;
-  chart = λ at. refused;
-  other = λ differs. absurd (found (first_of (codes "print") rows) refl differs);
-}
-  where
-    found : (o : Option (List ℕ)) → first_of (codes "print") rows ≡ o → (first_of (codes "print") rows ≡ Some (codes "chart") → ⊥) → ⊥
-    found None at differs = no_text (ap length (sym (read.absent at) ∙ is))
-    found (Some t) at differs = differs (at ∙ ap (λ x. Some x) (sym (read.some t at) ∙ is))
 
 -- a part is asked for beside another text
 pub other_fault : (rows : List Row) (text : List ℕ) (words : SpanWords) (fault : WordsFault) → IsTextAt rows (codes "print") text → AreSpanWordsAt rows words

@@ -27,8 +27,7 @@ use Rattle.session.specs.Begun.{UnderWayView, section_of, IsRunBegun}
 use Rattle.session.specs.Report.{IsHistoryOf, IsLeft}
 use Rattle.session.specs.RunEnd.{FirstIsOne, EndsWith, IsFinished, IsFullWith, IsRunStopped, logged_at_end}
 use Rattle.dl_session.specs.declared.fault.SessionFault.{SessionFault}
-use Rattle.dl_session.specs.declared.fault.SessionFault.TheVariants as faults
-use Rattle.dl_session.specs.Upward.{of_end, from_trace, IsUnasked}
+use Rattle.dl_session.specs.Upward.{of_end, from_trace}
 use Rattle.dl_session.specs.FullBook.{IsFullDomain}
 use Rattle.dl_session.specs.private.Asked.{HaveAsked, AnswerTasks, IsRunWritten, IsRunUnwritten}
 use Rattle.dl_session.specs.private.PlayedBooks.{played_histories, AreLogging, AreReady, LogsAll}
@@ -168,13 +167,6 @@ begun_ready id tasks duration logs es refused books rest few short asked begun =
 pub begun_logged : (id : SessionId) (duration : ℕ) (logs : Bool) (es : List ClientView) (books : List PlayingView) (rest : UnderWayView) → IsRunBegun id duration logs es books rest → AreLogging logs books
 begun_logged id duration logs es books rest begun d p inside = (begun.unlogged d p inside).logs
 
-pub begun_legal : (id : SessionId) (duration : ℕ) (logs : Bool) (es : List ClientView) (books : List PlayingView) (rest : UnderWayView) → IsRunBegun id duration logs es books rest → AreLegal (map section_of rest.books)
-begun_legal id duration logs es books rest begun =
-    let legal = begun_histories id duration logs es books rest begun in
-    let count = begun_count id duration logs es books rest begun in
-    let x = section_of (nobody id) in
-    All-from_get_or (λ (h : SectionView). IsLegal h.cpus h.limit h.entries) (map section_of rest.books) x (λ d inside. (legal d x (omega (arith, inside, count))).legal)
-
 -- ---- a run that is finished
 
 pub finished_answers : (id : SessionId) (tasks : List TaskSpecView) (duration : ℕ) (wanted : Wanted) (es : List ClientView) (refused : List (ℕ × Refusal)) (f : Finished)
@@ -201,16 +193,6 @@ finished_lasts id tasks duration wanted es refused f some asked finished =
     sections_last id id.clients tasks duration f.report.histories.items refused some are.count are.legal are.answers
 
 -- ---- histories that answer the tasks
-
-pub all_sections : (id : SessionId) (tasks : List TaskSpecView) (duration : ℕ) (hs : List SectionView) (refused : List (ℕ × Refusal)) → AnswerTasks id tasks duration hs refused → All IsSection hs
-all_sections id tasks duration hs refused are =
-    let x = section_of (nobody id) in
-    All-from_get_or IsSection hs x (λ d inside. (are.legal d x (omega (arith, inside, are.count))).spelled)
-
-pub all_legal : (id : SessionId) (tasks : List TaskSpecView) (duration : ℕ) (hs : List SectionView) (refused : List (ℕ × Refusal)) → AnswerTasks id tasks duration hs refused → AreLegal hs
-all_legal id tasks duration hs refused are =
-    let x = section_of (nobody id) in
-    All-from_get_or (λ (h : SectionView). IsLegal h.cpus h.limit h.entries) hs x (λ d inside. (are.legal d x (omega (arith, inside, are.count))).legal)
 
 -- ---- what was written
 
@@ -256,16 +238,6 @@ streamed_as streams.Trace tasks hs = refl
 streamed_as streams.Events tasks hs = refl
 
 -- ---- why there is no run
-
-pub unasked : (id : SessionId) (tasks : List TaskSpecView) (duration : ℕ) (print : Print) (w : Side) (e : SessionFault) → IsUnasked e → IsUntouched w → IsRunUnwritten id tasks duration print w e
-unasked id tasks duration print w faults.Start un untouched = untouched
-unasked id tasks duration print w faults.Memory un untouched = untouched
-unasked id tasks duration print w (faults.Json f) un untouched = absurd un
-unasked id tasks duration print w (faults.Scenario f) un untouched = absurd un
-unasked id tasks duration print w (faults.Calls n) un untouched = absurd un
-unasked id tasks duration print w faults.Read un untouched = absurd un
-unasked id tasks duration print w (faults.Write n) un untouched = absurd un
-unasked id tasks duration print w faults.Full un untouched = absurd un
 
 -- the domain that was full, once the tasks were asked
 full_domain : (id : SessionId) (tasks : List TaskSpecView) (duration : ℕ) (es : List ClientView) (refused : List (ℕ × Refusal))

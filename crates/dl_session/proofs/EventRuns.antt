@@ -1,8 +1,7 @@
 -- Books whose advance is made while what happens in it is written.
-use Rattle.std.proofs.Common.{◌≡◌, ◌≢◌, ℕ, zero, suc, ◌+◌, ◌-◌, ◌*◌, ◌^◌, ◌≤◌, arith, Bool, true, false, cond, eqb, ltb, ◌&&◌, ◌||◌, List, [], ◌∷◌, ◌++◌, length, map, drop, refl, sym, ap, subst, ◌∙◌, append-nil, length-append, inl, inr, eq-eqb}
+use Rattle.std.proofs.Common.{◌≡◌, ◌≢◌, ℕ, zero, suc, ◌+◌, ◌-◌, ◌*◌, ◌^◌, ◌≤◌, arith, Bool, true, false, cond, ◌&&◌, ◌||◌, List, [], ◌∷◌, ◌++◌, length, map, drop, refl, sym, ap, subst, ◌∙◌, append-nil, length-append, inl, inr}
 use Rattle.std.specs.Prelude.{All, AllPairs, IsTrue, filter, ◌⊎◌}
 use Rattle.std.specs.List.{AllByRecursion, flat_map}
-use Rattle.std.proofs.lemmas.Bool.{or_left, or_right, and_from, lt-ltb, le-ltb, ne_eqb}
 use Rattle.std.proofs.lemmas.List.{append_assoc, length-map}
 use Rattle.std.proofs.lemmas.List.Elements.{All-append, All-nil, All-cons, All-head, All-tail, All-weaker}
 use Rattle.std.proofs.lemmas.List.Kept.{AllPairs-cons}
@@ -11,7 +10,6 @@ use Rattle.domain_run.specs.declared.happened.What.TheVariants.{JobEnds, NextRel
 use Rattle.domain_run.specs.declared.happened.Happened.{Happened}
 use Rattle.domain_run.specs.Domain.{Domain}
 use Rattle.domain_run.specs.Happened.{kind_rank, logged_by_beginning, logged_by_end, logged_by_tick, logged_by_ticks}
-use Rattle.domain_run.specs.LoggedRun.{IsLoggedUntil, IsLoggedFrom}
 use Rattle.domain_run.specs.Passing.{with_past, without_switches}
 use Rattle.domain_run.specs.Sound.{IsDomain}
 use Rattle.domain_run.specs.Switch.{Switch}
@@ -20,13 +18,13 @@ use Rattle.domain_run.proofs.CallerLemmas.{IsBeginning, IsEnd, beginning_is, end
 use Rattle.calls_text.specs.SectionView.{SectionView}
 use Rattle.calls_text.specs.Limits.{IsSection}
 use Rattle.switch_text.specs.Names.{Names, name_of_task}
-use Rattle.switch_text.specs.SlicedEvents.{EventRun, whole_logged_run, logged_runs, events_in, is_logged_by}
+use Rattle.switch_text.specs.SlicedEvents.{EventRun, whole_logged_run, logged_runs, events_in}
 use Rattle.switch_text.specs.SlicedTrace.{wholes}
 use Rattle.switch_text.specs.EventLines.{HasLoggedLine, is_sooner_unless_cut}
 use Rattle.switch_text.specs.LoggedLine.{has_line}
 use Rattle.switch_text.specs.Trace.{SwitchesView, trace_of}
 use Rattle.switch_text.specs.Events.{LoggedView, logged_event, logged_events, switch_event, switch_events, events_of}
-use Rattle.call_book.specs.Playing.{PlayingView, IsFurther, all_switches, all_logged, switches_ahead, logged_ahead, logged_if}
+use Rattle.call_book.specs.Playing.{PlayingView, IsFurther, all_logged, logged_ahead, logged_if}
 use Rattle.calls_trace.specs.Replay.{run_view, runs_from}
 use Rattle.calls_trace.specs.DomainEvents.{logged_from}
 use Rattle.calls_trace.proofs.CallerLemmas.{logged_lines, logged_rises, switches_few}
@@ -128,14 +126,6 @@ pub logged_alike : (logs : Bool) (n : ℕ) (d e : Domain) → without_switches d
 logged_alike true n d e alike = logged_bare n d ∙ ap (logged_by_ticks n) alike ∙ sym (logged_bare n e)
 logged_alike false n d e alike = refl
 
--- no ticks log nothing
-pub none_logged : (p : PlayingView) → p.left ≡ 0 → logged_ahead p ≡ []
-none_logged p none = ap (λ (n : ℕ). logged_if p.logs n p.at) none ∙ by p.logs
-  where
-    by : (b : Bool) → logged_if b 0 p.at ≡ []
-    by true = refl
-    by false = refl
-
 -- ---- a book
 
 -- what its history logs can be written
@@ -172,41 +162,12 @@ further_tellable base names p q further none is =
         log_rest base names (logged_by_ticks further.made p.at) (logged_by_ticks (p.left - further.made) (ticks further.made p.at)) (subst (IsTellable base names) (sym parts) was)
     by false was = was
 
--- the run is the same, as long as its switches and what it logs are
-pub same_events : (base : ℕ) (names : ℕ → List ℕ) (p q : PlayingView) → all_switches q ≡ all_switches p → all_logged q ≡ all_logged p
-    → whole_logged_run (record { base = base; names = names; at_hand = q.at.switches; to_come = switches_ahead q; logged = q.logged; to_log = logged_ahead q })
-    ≡ whole_logged_run (record { base = base; names = names; at_hand = p.at.switches; to_come = switches_ahead p; logged = p.logged; to_log = logged_ahead p })
-same_events base names p q switches logged = λ i. record {
-  run = record { base = base; names = names; switches = switches i };
-  logged = record { base = base; names = names; happened = logged i };
-}
-
 -- ---- what is logged by a time
-
-logged_until : (time : ℕ) (h : Happened) → IsLoggedUntil time h → is_logged_by time h ≡ true
-logged_until time h is = elim is.past [
-  | inl less ↦ or_left (ltb h.time time) (eqb h.time time && ltb (kind_rank h.what) 4) (lt-ltb h.time time less)
-  | inr at ↦
-      or_right (ltb h.time time) (eqb h.time time && ltb (kind_rank h.what) 4)
-      (and_from (eqb h.time time) (ltb (kind_rank h.what) 4) (eq-eqb h.time time at.0) (lt-ltb (kind_rank h.what) 4 (omega (arith, at.1))))
-]
-
-pub all_until : (time : ℕ) (hs : List Happened) → All (IsLoggedUntil time) hs → All (λ h. IsTrue (is_logged_by time h)) hs
-all_until time hs are = All-weaker (IsLoggedUntil time) (λ h. IsTrue (is_logged_by time h)) (logged_until time) hs are
 
 neither : (a b c : Bool) → a ≡ false → (b ≡ false) ⊎ (c ≡ false) → (a || (b && c)) ≡ false
 neither a b c isnt (inl e) = ap (λ (x : Bool). x || (b && c)) isnt ∙ ap (λ (x : Bool). x && c) e
 neither a true c isnt (inr e) = ap (λ (x : Bool). x || (true && c)) isnt ∙ e
 neither a false c isnt (inr e) = ap (λ (x : Bool). x || (false && c)) isnt
-
-logged_after : (time : ℕ) (h : Happened) → IsLoggedFrom time h → is_logged_by time h ≡ false
-logged_after time h is = elim is.later [
-  | inl less ↦ neither (ltb h.time time) (eqb h.time time) (ltb (kind_rank h.what) 4) (le-ltb h.time time (omega (arith, less))) (inl (ne_eqb h.time time (λ same. absurd (omega (arith, same, less)))))
-  | inr at ↦ neither (ltb h.time time) (eqb h.time time) (ltb (kind_rank h.what) 4) (le-ltb h.time time (omega (arith, at.0))) (inr (le-ltb (kind_rank h.what) 4 (omega (arith, at.1))))
-]
-
-pub all_after : (time : ℕ) (hs : List Happened) → All (IsLoggedFrom time) hs → All (λ h. is_logged_by time h ≡ false) hs
-all_after time hs are = All-weaker (IsLoggedFrom time) (λ h. is_logged_by time h ≡ false) (logged_after time) hs are
 
 -- ---- all books
 

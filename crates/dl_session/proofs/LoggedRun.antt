@@ -15,14 +15,12 @@ use Rattle.domain_run.specs.Domain.{Domain, empty_domain}
 use Rattle.domain_run.specs.Passing.{without_switches}
 use Rattle.domain_run.specs.Calls.{task_of, leave_reply, depart_reply, reply_to, is_refusal, after_call}
 use Rattle.domain_run.specs.Happened.{logged_by_ticks, logged_by_granted, logged_by_call, logged_by_calls}
-use Rattle.domain_run.specs.Log.{LogView}
 use Rattle.domain_run.specs.Run.{after_calls, run_of}
 use Rattle.domain_run.proofs.CallerLemmas.{call_time, ticks_of}
 use Rattle.rtapp_scenario.specs.ScenarioView.{TaskSpecView}
 use Rattle.calls_text.specs.declared.section.Entry.{Entry}
 use Rattle.calls_text.specs.SectionView.{SectionView}
 use Rattle.calls_text.specs.Histories.{calls_of}
-use Rattle.calls_text.specs.Histories.{AreLogged}
 use Rattle.run_figures.specs.Accounting.{AccountingView}
 use Rattle.chart_pieces.specs.Drawing.{DrawingView}
 use Rattle.calls_trace.specs.Charted.{last_time}
@@ -34,7 +32,7 @@ use Rattle.session.specs.declared.report.Finished.{Finished}
 use Rattle.session.specs.declared.report.Wanted.{Wanted}
 use Rattle.session.specs.declared.report.Wanted.TheVariants as wants
 use Rattle.session.specs.Report.{IsHistoryOf}
-use Rattle.session.specs.RunEnd.{IsLeftAs, IsLogOf, logged_at_end}
+use Rattle.session.specs.RunEnd.{IsLeftAs, logged_at_end}
 use Rattle.dl_session.specs.InOrder.{is_admitted_reply}
 use Rattle.dl_session.specs.ScenarioAnswers.{AnswersScenario}
 use Rattle.dl_session.specs.declared.printing.Left.{Left}
@@ -148,20 +146,6 @@ section_logs id clients tasks duration histories refused count legal answers d s
     let h = get_or histories d s in
     history_logs duration h.cpus h.limit h.entries (split_of id clients tasks duration histories refused count legal answers d s place)
 
-pub are_logged : (id : SessionId) (clients : ℕ) (tasks : List TaskSpecView) (duration : ℕ) (wanted : Bool) (histories : List SectionView) (refused : List (ℕ × Refusal)) (logs : List LogView)
-    → length histories ≡ length id.cpu_sets
-    → ((d : ℕ) (x : SectionView) → IsDomainIndex id d → IsHistoryOf id d [] (get_or histories d x))
-    → AnswersScenario id clients tasks duration (map (λ h. h.entries) histories) refused
-    → ((d : ℕ) (s : SectionView) (x : LogView) → d < length histories → IsLogOf wanted (logged_at_end duration (get_or histories d s).cpus (get_or histories d s).limit (get_or histories d s).entries) (get_or logs d x))
-    → AreLogged wanted histories logs
-are_logged id clients tasks duration wanted histories refused logs count legal answers each = record {
-  alike = λ d x inside. (each d (record { cpus = 0; limit = 0; entries = [] }) x inside).alike;
-  logged = λ d s x inside yes.
-      let place : d < length id.cpu_sets = omega (arith, inside, count) in
-      let h = get_or histories d s in
-      (each d s x inside).has yes ∙ sym (history_logs duration h.cpus h.limit h.entries (split_of id clients tasks duration histories refused count legal answers d s place));
-}
-
 -- ---- what was streamed
 
 -- of the run of a history, with this that happened
@@ -190,7 +174,7 @@ are_streamed id clients tasks duration histories refused streamed count legal an
 
 -- what a run left, besides its report
 abbrev pub left_of_run : Finished → Left
-left_of_run f = record { states = f.states; logs = f.logs; streamed = f.streamed; drawn = f.drawn }
+left_of_run f = record { states = f.states; streamed = f.streamed; drawn = f.drawn }
 
 pub left_as : (id : SessionId) (clients : ℕ) (tasks : List TaskSpecView) (duration : ℕ) (wanted : Wanted) (f : Finished) (refused : List (ℕ × Refusal))
     → length f.report.histories.items ≡ length id.cpu_sets
@@ -198,16 +182,8 @@ pub left_as : (id : SessionId) (clients : ℕ) (tasks : List TaskSpecView) (dura
     → AnswersScenario id clients tasks duration (map (λ h. h.entries) f.report.histories.items) refused
     → IsLeftAs duration wanted f
     → AreLeftAs wanted f.report.histories.items (left_of_run f)
-left_as id clients tasks duration wants.Switches f refused count legal answers left = record {
-  runs = left.runs;
-  as_many = left.logs_count;
-  logged = are_logged id clients tasks duration false f.report.histories.items refused f.logs.items count legal answers left.logs;
-}
-left_as id clients tasks duration wants.Happened f refused count legal answers left = record {
-  runs = left.runs;
-  as_many = left.logs_count;
-  logged = are_logged id clients tasks duration true f.report.histories.items refused f.logs.items count legal answers left.logs;
-}
+left_as id clients tasks duration wants.Switches f refused count legal answers left = left.runs
+left_as id clients tasks duration wants.Happened f refused count legal answers left = left.runs
 left_as id clients tasks duration wants.Figures f refused count legal answers left = record {
   as_many = left.streamed_count;
   runs = λ d s x inside. ap without_switches (left.runs d s x inside);

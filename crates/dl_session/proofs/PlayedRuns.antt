@@ -1,23 +1,20 @@
 -- Books whose advance is made while their switches are written.
-use Rattle.std.proofs.Common.{◌≡◌, ℕ, zero, suc, ◌+◌, ◌^◌, ◌≤◌, ◌<◌, arith, Option, Some, None, List, [], ◌∷◌, ◌++◌, length, map, get_or, All, refl, sym, ap, subst, ◌∙◌}
-use Rattle.std.specs.Prelude.{IfSome}
+use Rattle.std.proofs.Common.{◌≡◌, ℕ, zero, suc, ◌+◌, ◌^◌, ◌≤◌, ◌<◌, arith, List, [], ◌∷◌, ◌++◌, length, map, get_or, All, refl, sym, ap, subst, ◌∙◌}
 use Rattle.std.specs.List.{AllZip}
 use Rattle.std.proofs.lemmas.List.{length-map, get_or-map}
-use Rattle.std.proofs.lemmas.List.Elements.{All-weaker, All-head, All-tail, recursion_from_All}
+use Rattle.std.proofs.lemmas.List.Elements.{All-head, All-tail, recursion_from_All}
 use Rattle.domain_run.specs.Domain.{Domain}
-use Rattle.domain_run.specs.Coming.{switches_to_come}
-use Rattle.domain_run.specs.Sound.{IsDomain, IsSwitch, IsAdmitted}
-use Rattle.domain_run.specs.Switch.{Switch}
+use Rattle.domain_run.specs.Sound.{IsAdmitted}
 use Rattle.domain_run.specs.Tick.{ticks}
 use Rattle.domain_run.proofs.CallerLemmas.{ticks_cpus}
 use Rattle.calls_text.specs.SectionView.{SectionView}
 use Rattle.calls_text.specs.Limits.{IsSection}
 use Rattle.calls_text.specs.Histories.{IsLegal}
-use Rattle.switch_text.specs.Names.{Names, name_of_task, HasName, HasLine}
-use Rattle.switch_text.specs.SlicedTrace.{SlicedView, whole_of, wholes, all_entries}
+use Rattle.switch_text.specs.Names.{Names}
+use Rattle.switch_text.specs.SlicedTrace.{whole_of, wholes, all_entries}
 use Rattle.switch_text.specs.Trace.{SwitchesView}
 use Rattle.call_book.specs.Book.{BookView, state_of}
-use Rattle.call_book.specs.Playing.{PlayingView, switches_ahead, all_switches, HasWholeRun, LeadsToRun, IsFurther}
+use Rattle.call_book.specs.Playing.{PlayingView, LeadsToRun, IsFurther}
 use Rattle.calls_trace.specs.Replay.{run_view, runs_from}
 use Rattle.calls_trace.proofs.CallerLemmas.{all_few}
 use Rattle.session.specs.Begun.{section_of, played_books}
@@ -42,22 +39,6 @@ played_named p names leads named n h =
     let used : p.at.used ≡ (state_of p.book).used = sym (ticks_used p.left p.at) ∙ ap (λ (d : Domain). d.used) leads in
     named.all_named n (subst (λ (us : List ℕ). IsAdmitted us n) used h)
 
--- it is the run of its history
-pub played_whole : (p : PlayingView) (base : ℕ) (names : Names) (slices : SlicedView) → slices ≡ record { base = base; names = name_of_task names; at_hand = p.at.switches; to_come = switches_ahead p }
-    → IsNamedBook p.book names → HasWholeRun p → whole_of slices ≡ run_view base (section_of p.book)
-played_whole p base names slices is named whole =
-    let run : whole_of (record { base = base; names = name_of_task names; at_hand = p.at.switches; to_come = switches_ahead p }) ≡ run_view base (section_of p.book) =
-    λ i. record { base = base; names = named.given i; switches = whole i } in
-    ap whole_of is ∙ run
-
--- nothing is to come
-pub none_ahead : (p : PlayingView) → p.left ≡ 0 → switches_ahead p ≡ []
-none_ahead p none = ap (λ (n : ℕ). switches_to_come n p.at) none
-
--- some ticks were made
-pub further_book : (p q : PlayingView) → IsFurther p q → q.book ≡ p.book
-further_book p q is = ap (λ (x : PlayingView). x.book) is.play
-
 pub further_cpus : (p q : PlayingView) → IsFurther p q → q.at.cpus ≡ p.at.cpus
 further_cpus p q is = ap (λ (x : PlayingView). x.at.cpus) is.play ∙ ticks_cpus is.made p.at
 
@@ -66,25 +47,7 @@ further_named p q names is named =
     let used : q.at.used ≡ p.at.used = ap (λ (x : PlayingView). x.at.used) is.play ∙ ticks_used is.made p.at in
     subst (λ (us : List ℕ). AreAllNamed us names) (sym used) named
 
-pub same_whole : (base : ℕ) (names : ℕ → List ℕ) (p q : PlayingView) → all_switches q ≡ all_switches p
-    → whole_of (record { base = base; names = names; at_hand = q.at.switches; to_come = switches_ahead q }) ≡ whole_of (record { base = base; names = names; at_hand = p.at.switches; to_come = switches_ahead p })
-same_whole base names p q same = λ i. record { base = base; names = names; switches = same i }
-
 -- ---- as it is written
-
-some_named : (used : List ℕ) (names : Names) → AreAllNamed used names → (o : Option ℕ) → IfSome o (IsAdmitted used) → IfSome o (HasName names)
-some_named used names named None h = tt
-some_named used names named (Some n) h = named n h
-
--- each switch of a domain has a line
-pub domain_lines : (d : Domain) (names : Names) (base : ℕ) → IsDomain d → AreAllNamed d.used names → base + d.cpus ≤ 512 → All (HasLine names base) d.switches
-domain_lines d names base is named inside =
-    All-weaker (IsSwitch d.cpus d.time d.used) (HasLine names base)
-    (λ s h. record { time = omega (arith, h.past, is.steady.early); cpu = omega (arith, h.inside, inside); prev = some_named d.used names named s.prev h.prev; next = some_named d.used names named s.next h.next })
-    d.switches is.traced.switches
-
-pub domain_past : (d : Domain) → IsDomain d → All (λ (s : Switch). s.time < d.time) d.switches
-domain_past d is = All-weaker (IsSwitch d.cpus d.time d.used) (λ (s : Switch). s.time < d.time) (λ s h. h.past) d.switches is.traced.switches
 
 -- ---- all books
 
@@ -98,14 +61,8 @@ named_zip (b ∷ bs) (n ∷ ns) same each = (each 0 n (omega arith) b, named_zip
 first_zip : (rest left : List PlayingView) (p : PlayingView) (ns ms : List Names) (n : Names) → rest ≡ p ∷ left → ns ≡ n ∷ ms → AllZip IsNamedBook (played_books rest) ns → AllZip IsNamedBook (played_books (p ∷ left)) (n ∷ ms)
 first_zip rest left p ns ms n is at are = subst (λ (xs : List Names). AllZip IsNamedBook (played_books (p ∷ left)) xs) at (subst (λ (ps : List PlayingView). AllZip IsNamedBook (played_books ps) ns) is are)
 
-pub first_named : (rest left : List PlayingView) (p : PlayingView) (ns ms : List Names) (n : Names) → rest ≡ p ∷ left → ns ≡ n ∷ ms → AllZip IsNamedBook (played_books rest) ns → IsNamedBook p.book n
-first_named rest left p ns ms n is at are = (first_zip rest left p ns ms n is at are).0
-
 pub other_named : (rest left : List PlayingView) (p : PlayingView) (ns ms : List Names) (n : Names) → rest ≡ p ∷ left → ns ≡ n ∷ ms → AllZip IsNamedBook (played_books rest) ns → AllZip IsNamedBook (played_books left) ms
 other_named rest left p ns ms n is at are = (first_zip rest left p ns ms n is at are).1
-
-pub none_named : (rest left : List PlayingView) (p : PlayingView) (ns : List Names) → rest ≡ p ∷ left → ns ≡ [] → AllZip IsNamedBook (played_books rest) ns → ⊥
-none_named rest left p ns is at are = subst (λ (xs : List Names). AllZip IsNamedBook (played_books (p ∷ left)) xs) at (subst (λ (ps : List PlayingView). AllZip IsNamedBook (played_books ps) ns) is are)
 
 push_book : (runs : List PlayedRun) (r : PlayedRun) (bs : List BookView) → map played_book (runs ++ r ∷ []) ++ bs ≡ map played_book runs ++ played_book r ∷ bs
 push_book [] r bs = refl

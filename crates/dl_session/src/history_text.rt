@@ -44,7 +44,7 @@ fn text_of(
 }
 
 /// Writes the text of histories, in one piece.
-pub(crate) fn write_histories<W: Write>(
+fn write_histories<W: Write>(
     alloc: Global,
     history_text: HistoryText,
     histories: &[Section],

@@ -8,13 +8,14 @@ ghost use Rattle.calls_trace.specs.Answer.{streams, NothingWritten};
 ghost use Rattle.dl_session.specs.RunAnswer as answers;
 ghost use Rattle.dl_session.specs.RunAnswer.{with_reclaim, IsScenario, IsRunAnswer, IsRunFault};
 ghost use Rattle.dl_session.specs.private.Asked.{HaveAsked, IsRunWritten, IsRunUnwritten};
+ghost use Rattle.dl_session.specs.private.Printing.{print_of_kept};
 ghost use Rattle.dl_session.specs.private.Running.{IsJsonLogged, IsScenarioLogged};
 ghost use Rattle.limits.specs.Limits.{max_advance};
 
 use crate::asked::{Asked, ask_in};
 use crate::fault::SessionFault;
 use crate::history_text::{HistoryText, write_logged};
-use crate::printing::{Left, wanted_for, write_run};
+use crate::printing::{KeptText, Left, wanted_for, write_run};
 use crate::streaming::{Streaming, write_streamed};
 use deadline_promise::budgets_isolate;
 use json_order::{JsonFault, JsonKind, read_lent};
@@ -105,11 +106,11 @@ fn advance_for(print: Print, duration: u64) -> u64
 }
 
 /// Lets client 1 advance each domain by the whole duration, in microseconds, closes the session,
-/// and writes a text of what it left: of states, of what happened, or of figures.
+/// and writes a text of what it left: of states, of figures, of jobs, or of what was drawn.
 fn write_kept<N: Names + Send + Sync, W: Write, X: Threads + Wait + Sync>(
     rt: &X,
     alloc: Global,
-    print: Print,
+    kept: KeptText,
     asked: Asked<'_, N>,
     duration: u64,
     writer: &mut Counted<W>,
@@ -117,10 +118,10 @@ fn write_kept<N: Names + Send + Sync, W: Write, X: Threads + Wait + Sync>(
     requires asked { HaveAsked N.id asked.tasks.now asked.clients.items asked.refused.items }
     requires duration { duration ≤ max_advance }
     requires faults { faults_of writer.old < 2 ^ 63 }
-    ensures ok { IfOk result (IsRunWritten N.id asked.entry.tasks.now duration print
-        (side W.contents writer.old writer.new)) }
-    ensures err { IfErr result (IsRunUnwritten N.id asked.entry.tasks.now duration print
-        (side W.contents writer.old writer.new)) }
+    ensures ok { IfOk result (IsRunWritten N.id asked.entry.tasks.now duration
+        (print_of_kept kept) (side W.contents writer.old writer.new)) }
+    ensures err { IfErr result (IsRunUnwritten N.id asked.entry.tasks.now duration
+        (print_of_kept kept) (side W.contents writer.old writer.new)) }
 {
     let Asked {
         session,
@@ -131,7 +132,7 @@ fn write_kept<N: Names + Send + Sync, W: Write, X: Threads + Wait + Sync>(
     let Finished {
         mut report,
         states,
-        logs,
+        logs: _,
         streamed,
         drawn,
     } = end_run(
@@ -140,17 +141,16 @@ fn write_kept<N: Names + Send + Sync, W: Write, X: Threads + Wait + Sync>(
         session,
         clients,
         duration,
-        wanted_for(print, duration),
+        wanted_for(kept, duration),
     )?;
     report.refused = refused;
     let left = Left {
         states,
-        logs,
         streamed,
         drawn,
     };
     let histories = &report.histories;
-    match write_run(alloc, print, duration, tasks, histories, left, writer) {
+    match write_run(alloc, kept, duration, tasks, histories, left, writer) {
         Ok(()) => Ok(report),
         Err(fault) => Err(SessionFault::from(fault)),
     }
@@ -203,7 +203,10 @@ fn run_in<N: Names + Send + Sync, W: Write, T: Turnstile, X: Threads + Wait + Sy
         ),
         Print::Calls => write_logged(alloc, HistoryText::Calls, asked, duration, writer),
         Print::Replies => write_logged(alloc, HistoryText::Replies, asked, duration, writer),
-        print => write_kept(rt, alloc, print, asked, duration, writer),
+        Print::Summary => write_kept(rt, alloc, KeptText::Summary, asked, duration, writer),
+        Print::Jobs => write_kept(rt, alloc, KeptText::Jobs, asked, duration, writer),
+        Print::Chart(span) => write_kept(rt, alloc, KeptText::Chart(span), asked, duration, writer),
+        Print::Promises => write_kept(rt, alloc, KeptText::Promises, asked, duration, writer),
     }
 }
 

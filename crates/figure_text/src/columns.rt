@@ -1,52 +1,16 @@
 //! Columns put after what stands before.
 
-ghost use Rattle.std.specs.Prelude.{◌≡◌, ◌<◌, ◌≤◌, ◌^◌, codes, decimal};
+ghost use Rattle.std.specs.Prelude.{◌≡◌, ◌<◌, ◌≤◌, ◌^◌, codes};
 ghost use Rattle.std.specs.Fmt.{signed_decimal};
 ghost use Rattle.figure_text.specs.Columns as columns;
-ghost use Rattle.run_figures.specs.Lines.{digits_in};
-ghost use Rattle.draft.specs.Columns.{right, column};
+ghost use Rattle.draft.specs.Columns.{column};
 ghost use Rattle.draft.specs.Draft.{Adds};
 
 use draft::Draft;
+pub(crate) use draft::{put_column, put_digits, put_number, put_right, put_wide};
 use itoa::Buffer;
 
-/// A text at the right of a column.
-pub(crate) fn put_right(out: &mut Draft, width: usize, text: &[u8])
-    requires { width ≤ 15 }
-    ensures { Adds out.old out.new (right width text.now) }
-{
-    out.fill(b' ', width.saturating_sub(text.len()));
-    out.put(text);
-}
-
-/// A space, and a text at the right of a column.
-pub(crate) fn put_column(out: &mut Draft, width: usize, text: &[u8])
-    requires { width ≤ 15 }
-    ensures { Adds out.old out.new (column width text.now) }
-{
-    out.put(b" ");
-    put_right(out, width, text);
-}
-
-/// A space, and a number at the right of a column.
-pub(crate) fn put_number(out: &mut Draft, width: usize, n: u64)
-    requires { width ≤ 15 }
-    ensures { Adds out.old out.new (column width (decimal n)) }
-{
-    let mut buffer = Buffer::new();
-    put_column(out, width, buffer.format(n).as_bytes());
-}
-
-/// The same of a number that may be greater.
-pub(crate) fn put_wide(out: &mut Draft, width: usize, n: u128)
-    requires { width ≤ 15 }
-    ensures { Adds out.old out.new (column width (decimal n)) }
-{
-    let mut buffer = Buffer::new();
-    put_column(out, width, buffer.format(n).as_bytes());
-}
-
-/// The same of a number that may be below 0.
+/// A space, and a number at the right of a column. It may be below 0.
 pub(crate) fn put_signed(out: &mut Draft, width: usize, n: i128)
     requires { width ≤ 15 }
     ensures { Adds out.old out.new (column width (signed_decimal n)) }
@@ -68,17 +32,6 @@ pub(crate) fn put_pid(out: &mut Draft, number: u32)
     ensures { Adds out.old out.new (column 6 (columns.pid number)) }
 {
     put_number(out, 6, 1000 + u64::from(number));
-}
-
-/// A number in at least so many digits.
-pub(crate) fn put_digits(out: &mut Draft, width: usize, n: u64)
-    requires { width ≤ 15 }
-    ensures { Adds out.old out.new (digits_in width n) }
-{
-    let mut buffer = Buffer::new();
-    let digits = buffer.format(n).as_bytes();
-    out.fill(b'0', width.saturating_sub(digits.len()));
-    out.put(digits);
 }
 
 /// A part of a whole, in hundredths of a per cent.

@@ -1,13 +1,11 @@
 //! The table, row by row.
 
-ghost use Rattle.std.specs.Prelude.{◌≡◌, ◌<◌, ◌^◌, decimal, length, map, IfOk, OnOk};
+ghost use Rattle.std.specs.Prelude.{◌≡◌, length, map, IfOk, OnOk};
 ghost use Rattle.draft.specs.Draft.{Adds};
-ghost use Rattle.draft.specs.Columns.{right, column};
 ghost use Rattle.recorded_table.specs.Table.{shown_time, works, distances_after, distances, woken_jobs, open_jobs, columns_of_times, jobs_row, jobs_rows, jobs_table};
 
 use crate::spread::{Spread, spread_of};
-use draft::{Draft, NoMemory};
-use itoa::Buffer;
+use draft::{Draft, NoMemory, put_number, put_right};
 use recorded_jobs::Release;
 use std::alloc::{AllocError, Global};
 use tasks_text::Task;
@@ -55,34 +53,15 @@ fn distances(alloc: Global, jobs: &[Release]) -> Result<Vec<u64>, AllocError>
     }
 }
 
-/// Adds a text at the right of a column.
-fn put_right(out: &mut Draft, width: usize, text: &[u8])
-    requires { width < 2 ^ 32 }
-    ensures { Adds out.old out.new (right width text.now) }
-{
-    out.fill(b' ', width.saturating_sub(text.len()));
-    out.put(text);
-}
-
-/// Adds a column of a number.
-fn put_column(out: &mut Draft, width: usize, n: u64)
-    requires { width < 2 ^ 32 }
-    ensures { Adds out.old out.new (column width (decimal n)) }
-{
-    let mut buffer = Buffer::new();
-    out.put(b" ");
-    put_right(out, width, buffer.format(n).as_bytes());
-}
-
 fn put_spread(out: &mut Draft, spread: Option<Spread>)
     ensures { Adds out.old out.new (columns_of_times spread) }
 {
     match spread {
         None => out.put(b"          -          -          -"),
         Some(spread) => {
-            put_column(out, 10, spread.least);
-            put_column(out, 10, spread.mean);
-            put_column(out, 10, spread.greatest);
+            put_number(out, 10, spread.least);
+            put_number(out, 10, spread.mean);
+            put_number(out, 10, spread.greatest);
         }
     }
 }
@@ -106,9 +85,9 @@ fn put_row(out: &mut Draft, name: &[u8], jobs: &[Release], worked: &[u64], apart
     ensures { Adds out.old out.new (jobs_row name.now jobs.now) }
 {
     put_right(out, 16, name);
-    put_column(out, 7, jobs.len() as u64);
-    put_column(out, 7, woken_jobs(jobs) as u64);
-    put_column(out, 7, open_jobs(jobs) as u64);
+    put_number(out, 7, jobs.len() as u64);
+    put_number(out, 7, woken_jobs(jobs) as u64);
+    put_number(out, 7, open_jobs(jobs) as u64);
     put_spread(out, spread_of(worked));
     put_spread(out, spread_of(apart));
     out.put(b"\n");

@@ -50,14 +50,6 @@ turns_more : (id : SessionId) (a b c : ClientView) (xs ys : List Asked) → Asks
 turns_more id a b c [] ys first next = subst (λ (v : ClientView). AsksInTurn id v ys c) first next
 turns_more id a b c (x ∷ xs) ys first next = (first.0, first.1, turns_more id first.0 b c xs ys first.2 next)
 
-pub asks_none : (id : SessionId) (c : ClientView) → Asks id c c []
-asks_none id c = record {
-  lawful = All-nil (λ q. IsLawful id q.task q.answer);
-  made = record { number = refl; domains = refl; passes = λ d inside. sym (append-nil (client_pass_in c d)) };
-  hand = refl;
-  turns = refl;
-}
-
 pub asks_more : (id : SessionId) (a b c : ClientView) (xs ys : List Asked) → Asks id a b xs → Asks id b c ys → Asks id a c (xs ++ ys)
 asks_more id a b c xs ys first next = record {
   lawful = All-append (λ q. IsLawful id q.task q.answer) xs ys first.lawful next.lawful;
@@ -86,9 +78,6 @@ own_of_one n i t b e = ap (λ (c : Bool). cond c (t ∷ []) []) e
 
 own_more : (n i : ℕ) (t : TaskSpecView) (ts : List TaskSpecView) (b : Bool) → is_own_task n i t ≡ b → own_tasks n i (ts ++ t ∷ []) ≡ own_tasks n i ts ++ cond b (t ∷ []) []
 own_more n i t ts b e = filter-append (is_own_task n i) ts (t ∷ []) ∙ ap (λ (l : List TaskSpecView). own_tasks n i ts ++ l) (own_of_one n i t b e)
-
-pub own_none : (id : SessionId) (n i : ℕ) (c : ClientView) → AsksOwn id n i [] c c []
-own_none id n i c = record { each = refl; asks = asks_none id c }
 
 -- its next task
 pub own_next : (id : SessionId) (n i : ℕ) (ts : List TaskSpecView) (t : TaskSpecView) (c d e : ClientView) (ans : List Answer) (a : Answer)
@@ -124,19 +113,6 @@ pub record IsLeft {X : Type 0} (f : X → List Answer) (n : ℕ) (tasks rest : L
   pub each : (i : ℕ) (x : X) → i < n → AreAnswers n i rest (f (get_or left i x))
   pub own : (i : ℕ) (x : X) → i < n
       → own_asked n i asked ++ with_answers (own_tasks n i rest) (f (get_or left i x)) ≡ with_answers (own_tasks n i tasks) (f (get_or shares i x))
-
--- before the first task
-pub all_left : {X : Type 0} (f : X → List Answer) (tasks : List TaskSpecView) (shares : List X)
-    → ((i : ℕ) (x : X) → i < length shares → AreAnswers (length shares) i tasks (f (get_or shares i x)))
-    → IsLeft f (length shares) tasks tasks shares shares []
-all_left f tasks shares each = record {
-  asked = [];
-  tasks_are = refl;
-  refused_are = refl;
-  count = refl;
-  each = each;
-  own = λ i x inside. refl;
-}
 
 own_cons : (n i : ℕ) (t : TaskSpecView) (rest : List TaskSpecView) (b : Bool) → is_own_task n i t ≡ b → own_tasks n i (t ∷ rest) ≡ cond b (t ∷ own_tasks n i rest) (own_tasks n i rest)
 own_cons n i t rest b e = ap (λ (c : Bool). cond c (t ∷ own_tasks n i rest) (own_tasks n i rest)) e

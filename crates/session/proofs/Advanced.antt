@@ -1,6 +1,6 @@
 -- The advance of each domain at the end of a run.
 use Rattle.std.proofs.Common.{◌≡◌, ◌≢◌, ℕ, zero, suc, ◌+◌, ◌-◌, ◌≤◌, ◌<◌, ◌&&◌, Bool, true, false, eqb, cond, List, [], ◌∷◌, ◌++◌, length, take, map, set, get_or, Some, None, Ok, Err, All, refl, sym, ap, subst, ◌∙◌, arith}
-use Rattle.std.specs.Prelude.{slice_index_or, nat_lt, Result, IfOk, IfErr, OnOk}
+use Rattle.std.specs.Prelude.{slice_index_or, nat_lt, Result, IfOk, OnOk}
 use Rattle.std.specs.List.{cons_option}
 use Rattle.std.proofs.lemmas.Bool.{lt-ltb, eqb-true, eqb-false}
 use Rattle.std.proofs.lemmas.List.{append-nil, get_or_default, get_or-set_same, get_or-set_other, get_or-map, get_or_push, get_or_append_left, length-map, length-set, length_push, map_push}
@@ -240,11 +240,6 @@ pub streamed_as : {X : Type 0} (r : Result X EndFault) (P Q : X → Type 0) → 
 streamed_as (Ok a) P Q is f = f a is
 streamed_as (Err e) P Q is f = tt
 
-pub stopped_as : (r : Result AccountingView EndFault) (Q : Type 0) → IfErr r (IsRunStopped ⊥) → IfErr r (IsRunStopped Q)
-stopped_as (Ok a) Q is = tt
-stopped_as (Err faults.Full) Q is = absurd is
-stopped_as (Err faults.Memory) Q is = tt
-
 -- the logs of the first so many books were logged
 abbrev pub FirstLog : ℕ → ℕ → List BookView → List LogView → List LogView → Type 0
 FirstLog n ticks books before after =
@@ -296,16 +291,6 @@ end_logs wanted ticks books before after is count say = record {
   count = count ∙ is.count;
   each = λ d y x inside.
       log_of wanted _ (get_or before d x) (get_or after d x) (All-get_or (IsLogOf wanted []) before d x (omega (arith, inside, is.count)) is.each) (say d y x inside);
-}
-
--- where nothing is advanced
-pub open_is_end : (wanted : Bool) (ticks : ℕ) (books : List BookView) (logs : List LogView) → ticks ≡ 0 → AreOpenLogs (length books) wanted logs → AreEndLogs wanted ticks books logs
-open_is_end wanted ticks books logs none is = record {
-  count = is.count;
-  each = λ d y x inside.
-      let b = get_or books d y in
-      subst (λ (n : ℕ). IsLogOf wanted (logged_at_end n b.cpus b.limit b.history) (get_or logs d x)) (sym none)
-      (All-get_or (IsLogOf wanted []) logs d x (omega (arith, inside, is.count)) is.each);
 }
 
 -- ---- an advance that was not made

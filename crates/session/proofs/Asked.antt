@@ -1,8 +1,8 @@
 -- What a client is answered, and what its passes have then.
 use Rattle.std.proofs.Common.{◌≡◌, ◌≢◌, ℕ, ◌+◌, ◌<◌, Bool, true, false, not, cond, eqb, List, [], ◌∷◌, ◌++◌, length, map, set, get_or, Option, Some, None, Ok, Err, refl, sym, ap, subst, ◌∙◌, arith}
-use Rattle.std.specs.Prelude.{slice_index_or, position, nat_lt, IfSome, IsSome, IsSomeAnd, IfOk, IfErr}
+use Rattle.std.specs.Prelude.{slice_index_or, position, nat_lt, IfOk, IfErr}
 use Rattle.std.specs.List.{position_or_len, prefix_len, cons_option}
-use Rattle.std.proofs.lemmas.Bool.{ltb-true, eqb-true, eqb-false}
+use Rattle.std.proofs.lemmas.Bool.{eqb-true, eqb-false}
 use Rattle.std.proofs.lemmas.Option.{same_Some}
 use Rattle.std.proofs.lemmas.List.{append-nil, get_or-map, get_or-set_same, get_or-set_other, length-map, length-set}
 use Rattle.std.proofs.lemmas.List.Elements.{All-nil, All-cons}
@@ -15,21 +15,21 @@ use Rattle.domain_run.specs.declared.call.Reply.TheVariants as replies
 use Rattle.rtapp_scenario.specs.ScenarioView.{TaskSpecView}
 use Rattle.pass_seats.specs.Lists.{PassView}
 use Rattle.bw_gate.specs.Word.{used_of, cap_of, IsCap}
-use Rattle.bw_gate.specs.Pieces.{GateId, BlankView, TicketView, found_in, last_word_found, cpus_of as gate_cpus}
+use Rattle.bw_gate.specs.Pieces.{BlankView, found_in, last_word_found, cpus_of as gate_cpus}
 use Rattle.bw_gate.specs.declared.view.Found.{Found}
-use Rattle.bw_gate.specs.Answers.{IsTake, IsGive, words_of}
+use Rattle.bw_gate.specs.Answers.{IsTake, words_of}
 use Rattle.bw_gate.specs.declared.answer.Take.TheVariants as takes
 use Rattle.calls_text.specs.declared.section.Entry.{Entry}
 use Rattle.session.specs.declared.refusal.Refusal.{Refusal}
 use Rattle.session.specs.declared.refusal.Refusal.TheVariants as refusals
-use Rattle.session.specs.SessionId.{SessionId, IsSession, IsDomainIndex, cpu_set_of}
+use Rattle.session.specs.SessionId.{SessionId, cpu_set_of}
 use Rattle.session.specs.Seen.{ClientPart, SawFull, AdmissionWasSeen, AnswerWasSeen, EntryWasSeen, RefusalWasSeen}
-use Rattle.session.specs.Asks.{Answer, IsOverCap, IsLawful, Goes, domain_with_cpus, same_cpus, admit_call, ClientView, Asks, Makes, made_by, made_in, made_of, made_at, Made, entries_from, client_pass_in, part_in, blank_or_new, IsGateRefusal, IsGivenBackAfter, AsksGate, IsHandAfter, IsRegradeReply, IsLimitReply, IsHandUnasked, MakesLimit, RefusesOnlyFull}
+use Rattle.session.specs.Asks.{Answer, IsOverCap, IsLawful, Goes, domain_with_cpus, admit_call, ClientView, Asks, Makes, made_by, made_in, made_of, made_at, Made, entries_from, client_pass_in, part_in, blank_or_new, IsGateRefusal, AsksGate, IsHandAfter, IsRegradeReply, IsLimitReply, IsHandUnasked, MakesLimit, RefusesOnlyFull}
 use Rattle.call_book.specs.Book.{admission}
 use Rattle.domain_run.specs.declared.call.Call.TheVariants as calls
 use Rattle.session.specs.declared.locked_book.Ask.{Ask}
 use Rattle.session.specs.declared.locked_book.Ask.TheVariants as asks
-use Rattle.session.specs.private.Entering.{IsEntryVerdict, IsBookVerdict, IsGivenBack, NoneIsKept, LeavesNoBlank, KeepsHand, part_with, IsOfTask, WasSeenFor, pass_after, IsDone, IsDoneFor, MakesLimitWith, IsAdvancedBy, IsAdvancedFor}
+use Rattle.session.specs.private.Entering.{IsEntryVerdict, NoneIsKept, LeavesNoBlank, KeepsHand, part_with, IsOfTask, WasSeenFor, pass_after, IsDone, IsDoneFor, MakesLimitWith, IsAdvancedBy, IsAdvancedFor}
 
 -- ---- attributes
 
@@ -41,14 +41,6 @@ pub accepted_is : (a : SchedAttr) (p : ParamsView) → accepted a ≡ Ok p → p
 accepted_is a p e = unless_is a (first_refusal a) p e
 
 -- ---- places
-
-placed : (b : Bool) (n d k : ℕ) → cond b (Some n) None ≡ Some d → nat_lt n k ≡ b → d < k
-placed true n d k e is = let same = same_Some n d e in omega (arith, same, ltb-true n k is)
-placed false n d k e is = absurd cc
-
-pub is_place : (id : SessionId) (cpus : Option (List ℕ)) (d : ℕ) → IsSession id → domain_with_cpus id.cpu_sets cpus ≡ Some d → IsDomainIndex id d
-is_place id None d s e = let same = same_Some 0 d e in omega (arith, s.some, same)
-is_place id (Some cpus) d s e = placed (nat_lt (position_or_len (same_cpus cpus) id.cpu_sets) (length id.cpu_sets)) (position_or_len (same_cpus cpus) id.cpu_sets) d (length id.cpu_sets) e refl
 
 mapped_len : {X : Type 0} (f : X → List ℕ) (p : List ℕ → Bool) (xs : List X) → prefix_len p (map f xs) ≡ prefix_len (λ x. p (f x)) xs
 mapped_len f p [] = refl
@@ -118,68 +110,6 @@ done_anyhow id d p q (asks.Regrade number params) answer hand done given = done
 done_anyhow id d p q (asks.Wake number) answer hand done given = done
 done_anyhow id d p q (asks.Leave number) answer hand done given = done
 done_anyhow id d p q (asks.Limit piece limit) answer hand done given = nobody given
-
-given_back : (b : BlankView) (d bw : ℕ) (t : TicketView) (hand : Option BlankView) → IsTake b d bw (takes.Taken t) → IfSome hand (IsGive t) × IsSome hand
-    → IsSomeAnd hand (IsGivenBackAfter b d bw)
-given_back b d bw t None taken given = nobody given.1
-given_back b d bw t (Some back) taken given = record { ticket = t; taken = taken; given = given.0 }
-
--- a piece that was granted, by what the domain answered
-pub granted_asks : (gate : GateId) (d cpus bw : ℕ) (b : BlankView) (t : TicketView) (answer : Answer) (hand : Option BlankView)
-    → IsTake b d bw (takes.Taken t) → IsBookVerdict cpus bw answer → IsGivenBack t answer hand → AsksGate gate d bw (Some b) answer hand
-granted_asks gate d cpus bw b t (Ok replies.Admitted) hand taken v given = (t, taken)
-granted_asks gate d cpus bw b t (Ok (replies.Busy seen)) hand taken v given = given_back b d bw t hand taken given
-granted_asks gate d cpus bw b t (Ok replies.Changed) hand taken v given = absurd v
-granted_asks gate d cpus bw b t (Ok replies.Woken) hand taken v given = absurd v
-granted_asks gate d cpus bw b t (Ok replies.Left) hand taken v given = absurd v
-granted_asks gate d cpus bw b t (Ok (replies.Done n)) hand taken v given = absurd v
-granted_asks gate d cpus bw b t (Ok replies.Set) hand taken v given = absurd v
-granted_asks gate d cpus bw b t (Ok replies.Full) hand taken v given = absurd v
-granted_asks gate d cpus bw b t (Ok replies.Twice) hand taken v given = absurd v
-granted_asks gate d cpus bw b t (Ok replies.NotListed) hand taken v given = absurd v
-granted_asks gate d cpus bw b t (Ok replies.NotWaiting) hand taken v given = absurd v
-granted_asks gate d cpus bw b t (Ok replies.Departed) hand taken v given = absurd v
-granted_asks gate d cpus bw b t (Err refusals.Full) None taken v given = nobody given.1
-granted_asks gate d cpus bw b t (Err refusals.Full) (Some back) taken v given = given_back b d bw t (Some back) taken given
-granted_asks gate d cpus bw b t (Err refusals.Twice) hand taken v given = given_back b d bw t hand taken given
-granted_asks gate d cpus bw b t (Err refusals.Enomem) hand taken v given = absurd v
-granted_asks gate d cpus bw b t (Err (refusals.Busy seen)) hand taken v given = absurd v
-granted_asks gate d cpus bw b t (Err refusals.Eperm) hand taken v given = absurd v
-granted_asks gate d cpus bw b t (Err (refusals.Einval k)) hand taken v given = absurd v
-granted_asks gate d cpus bw b t (Err refusals.Esrch) hand taken v given = absurd v
-granted_asks gate d cpus bw b t (Err (refusals.Stale p)) hand taken v given = absurd v
-granted_asks gate d cpus bw b t (Err refusals.SameDomain) hand taken v given = absurd v
-
--- a new piece is that of a client that has none
-new_asks : (gate : GateId) (d bw : ℕ) (answer : Answer) (next : Option BlankView) → AsksGate gate d bw (Some (blank_or_new gate None)) answer next → AsksGate gate d bw None answer next
-new_asks gate d bw (Ok replies.Admitted) next h = h
-new_asks gate d bw (Ok (replies.Busy seen)) next h = h
-new_asks gate d bw (Ok replies.Changed) next h = h
-new_asks gate d bw (Ok replies.Woken) next h = h
-new_asks gate d bw (Ok replies.Left) next h = h
-new_asks gate d bw (Ok (replies.Done n)) next h = h
-new_asks gate d bw (Ok replies.Set) next h = h
-new_asks gate d bw (Ok replies.Full) next h = h
-new_asks gate d bw (Ok replies.Twice) next h = h
-new_asks gate d bw (Ok replies.NotListed) next h = h
-new_asks gate d bw (Ok replies.NotWaiting) next h = h
-new_asks gate d bw (Ok replies.Departed) next h = h
-new_asks gate d bw (Err refusals.Full) None h = refl
-new_asks gate d bw (Err refusals.Full) (Some back) h = h
-new_asks gate d bw (Err refusals.Twice) next h = h
-new_asks gate d bw (Err refusals.Enomem) next h = h
-new_asks gate d bw (Err (refusals.Busy seen)) next h = h
-new_asks gate d bw (Err refusals.Eperm) next h = h
-new_asks gate d bw (Err (refusals.Einval k)) next h = h
-new_asks gate d bw (Err refusals.Esrch) next h = h
-new_asks gate d bw (Err (refusals.Stale p)) next h = h
-new_asks gate d bw (Err refusals.SameDomain) next h = h
-
--- an admission with the piece that was found for it
-pub found_asks : (gate : GateId) (d bw : ℕ) (hand : Option BlankView) (b : BlankView) (answer : Answer) (next : Option BlankView)
-    → b ≡ blank_or_new gate hand → AsksGate gate d bw (Some b) answer next → AsksGate gate d bw hand answer next
-found_asks gate d bw (Some c) b answer next is h = subst (λ (x : BlankView). AsksGate gate d bw (Some x) answer next) is h
-found_asks gate d bw None b answer next is h = new_asks gate d bw answer next (subst (λ (x : BlankView). AsksGate gate d bw (Some x) answer next) is h)
 
 -- ---- what a client makes
 

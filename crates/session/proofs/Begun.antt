@@ -1,10 +1,9 @@
 -- Books whose advance is entered first, and made piece by piece then.
-use Rattle.std.proofs.Common.{◌≡◌, ℕ, zero, suc, ◌+◌, ◌-◌, ◌≤◌, ◌<◌, Bool, true, false, eqb, List, [], ◌∷◌, ◌++◌, length, take, map, set, get_or, Some, None, All, refl, sym, ap, subst, ◌∙◌, arith}
+use Rattle.std.proofs.Common.{◌≡◌, ℕ, zero, suc, ◌+◌, ◌-◌, ◌≤◌, ◌<◌, Bool, true, false, eqb, List, [], ◌∷◌, ◌++◌, length, take, map, set, get_or, None, All, refl, sym, ap, subst, ◌∙◌, arith}
 use Rattle.std.specs.Prelude.{slice_index_or, Result, Ok, Err, OnOk, OnErr}
 use Rattle.std.proofs.lemmas.Bool.{eqb-true, eqb-false}
 use Rattle.std.proofs.lemmas.List.{append_assoc, append-nil, get_or-set_same, get_or-set_other, get_or-map, length-map, length-set, length_push, map-set, same_lists}
 use Rattle.std.proofs.Math.Seq.{take-append_seam}
-use Rattle.std.proofs.lemmas.List.Elements.{All-get_or}
 use Rattle.bw_gate.specs.Pieces.{GateId}
 use Rattle.pass_seats.specs.Lists.{PassView}
 use Rattle.domain_run.specs.declared.call.Call.TheVariants.{Advance}
@@ -14,20 +13,19 @@ use Rattle.domain_run.specs.Happened.{logged_by_ticks}
 use Rattle.domain_run.specs.Run.{run_of}
 use Rattle.calls_text.specs.declared.section.Entry.{Entry}
 use Rattle.calls_text.specs.SectionView.{SectionView}
-use Rattle.calls_text.specs.Limits.{IsSection}
 use Rattle.calls_text.specs.Histories.{calls_of}
-use Rattle.call_book.specs.Book.{BookView, EntersAlone, IsBookHistory, IsMember, entry_by, own_entries, state_of}
+use Rattle.call_book.specs.Book.{BookView, EntersAlone, entry_by, state_of}
 use Rattle.call_book.specs.Ending.{EndingView}
 use Rattle.call_book.specs.Playing.{PlayingView, HasWholeRun}
-use Rattle.session.specs.SessionId.{SessionId, IsSession, IsDomainIndex, cpu_set_of}
-use Rattle.session.specs.Asks.{ClientView, client_pass_in}
+use Rattle.session.specs.SessionId.{SessionId}
+use Rattle.session.specs.Asks.{ClientView}
 use Rattle.session.specs.Report.{IsHistoryOf, IsSessionReport}
 use Rattle.session.specs.declared.report.Report.{Report}
-use Rattle.session.specs.Begun.{section_of, played_books, AreAllMade, AreBookHistories, AreUnlogged, HaveWholeRuns, IsUnlogged, LogsItsEnd, LogTheirEnds}
-use Rattle.session.specs.RunEnd.{IsFullWith, logged_at_end}
+use Rattle.session.specs.Begun.{section_of, played_books, AreAllMade, AreBookHistories, AreUnlogged, HaveWholeRuns, IsUnlogged, LogsItsEnd}
+use Rattle.session.specs.RunEnd.{IsFullWith}
 use Rattle.session.specs.private.Begun.{unplayed, without_pieces}
 use Rattle.session.specs.private.Closing.{HaveEnded}
-use Rattle.session.specs.private.Ending.{books_of, IsEndBy, IsFullAmong, unstreamed_ending}
+use Rattle.session.specs.private.Ending.{books_of, IsFullAmong, unstreamed_ending}
 use Rattle.session.specs.private.Entering.{IsSessionBook}
 use Rattle.session.specs.private.Parts.{AreSessionBooks}
 use Rattle.session.proofs.Advanced.{kept_own}
@@ -72,10 +70,6 @@ played_more logs playing after rest left b p total after_is rest_is is sum =
     ap (λ (ps : List PlayingView). ps ++ map (unplayed logs) left) after_is ∙ append_assoc playing (p ∷ []) (map (unplayed logs) left)
     ∙ ap (λ (x : PlayingView). playing ++ x ∷ map (unplayed logs) left) is ∙ ap (λ (bs : List BookView). playing ++ map (unplayed logs) bs) (sym rest_is) ∙ sum
 
--- the gates of a session's books
-pub gates_of : (id : SessionId) (gate : GateId) (books : List BookView) → gate ≡ id.gate → AreSessionBooks id books → All (λ (b : BookView). b.gate ≡ gate) books
-gates_of id gate books same named d x inside = (named d x inside).gate ∙ sym same
-
 pub played_gates : (id : SessionId) (gate : GateId) (books : List PlayingView) → gate ≡ id.gate → AreSessionBooks id (played_books books) → All (λ (p : PlayingView). p.book.gate ≡ gate) books
 played_gates id gate books same named d x inside =
     let f : PlayingView → BookView = λ p. p.book in
@@ -116,10 +110,6 @@ pub ok_so : {A E : Type 0} (r : Result A E) (P Q : Type 0) → OnOk r P → (P �
 ok_so (Ok a) P Q is f = f is
 ok_so (Err e) P Q is f = tt
 
-pub err_so : {A E : Type 0} (r : Result A E) (P Q : Type 0) → OnErr r P → (P → Q) → OnErr r Q
-err_so (Ok a) P Q is f = tt
-err_so (Err e) P Q is f = f is
-
 pub both_ok : {A E : Type 0} (r : Result A E) (P Q R : Type 0) → OnOk r P → OnOk r Q → (P → Q → R) → OnOk r R
 both_ok (Ok a) P Q R p q f = f p q
 both_ok (Err e) P Q R p q f = tt
@@ -155,15 +145,6 @@ logs_end old new p q n at is entered =
           ∙ ap (λ (es : List Entry). logged_by_ticks n (run_of now.cpus now.limit (calls_of es))) (sym cut);
     }
 
--- where the advance has no ticks, nothing is logged
-pub none_log : (n : ℕ) (books : List PlayingView) → n ≡ 0 → AreAllMade books → LogTheirEnds n books
-none_log n books none made d x inside =
-    let p = get_or books d x in
-    record {
-      most = omega (arith, made d x inside);
-      has_logged = ap (λ (k : ℕ). logged_by_ticks k p.at) (made d x inside) ∙ ap (λ (k : ℕ). logged_at_end k p.book.cpus p.book.limit p.book.history) (sym none);
-    }
-
 -- the first so many of the books
 abbrev pub FirstOf : (PlayingView → Type 0) → ℕ → List PlayingView → Type 0
 FirstOf P n books = (d : ℕ) (x : PlayingView) → d < n → d < length books → P (slice_index_or books d x)
@@ -177,39 +158,7 @@ first_more P n m books p there more first last d x upto inside = by (eqb n d) re
         let other = eqb-false n d is in
         subst P (sym (get_or-set_other books n d p x (λ at. other (sym at)))) (first d x (omega (arith, upto, more, other)) (omega (arith, inside, length-set books n p)))
 
--- the last entry is that of the pass
-pub ends_entered : (old new : BookView) (p q : PassView Entry) (client n : ℕ) → p.client ≡ client → EntersAlone old new p q (Advance n) (replies.Done n) → IsEndBy client n new.history
-ends_entered old new p q client n owner is = record {
-  before = old.history;
-  seq = length p.entries;
-  all = ap (λ (b : BookView). b.history) is.entered.book
-      ∙ ap (λ (k : ℕ). old.history ++ record { client = k; seq = length p.entries; call = Advance n; reply = Some (replies.Done n) } ∷ []) owner;
-}
-
 -- ---- histories
-
-pub history_of : (id : SessionId) (d : ℕ) (clients : List ClientView) (b : BookView) → IsSession id → IsSessionBook id d b → IsBookHistory b
-    → All (λ (c : ClientView). client_pass_in c d ≡ own_entries c.number b.history) clients → IsHistoryOf id d clients (section_of b)
-history_of id d clients b session named is own =
-    let some = All-get_or (λ (cpus : List ℕ). 0 < length cpus) id.cpu_sets d [] named.place session.some_cpus in
-    let most = All-get_or (λ (cpus : List ℕ). length cpus ≤ 64) id.cpu_sets d [] named.place session.most_cpus in
-    record {
-      cpus = named.cpus;
-      limit = named.limit;
-      legal = is.legal;
-      numbered = is.numbered;
-      members = subst (λ (n : ℕ). All (λ e. IsMember n e.client) b.history) named.clients is.members;
-      spelled = record {
-        some_cpus = omega (arith, some, named.cpus);
-        most_cpus = omega (arith, most, named.cpus);
-        least_limit = omega (arith, named.limit, session.limit.0);
-        most_limit = omega (arith, named.limit, session.limit.1);
-        most_entries = omega (arith, is.within, is.short);
-        entries = is.spelled;
-        numbered = is.numbered;
-      };
-      own = own;
-    }
 
 -- the first so many
 abbrev pub FirstHistories : ℕ → SessionId → List ClientView → List BookView → Type 0

@@ -1,10 +1,10 @@
 -- What the parts of a session are, step by step.
-use Rattle.std.proofs.Common.{◌≡◌, ◌≢◌, ℕ, zero, suc, ◌+◌, ◌-◌, ◌*◌, ◌≤◌, ◌<◌, Bool, true, false, eqb, List, [], ◌∷◌, ◌++◌, length, map, set, drop, replicate, get_or, Option, Some, None, All, refl, sym, ap, subst, ◌∙◌, arith}
+use Rattle.std.proofs.Common.{◌≡◌, ◌≢◌, ℕ, zero, suc, ◌+◌, ◌-◌, ◌*◌, ◌≤◌, ◌<◌, Bool, true, false, eqb, List, [], ◌∷◌, ◌++◌, length, map, set, replicate, get_or, Option, Some, None, All, refl, sym, ap, subst, ◌∙◌, arith}
 use Rattle.std.specs.Prelude.{IfSome, is_some, slice_get}
 use Rattle.std.specs.List.{range_with_len}
 use Rattle.std.specs.Option.{option_map}
 use Rattle.std.proofs.lemmas.Bool.{eqb-true, eqb-false}
-use Rattle.std.proofs.lemmas.List.{append_assoc, drop_more, get_or-map, get_or-set_same, get_or-set_other, get_or_append_left, get_or_push, map-set, length-map, length-replicate, length-set, length_push, map_push}
+use Rattle.std.proofs.lemmas.List.{get_or-map, get_or-set_same, get_or-set_other, get_or_append_left, get_or_push, map-set, length-map, length-replicate, length-set, length_push, map_push}
 use Rattle.std.proofs.lemmas.List.Elements.{All-nil, All-cons, All-head, All-tail, All-map, All-same, All-weaker}
 use Rattle.std.proofs.lemmas.List.FromFn.{length-range_with_len}
 use Rattle.std.proofs.lemmas.Option.{get_or_from_slice_get, slice_get-map, slice_get_read}
@@ -38,16 +38,6 @@ pub range_more : (set : List ℕ) (base cpu : ℕ) → base ≤ cpu → set ≡ 
 range_more set base cpu below made =
     let more : suc (cpu - base) ≡ cpu + 1 - base = omega arith in
     ap (λ (xs : List ℕ). xs ++ cpu ∷ []) made ∙ sym (range_push base (cpu - base) cpu (omega arith)) ∙ ap (range_with_len base) more
-
--- one set more is made, and the others are those from the next CPU on
-pub sets_more : (made : List (List ℕ)) (domains : List ℕ) (base i cpus : ℕ) (whole : List (List ℕ)) → i < length domains → cpus ≡ get_or domains i 0
-    → made ++ cpu_sets_from base (drop i domains) ≡ whole
-    → (made ++ range_with_len base cpus ∷ []) ++ cpu_sets_from (base + cpus) (drop (i + 1) domains) ≡ whole
-sets_more made domains base i cpus whole inside here was =
-    append_assoc made (range_with_len base cpus ∷ []) (cpu_sets_from (base + cpus) (drop (i + 1) domains))
-    ∙ ap (λ (c : ℕ). made ++ cpu_sets_from base (c ∷ drop (i + 1) domains)) here
-    ∙ sym (ap (λ (ds : List ℕ). made ++ cpu_sets_from base ds) (drop_more domains i 0 inside))
-    ∙ was
 
 pub length_sets : (base : ℕ) (domains : List ℕ) → length (cpu_sets_from base domains) ≡ length domains
 length_sets base [] = refl

@@ -7,7 +7,6 @@ use Rattle.bw_gate.specs.Pieces.{BlankView, TicketView}
 use Rattle.bw_gate.specs.Answers.{IsGive}
 use Rattle.domain_run.specs.declared.call.Call.{Call}
 use Rattle.domain_run.specs.declared.call.Call.TheVariants.{Depart, Arrive}
-use Rattle.domain_run.specs.declared.call.Reply.{Reply}
 use Rattle.domain_run.specs.declared.call.Reply.TheVariants as replies
 use Rattle.domain_run.specs.Views.{Moving, moving_in}
 use Rattle.call_book.specs.Pieces.{IsTicketOf}

@@ -3,7 +3,6 @@ use Rattle.std.specs.Prelude.{ℕ, List, ◌∷◌}
 use Rattle.domain_run.specs.declared.call.Call.{Call}
 use Rattle.domain_run.specs.declared.call.Call.TheVariants.{Advance}
 use Rattle.domain_run.specs.Switch.{Switch}
-use Rattle.domain_run.specs.Domain.{Domain}
 use Rattle.domain_run.specs.Passing.{without_switches}
 use Rattle.domain_run.specs.Run.{after_calls}
 use Rattle.switch_text.specs.Names.{name_of_task}
@@ -14,10 +13,6 @@ use Rattle.calls_trace.specs.declared.playing.Playing.{Playing}
 -- the calls that are left: what is left of the advance under way, and those after it
 abbrev pub calls_left : Playing → List Call
 calls_left p = Advance p.left ∷ p.calls
-
--- the domain to which they lead
-abbrev pub played_domain : Playing → Domain
-played_domain p = after_calls p.run.domain (calls_left p)
 
 -- the switches that they make
 abbrev pub rest_of : Playing → List Switch

@@ -1,5 +1,5 @@
 -- Runs under way, and what is written of them.
-use Rattle.std.specs.Prelude.{ℕ, ◌≡◌, ◌+◌, ◌≤◌, Bool, IsTrue, if◌then◌else◌, List, [], ◌∷◌, map, flat_map, fold, max, sum_by, nat_eq, unwrap_or, All, AllPairs}
+use Rattle.std.specs.Prelude.{ℕ, ◌≡◌, ◌+◌, ◌≤◌, Bool, if◌then◌else◌, List, [], ◌∷◌, map, flat_map, fold, max, sum_by, nat_eq, unwrap_or}
 use Rattle.std.specs.declared.hash.FoldHasher.{FoldHasher}
 use Rattle.std.specs.declared.hash.BuildHasherDefault.{BuildHasherDefault}
 use Rattle.indexmap.specs.IndexMap.{IndexMap, get}
@@ -15,7 +15,6 @@ use Rattle.calls_text.specs.SectionView.{SectionView}
 use Rattle.switch_text.specs.Names.{Names, name_of_task, HasName}
 use Rattle.switch_text.specs.Trace.{SwitchesView, trace_of}
 use Rattle.switch_text.specs.Events.{LoggedView, events_of}
-use Rattle.switch_text.specs.EventLines.{HasLoggedLine, is_sooner_unless_cut}
 use Rattle.run_figures.specs.Runs as counted
 use Rattle.run_figures.specs.Jobs.{task_jobs}
 use Rattle.run_figures.specs.Figures.{task_figures, cpu_figures}
@@ -26,7 +25,6 @@ use Rattle.chart_pieces.specs.Window.{window_of}
 use Rattle.chart_pieces.specs.Rows.{rows_of}
 use Rattle.chart.specs.Rows.{ChartRowView}
 use Rattle.chart.specs.Chart.{chart_text}
-use Rattle.calls_trace.specs.declared.placed_run.PlacedRun.{PlacedRun}
 use Rattle.calls_trace.specs.declared.run_text.RunText.{RunText}
 use Rattle.calls_trace.specs.declared.run_text.RunText.TheVariants.{Trace, Events, Jobs, Summary, Chart}
 use Rattle.calls_trace.specs.Replay.{names_of, no_names, calls_in_section}
@@ -62,13 +60,6 @@ GivesParams given wanted = (n : ℕ) → given_in given n ≡ wanted n
 abbrev pub streamed : LogView → List Happened
 streamed log = if log.wanted then log.happened else []
 
--- the parameters that the calls of a section leave, and what they log, to a log that wants it
-pub record IsLoggedOf (wanted : Bool) (s : SectionView) (given : Given)
-    (log : LogView) : Type 0 where
-  pub params : GivesParams given (if wanted then params_in s else no_params)
-  pub alike : log.wanted ≡ wanted
-  pub logged : streamed log ≡ (if wanted then logged_of s else [])
-
 -- ---- the run of one domain of the machine
 
 -- its CPU 0, the domain at the end, names and parameters by number, and what happened
@@ -78,15 +69,6 @@ pub record PlacedView : Type 0 where
   pub names : ℕ → List ℕ
   pub given : ℕ → ParamsView
   pub happened : List Happened
-
-abbrev pub placed_view_of : PlacedRun → PlacedView
-placed_view_of r = record {
-  base = r.base;
-  domain = r.run.state;
-  names = name_of_task r.run.names;
-  given = given_in r.run.given;
-  happened = streamed r.run.log;
-}
 
 -- the run of a section
 abbrev pub view_at : Bool → ℕ → SectionView → PlacedView
@@ -102,14 +84,6 @@ view_at wanted base s = record {
 abbrev pub views_from : Bool → ℕ → List SectionView → List PlacedView
 views_from wanted base [] = []
 views_from wanted base (s ∷ ss) = view_at wanted base s ∷ views_from wanted (base + s.cpus) ss
-
--- its CPUs are CPUs of the machine, each number that was admitted has a name, and what happened has
--- lines and rises
-pub record IsPlaced (r : PlacedRun) : Type 0 where
-  pub inside : r.base + r.run.state.cpus ≤ 512
-  pub named : AdmittedHaveNames r.run.state r.run.names
-  pub lines : All (HasLoggedLine r.run.names r.base) (streamed r.run.log)
-  pub rising : AllPairs (λ a b. IsTrue (is_sooner_unless_cut a b)) (streamed r.run.log)
 
 -- ---- what is written of runs
 
@@ -161,6 +135,3 @@ text_in Events vs = events_of (map placed_run_view vs) (map logged_in vs)
 text_in Jobs vs = jobs_text (map jobs_in vs)
 text_in Summary vs = summary_text (map summary_in vs)
 text_in (Chart span) vs = chart_of_placed (window_of span (end_in vs)) vs
-
-unfoldable pub text_of_runs : RunText → List PlacedRun → List ℕ
-text_of_runs text runs = text_in text (map placed_view_of runs)

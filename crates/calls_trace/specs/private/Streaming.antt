@@ -9,7 +9,6 @@ use Rattle.domain_run.specs.Passing.{with_past}
 use Rattle.domain_run.specs.Happened.{logged_by_calls}
 use Rattle.domain_run.specs.Run.{after_calls}
 use Rattle.domain_run.specs.Tick.{sum_of}
-use Rattle.calls_text.specs.SectionView.{SectionView}
 use Rattle.calls_text.specs.Limits.{IsCall}
 use Rattle.run_figures.specs.declared.run.Admitted.{Admitted}
 use Rattle.run_figures.specs.Runs as counted
@@ -21,7 +20,7 @@ use Rattle.switch_text.specs.Names.{name_of_task}
 use Rattle.streamed_run.specs.Streamed.{IsStreamedUpTo}
 use Rattle.calls_trace.specs.declared.streaming.Streaming.{Streaming}
 use Rattle.calls_trace.specs.Replay.{names_of}
-use Rattle.calls_trace.specs.DomainEvents.{domain_of, names_in, logged_of, params_in, params_by_calls, admitted_with_params}
+use Rattle.calls_trace.specs.DomainEvents.{params_by_calls, admitted_with_params}
 use Rattle.calls_trace.specs.private.Foreseen.{IsForelogged, all_ticks}
 use Rattle.calls_trace.specs.private.Replaying.{AdmittedHaveNames, given_in}
 use Rattle.limits.specs.Limits.{clock_end, max_advance}
@@ -50,11 +49,6 @@ led_by h calls = record {
 -- the calls that are left, once they are made
 abbrev pub led_to : Streaming → LedView
 led_to h = led_by h h.calls
-
--- the calls of a section
-abbrev pub led_in : SectionView → LedView
-led_in s =
-    record { domain = domain_of s; names = names_in s; given = params_in s; happened = logged_of s }
 
 -- what is written of it
 abbrev pub figures_led : LedView → counted.RunView

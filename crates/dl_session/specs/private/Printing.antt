@@ -1,4 +1,5 @@
--- Of what the text of a run is made, what is wanted of the run for it, and what is written.
+-- The texts that are made of what a run left, what is wanted of the run for them, and what is
+-- written.
 use Rattle.std.specs.Prelude.{List, ℕ}
 use Rattle.calls_text.specs.SectionView.{SectionView}
 use Rattle.calls_trace.specs.declared.fault.TraceFault.{TraceFault}
@@ -7,36 +8,28 @@ use Rattle.calls_trace.specs.Written.{IsWritten, IsCut}
 use Rattle.counted_io.specs.Sides.{Side, IsUntouched}
 use Rattle.chart_pieces.specs.Window.{window_of}
 use Rattle.rtapp_scenario.specs.ScenarioView.{TaskSpecView}
-use Rattle.run_options.specs.declared.replay_print.ReplayPrint.TheVariants as replayed
 use Rattle.run_options.specs.declared.options.Print.{Print}
 use Rattle.run_options.specs.declared.options.Print.TheVariants as prints
 use Rattle.session.specs.declared.report.Wanted.{Wanted}
 use Rattle.session.specs.declared.report.Wanted.TheVariants as wants
-use Rattle.dl_session.specs.declared.printing.Source.{Source}
-use Rattle.dl_session.specs.declared.printing.Source.TheVariants.{Histories, Streamed, StreamedJobs, Drawn, Tasks, Logs}
+use Rattle.dl_session.specs.declared.printing.KeptText.{KeptText}
+use Rattle.dl_session.specs.declared.printing.KeptText.TheVariants.{Summary, Jobs, Chart, Promises}
 use Rattle.dl_session.specs.Promised.{domains_of, IsRowOf, AreRows}
 use Rattle.dl_session.specs.RunAnswer.{IsTextWith}
 
--- of runs of this duration, in microseconds
-abbrev pub wanted_for : ℕ → Print → Wanted
-wanted_for duration prints.Trace = wants.Switches
-wanted_for duration prints.Calls = wants.Switches
-wanted_for duration prints.Replies = wants.Switches
-wanted_for duration prints.Events = wants.Happened
-wanted_for duration prints.Jobs = wants.Jobs
-wanted_for duration prints.Summary = wants.Figures
-wanted_for duration prints.Promises = wants.Switches
-wanted_for duration (prints.Chart span) = wants.Chart (window_of span duration)
+-- the text for which it is asked
+abbrev pub print_of_kept : KeptText → Print
+print_of_kept Summary = prints.Summary
+print_of_kept Jobs = prints.Jobs
+print_of_kept (Chart span) = prints.Chart span
+print_of_kept Promises = prints.Promises
 
-abbrev pub source_of : Print → Source
-source_of prints.Trace = Logs replayed.Trace
-source_of prints.Calls = Histories
-source_of prints.Replies = Logs replayed.Replies
-source_of prints.Events = Logs replayed.Events
-source_of prints.Jobs = StreamedJobs
-source_of prints.Summary = Streamed
-source_of prints.Promises = Tasks
-source_of (prints.Chart span) = Drawn span
+-- of runs of this duration, in microseconds
+abbrev pub wanted_for : ℕ → KeptText → Wanted
+wanted_for duration Summary = wants.Figures
+wanted_for duration Jobs = wants.Jobs
+wanted_for duration (Chart span) = wants.Chart (window_of span duration)
+wanted_for duration Promises = wants.Switches
 
 -- what is printed, before anything is said of how promises are kept
 abbrev pub IsMadeText : Print → List TaskSpecView → List SectionView → List ℕ → Type 0

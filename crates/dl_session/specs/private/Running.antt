@@ -1,7 +1,6 @@
 -- The steps of a run: the input is logged, and of the runs there is what is wanted.
-use Rattle.std.specs.Prelude.{◌≡◌, ◌≢◌, Bool, true, false, List, length}
+use Rattle.std.specs.Prelude.{◌≡◌, ◌≢◌, List, length}
 use Rattle.domain_run.specs.Domain.{Domain}
-use Rattle.domain_run.specs.Log.{LogView}
 use Rattle.json_order.specs.declared.fault.JsonFault.{JsonFault}
 use Rattle.json_order.specs.declared.fault.JsonKind.TheVariants as kinds
 use Rattle.rtapp_scenario.specs.declared.fault.ScenarioFault.{ScenarioFault}
@@ -10,7 +9,7 @@ use Rattle.run_figures.specs.Accounting.{AccountingView}
 use Rattle.chart_pieces.specs.declared.window.Window.{Window}
 use Rattle.chart_pieces.specs.Drawing.{DrawingView}
 use Rattle.calls_text.specs.SectionView.{SectionView}
-use Rattle.calls_text.specs.Histories.{AreRuns, AreLogged}
+use Rattle.calls_text.specs.Histories.{AreRuns}
 use Rattle.calls_trace.specs.Streamed.{AreAccountings, AreDrawings, AreRunsButSwitches}
 use Rattle.session.specs.declared.report.Wanted.{Wanted}
 use Rattle.session.specs.declared.report.Wanted.TheVariants.{Switches, Happened, Figures, Jobs, Chart}
@@ -30,14 +29,6 @@ IsJsonLogged found = IsOrMemory (λ e. (e ≡ Json found) × (found.kind ≢ kin
 abbrev pub IsScenarioLogged : ScenarioFault → SessionFault → Type 0
 IsScenarioLogged found = IsOrMemory (λ e. (e ≡ Scenario found) × (found ≢ scenario_faults.Memory))
 
--- what is left of runs: the states that the histories lead to, and logs of what the histories log,
--- where that is wanted
-pub record AreRunLogs (wanted : Bool) (histories : List SectionView) (states : List Domain)
-    (logs : List LogView) : Type 0 where
-  pub runs : AreRuns histories states
-  pub as_many : length logs ≡ length histories
-  pub logged : AreLogged wanted histories logs
-
 -- what is left of runs whose figures or jobs are wanted: they were streamed, and but for their
 -- switches the states are what the histories lead to
 pub record AreFigured (histories : List SectionView) (states : List Domain)
@@ -53,10 +44,11 @@ pub record AreSketched (window : Window) (histories : List SectionView) (states 
   pub runs : AreRunsButSwitches histories states
   pub drawings : AreDrawings window histories drawn
 
--- by what is wanted
+-- what is left, by what is wanted: if no figures, jobs or chart are, the states that the histories
+-- lead to
 abbrev pub AreLeftAs : Wanted → List SectionView → Left → Type 0
-AreLeftAs Switches histories left = AreRunLogs false histories left.states.items left.logs.items
-AreLeftAs Happened histories left = AreRunLogs true histories left.states.items left.logs.items
+AreLeftAs Switches histories left = AreRuns histories left.states.items
+AreLeftAs Happened histories left = AreRuns histories left.states.items
 AreLeftAs Figures histories left = AreFigured histories left.states.items left.streamed.items
 AreLeftAs Jobs histories left = AreFigured histories left.states.items left.streamed.items
 AreLeftAs (Chart window) histories left =

@@ -1,6 +1,5 @@
 -- The books of a session while their ticks are made.
-use Rattle.std.specs.Prelude.{◌≡◌, ℕ, ◌<◌, Bool, List, [], map}
-use Rattle.bw_gate.specs.Pieces.{GateId}
+use Rattle.std.specs.Prelude.{◌≡◌, ◌<◌, Bool, []}
 use Rattle.call_book.specs.Book.{BookView}
 use Rattle.call_book.specs.Playing.{PlayingView, played_from}
 use Rattle.session.specs.private.Ending.{unstreamed_ending}

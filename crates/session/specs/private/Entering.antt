@@ -2,7 +2,7 @@
 use Rattle.std.specs.Prelude.{◌≡◌, ◌⊎◌, ℕ, ◌≤◌, ◌<◌, List, length, Option, Some, None, IfSome, IsSome, IfOk, IfErr, Ok, Err, slice_index_or}
 use Rattle.attr_check.specs.ParamsView.{ParamsView}
 use Rattle.pass_seats.specs.Lists.{PassView}
-use Rattle.bw_gate.specs.Pieces.{GateId, BlankView, TicketView}
+use Rattle.bw_gate.specs.Pieces.{BlankView, TicketView}
 use Rattle.bw_gate.specs.Answers.{IsGive}
 use Rattle.domain_run.specs.declared.call.Call.{Call}
 use Rattle.domain_run.specs.declared.call.Call.TheVariants as calls
