@@ -7,12 +7,14 @@ from typing import NamedTuple
 from texts import DOMAIN, THROTTLED, Row, calls, deadline, scenario
 
 MOST = 1 << 42
-PALETTE = "#0072B2 #E69F00 #009E73 #CC79A7 #56B4E9 #D55E00 #F0E442 #332288".split()
+PALETTE = "#0072B2 #E4CC3C #00249C #E478B4 #C0FCA8 #241848 #3C9C24 #0C603C".split()
 RAMP = "#00204d #414d6b #7b7b78 #bcae6c #ffea46".split()
 STYLE = (
-    "<style>.b{stroke:#333;stroke-width:.75}.b,.g,.w,.t,.x,.r,.d{vector-effect:non-scaling-stroke}.g{stroke:#ddd}"
+    "<style>.b{stroke:#333;stroke-width:.75}.b,.g,.w,.t,.x,.r,.d{vector-effect:non-scaling-stroke}.g{stroke:#bbb}"
     ".w{stroke:#555;stroke-width:1.5}.t{stroke:#b00000;stroke-width:2.5;stroke-dasharray:3 3}.x{stroke:#000;stroke-width:2}"
-    ".r{stroke:#000;fill:none}.d{stroke:#b00000;fill:none}rect.b:hover{stroke:#000;stroke-width:2.5}</style>\n"
+    ".r{stroke:#000;fill:none}.d{stroke:#b00000;fill:none}rect.b:hover{stroke:#000;stroke-width:2.5}"
+    "@media(max-width:700px){text{font-size:18px}text[text-anchor=end]{font-size:15px}}@media print{.g{stroke:#888}}"
+    "@page{size:landscape;margin:10mm}</style>\n"
 )
 # A mark: its class, how far below the top of its row it begins, its path, and what is said of it.
 RELEASED, DUE, ENDED = ("r", 10, "v-8m-3 4l3 -4l3 4", "is released at"), ("d", 24, "v8m-3 -4l3 4l3 -4", "is due at"), ("x", 10, "v14", "ended at")
@@ -39,6 +41,10 @@ def seconds(time):
     return f"{time // 1000000}" + (f".{time % 1000000:06}".rstrip("0") if time % 1000000 else "")
 
 
+def millis(time):
+    return f"{time // 1000}" + (f".{time % 1000:03}".rstrip("0") if time % 1000 else "")
+
+
 def ticks(start, stop):
     """The times of the axis: a step of 1, 2 or 5 times a power of ten, of which ten are as long as the window."""
     step = next(digit * 10**power for power in range(14) for digit in (1, 2, 5) if 10 * digit * 10**power >= stop - start)
@@ -51,7 +57,8 @@ class Sheet:
         self.tall = rows <= 24
         sizes = (34, 10, 14, 17, 21) if self.tall else (12, 2, 8, 6, 9) if rows <= 96 else (8, 1, 6, 4, 8)
         self.height, self.bar_top, self.bar_height, self.middle, self.foot = sizes
-        self.end = 40 + rows * self.height
+        self.end = 15 + rows * self.height
+        self.unit, self.label = ("ms", millis) if stop - start < 1000000 else ("s", seconds)
 
     def pixels(self, us):
         return us * 1020 // (self.stop - self.start)
@@ -63,14 +70,14 @@ class Sheet:
         return PALETTE[cpu] if self.cpus <= 8 else RAMP[cpu * 5 // self.cpus]
 
     def ink(self, cpu):
-        return "#fff" if (cpu in (0, 7) if self.cpus <= 8 else cpu * 5 // self.cpus < 2) else "#000"
+        return "#fff" if (cpu in (0, 2, 5, 7) if self.cpus <= 8 else cpu * 5 // self.cpus < 2) else "#000"
 
     def legend_cpus(self):
         return range(self.cpus) if self.cpus <= 8 else [-(-k * self.cpus // 5) for k in range(5)]
 
 
 def name_text(sheet, place, row):
-    top, size = 40 + place * sheet.height, "" if sheet.tall else ' font-size="10"'
+    top, size = 15 + place * sheet.height, "" if sheet.tall else ' font-size="10"'
     if place % 2 == 0:
         yield f'<rect x="0" y="{top}" width="1170" height="{sheet.height}" fill="#f4f4f4"/>\n'
     if sheet.rows <= 96 or place % 4 == 0:
@@ -89,7 +96,7 @@ def row_text(sheet, place, row):
 
 
 def over_text(sheet, place, row):
-    top, name = 40 + place * sheet.height, escaped(row.name)
+    top, name = 15 + place * sheet.height, escaped(row.name)
     for cpu, start, stop in row.bars:
         start, stop = max(start, sheet.start), min(stop, sheet.stop)
         if sheet.tall and sheet.cpus > 1 and sheet.pixels(stop - start) >= (16 if cpu < 10 else 22 if cpu < 100 else 28):
@@ -102,9 +109,9 @@ def over_text(sheet, place, row):
 
 def axis(sheet):
     for time in ticks(sheet.start, sheet.stop):
-        for y in (32, sheet.end + 16):
-            yield f'<text x="{sheet.x(time)}" y="{y}" text-anchor="middle" font-size="11" fill="#333">{seconds(time)}</text>\n'
-    yield '<text x="142" y="32" text-anchor="end" font-size="11" fill="#333">time in s</text>\n'
+        for y in (11, sheet.end + 16):
+            yield f'<text x="{sheet.x(time)}" y="{y}" text-anchor="middle" font-size="11" fill="#333">{sheet.label(time)}</text>\n'
+    yield f'<text x="142" y="11" text-anchor="end" font-size="11" fill="#333">time in {sheet.unit}</text>\n'
 
 
 def legend(sheet):
@@ -115,8 +122,8 @@ def legend(sheet):
         yield f'<rect x="{x}" y="{low - 11}" width="22" height="14" fill="{sheet.fill(cpu)}"/>'
         yield f'<text x="{x + 11}" y="{low}" text-anchor="middle" font-size="11" fill="{sheet.ink(cpu)}">{cpu}</text>\n'
     left = 170 + 28 * len(cpus)
-    lines = ("w", 0, 39, "h30", 36, "wants a CPU"), ("t", 130, 39, "h30", 36, "throttled")
-    marks = ("r", 246, 44, RELEASED[2], 10, "released"), ("d", 326, 36, DUE[2], 10, "due"), ("x", 376, 32, ENDED[2], 8, "ended")
+    lines = ("w", 0, 39, "h30", 36, "wants a CPU"), ("t", 176, 39, "h30", 36, "throttled")
+    marks = ("r", 330, 44, RELEASED[2], 10, "released"), ("d", 446, 36, DUE[2], 10, "due"), ("x", 506, 32, ENDED[2], 8, "ended")
     for kind, right, below, path, behind, said in lines + marks:
         yield f'<path class="{kind}" d="M{left + right} {sheet.end + below}{path}"/>'
         yield f'<text x="{left + right + behind}" y="{low}" font-size="11">{said}</text>\n'
@@ -127,7 +134,7 @@ def chart(start, stop, cpus, rows):
     sheet = Sheet(start, stop, cpus, len(rows))
     total, height = sheet.end + 62, sheet.rows * sheet.height
     out = [
-        f'<svg xmlns="http://www.w3.org/2000/svg" viewBox="0 0 1200 {total}" width="1200" height="{total}" role="img" '
+        f'<svg xmlns="http://www.w3.org/2000/svg" viewBox="0 0 1200 {total}" width="100%" role="img" '
         f'font-family="DejaVu Sans, Verdana, sans-serif" font-size="12">\n'
         f"<title>Which task ran where: {len(rows)} tasks on {cpus} CPUs, {seconds(start)} to {seconds(stop)} s</title>\n",
         STYLE,
@@ -135,7 +142,7 @@ def chart(start, stop, cpus, rows):
     ]
     for place, row in enumerate(rows):
         out += name_text(sheet, place, row)
-    out.append(f'<svg x="150" y="40" width="1020" height="{height}" viewBox="{start} 0 {stop - start} {height}" preserveAspectRatio="none">\n')
+    out.append(f'<svg x="150" y="15" width="1020" height="{height}" viewBox="{start} 0 {stop - start} {height}" preserveAspectRatio="none">\n')
     out += [f'<path class="g" d="M{time} 0V{height}"/>\n' for time in ticks(start, stop)]
     for place, row in enumerate(rows):
         out += row_text(sheet, place, row)
@@ -276,13 +283,13 @@ def replayed(name, lines, words, *picture, header="dlcalls 1"):
 
 
 PART = f"""\
-<svg xmlns="http://www.w3.org/2000/svg" viewBox="0 0 1200 136" width="1200" height="136" role="img" font-family="DejaVu Sans, Verdana, \
+<svg xmlns="http://www.w3.org/2000/svg" viewBox="0 0 1200 111" width="100%" role="img" font-family="DejaVu Sans, Verdana, \
 sans-serif" font-size="12">
 <title>Which task ran where: 1 tasks on 1 CPUs, 0.000002 to 0.000006 s</title>
-{STYLE}<rect width="1200" height="136" fill="#fff"/>
-<rect x="0" y="40" width="1170" height="34" fill="#f4f4f4"/>
-<text x="142" y="61" text-anchor="end">a</text>
-<svg x="150" y="40" width="1020" height="34" viewBox="2 0 4 34" preserveAspectRatio="none">
+{STYLE}<rect width="1200" height="111" fill="#fff"/>
+<rect x="0" y="15" width="1170" height="34" fill="#f4f4f4"/>
+<text x="142" y="36" text-anchor="end">a</text>
+<svg x="150" y="15" width="1020" height="34" viewBox="2 0 4 34" preserveAspectRatio="none">
 <path class="g" d="M2 0V34"/>
 <path class="g" d="M3 0V34"/>
 <path class="g" d="M4 0V34"/>
@@ -291,25 +298,25 @@ sans-serif" font-size="12">
 <path class="t" d="M2 17H5"><title>a is throttled: 0.000002 to 0.000005 s</title></path>
 <rect class="b" x="5" y="10" width="2" height="14" fill="#0072B2"><title>a on CPU 0: 0.000005 to 0.000007 s, 2 us</title></rect>
 </svg>
-<path class="d" d="M915 64v8m-3 -4l3 4l3 -4"><title>a is due at 0.000005 s</title></path>
-<text x="150" y="32" text-anchor="middle" font-size="11" fill="#333">0.000002</text>
-<text x="150" y="90" text-anchor="middle" font-size="11" fill="#333">0.000002</text>
-<text x="405" y="32" text-anchor="middle" font-size="11" fill="#333">0.000003</text>
-<text x="405" y="90" text-anchor="middle" font-size="11" fill="#333">0.000003</text>
-<text x="660" y="32" text-anchor="middle" font-size="11" fill="#333">0.000004</text>
-<text x="660" y="90" text-anchor="middle" font-size="11" fill="#333">0.000004</text>
-<text x="915" y="32" text-anchor="middle" font-size="11" fill="#333">0.000005</text>
-<text x="915" y="90" text-anchor="middle" font-size="11" fill="#333">0.000005</text>
-<text x="1170" y="32" text-anchor="middle" font-size="11" fill="#333">0.000006</text>
-<text x="1170" y="90" text-anchor="middle" font-size="11" fill="#333">0.000006</text>
-<text x="142" y="32" text-anchor="end" font-size="11" fill="#333">time in s</text>
-<text x="142" y="117" text-anchor="end" font-size="11">CPU</text>
-<rect x="150" y="106" width="22" height="14" fill="#0072B2"/><text x="161" y="117" text-anchor="middle" font-size="11" fill="#fff">0</text>
-<path class="w" d="M198 113h30"/><text x="234" y="117" font-size="11">wants a CPU</text>
-<path class="t" d="M328 113h30"/><text x="364" y="117" font-size="11">throttled</text>
-<path class="r" d="M444 118v-8m-3 4l3 -4l3 4"/><text x="454" y="117" font-size="11">released</text>
-<path class="d" d="M524 110v8m-3 -4l3 4l3 -4"/><text x="534" y="117" font-size="11">due</text>
-<path class="x" d="M574 106v14"/><text x="582" y="117" font-size="11">ended</text>
+<path class="d" d="M915 39v8m-3 -4l3 4l3 -4"><title>a is due at 0.000005 s</title></path>
+<text x="150" y="11" text-anchor="middle" font-size="11" fill="#333">0.002</text>
+<text x="150" y="65" text-anchor="middle" font-size="11" fill="#333">0.002</text>
+<text x="405" y="11" text-anchor="middle" font-size="11" fill="#333">0.003</text>
+<text x="405" y="65" text-anchor="middle" font-size="11" fill="#333">0.003</text>
+<text x="660" y="11" text-anchor="middle" font-size="11" fill="#333">0.004</text>
+<text x="660" y="65" text-anchor="middle" font-size="11" fill="#333">0.004</text>
+<text x="915" y="11" text-anchor="middle" font-size="11" fill="#333">0.005</text>
+<text x="915" y="65" text-anchor="middle" font-size="11" fill="#333">0.005</text>
+<text x="1170" y="11" text-anchor="middle" font-size="11" fill="#333">0.006</text>
+<text x="1170" y="65" text-anchor="middle" font-size="11" fill="#333">0.006</text>
+<text x="142" y="11" text-anchor="end" font-size="11" fill="#333">time in ms</text>
+<text x="142" y="92" text-anchor="end" font-size="11">CPU</text>
+<rect x="150" y="81" width="22" height="14" fill="#0072B2"/><text x="161" y="92" text-anchor="middle" font-size="11" fill="#fff">0</text>
+<path class="w" d="M198 88h30"/><text x="234" y="92" font-size="11">wants a CPU</text>
+<path class="t" d="M374 88h30"/><text x="410" y="92" font-size="11">throttled</text>
+<path class="r" d="M528 93v-8m-3 4l3 -4l3 4"/><text x="538" y="92" font-size="11">released</text>
+<path class="d" d="M644 85v8m-3 -4l3 4l3 -4"/><text x="654" y="92" font-size="11">due</text>
+<path class="x" d="M704 81v14"/><text x="712" y="92" font-size="11">ended</text>
 </svg>
 """
 INSIDE_A_JOB = THROTTLED.splitlines()[1:]

@@ -1,7 +1,8 @@
 -- The ticks of the time's axis (own): at most eleven, at a step of 1, 2 or 5 times a power of ten.
-use Rattle.std.specs.Prelude.{ℕ, zero, suc, ◌+◌, ◌-◌, ◌*◌, ◌/◌, nat_lt, nat_le, if◌then◌else◌, List, map}
+use Rattle.std.specs.Prelude.{ℕ, zero, suc, ◌+◌, ◌-◌, ◌*◌, ◌/◌, Bool, nat_lt, nat_le, if◌then◌else◌, List, codes, map}
 use Rattle.std.specs.List.{range_with_len}
 use Rattle.chart_pieces.specs.declared.window.Window.{Window}
+use Rattle.chart.specs.Seconds.{second, seconds, millis}
 
 -- a power of ten of which a hundred are as long as this
 abbrev pub wider : ℕ → ℕ → ℕ
@@ -31,3 +32,13 @@ ticks_by w step =
 
 abbrev pub ticks_of : Window → List ℕ
 ticks_of w = ticks_by w (step_of (w.to - w.from))
+
+-- THE UNIT: milliseconds where less than a second is drawn, else seconds
+abbrev pub is_in_millis : Window → Bool
+is_in_millis w = nat_lt (w.to - w.from) second
+
+abbrev pub axis_time : Window → ℕ → List ℕ
+axis_time w time = if is_in_millis w then millis time else seconds time
+
+abbrev pub unit_name : Window → List ℕ
+unit_name w = if is_in_millis w then codes "ms" else codes "s"

@@ -4,9 +4,8 @@ use Rattle.std.specs.Prelude.{ℕ, ◌+◌, ◌-◌, List, ◌++◌, length, fla
 use Rattle.run_figures.specs.Lines.{numbered_lines}
 use Rattle.chart_pieces.specs.declared.window.Window.{Window}
 use Rattle.chart.specs.declared.sheet.Sheet.{Sheet}
-use Rattle.chart.specs.Seconds.{seconds}
-use Rattle.chart.specs.Sizes.{sheet_of, plot_height, plot_end, pixel_of}
-use Rattle.chart.specs.Axis.{ticks_of}
+use Rattle.chart.specs.Sizes.{sheet_of, label_foot, plot_height, plot_end, pixel_of}
+use Rattle.chart.specs.Axis.{ticks_of, axis_time, unit_name}
 use Rattle.chart.specs.Rows.{ChartRowView}
 use Rattle.chart.specs.Pieces.{text_with_number, text_at, times, name_lines, row_lines, over_lines}
 use Rattle.chart.specs.Legend.{legend}
@@ -20,9 +19,8 @@ abbrev pub opening : Sheet → List ℕ
 opening s =
     text_with_number (codes "<svg xmlns=\"http://www.w3.org/2000/svg\" viewBox=\"0 0 1200 ")
     (chart_height s)
-    ++ (text_with_number (codes "\" width=\"1200\" height=\"") (chart_height s)
     ++ codes
-    "\" role=\"img\" font-family=\"DejaVu Sans, Verdana, sans-serif\" font-size=\"12\">\n")
+    "\" width=\"100%\" role=\"img\" font-family=\"DejaVu Sans, Verdana, sans-serif\" font-size=\"12\">\n"
 
 abbrev pub counts : Sheet → List ℕ
 counts s =
@@ -35,9 +33,10 @@ span s = codes " CPUs, " ++ (times s.window.from s.window.to ++ codes "</title>\
 abbrev pub chart_title : Sheet → List ℕ
 chart_title s = counts s ++ span s
 
+-- small pictures have larger texts, and a page is best printed in landscape
 abbrev pub style : List ℕ
 style = codes
-    "<style>.b{stroke:#333;stroke-width:.75}.b,.g,.w,.t,.x,.r,.d{vector-effect:non-scaling-stroke}.g{stroke:#ddd}.w{stroke:#555;stroke-width:1.5}.t{stroke:#b00000;stroke-width:2.5;stroke-dasharray:3 3}.x{stroke:#000;stroke-width:2}.r{stroke:#000;fill:none}.d{stroke:#b00000;fill:none}rect.b:hover{stroke:#000;stroke-width:2.5}</style>\n"
+    "<style>.b{stroke:#333;stroke-width:.75}.b,.g,.w,.t,.x,.r,.d{vector-effect:non-scaling-stroke}.g{stroke:#bbb}.w{stroke:#555;stroke-width:1.5}.t{stroke:#b00000;stroke-width:2.5;stroke-dasharray:3 3}.x{stroke:#000;stroke-width:2}.r{stroke:#000;fill:none}.d{stroke:#b00000;fill:none}rect.b:hover{stroke:#000;stroke-width:2.5}@media(max-width:700px){text{font-size:18px}text[text-anchor=end]{font-size:15px}}@media print{.g{stroke:#888}}@page{size:landscape;margin:10mm}</style>\n"
 
 abbrev pub background : Sheet → List ℕ
 background s =
@@ -51,7 +50,7 @@ head s = opening s ++ (chart_title s ++ (style ++ background s))
 
 abbrev pub plot_size : Sheet → List ℕ
 plot_size s =
-    text_with_number (codes "<svg x=\"150\" y=\"40\" width=\"1020\" height=\"") (plot_height s)
+    text_with_number (codes "<svg x=\"150\" y=\"15\" width=\"1020\" height=\"") (plot_height s)
 
 abbrev pub plot_view : Sheet → List ℕ
 plot_view s =
@@ -78,17 +77,22 @@ abbrev pub label : Sheet → ℕ → ℕ → List ℕ
 label s top time =
     text_at (pixel_of s time) top
     ++ (codes "\" text-anchor=\"middle\" font-size=\"11\" fill=\"#333\">"
-    ++ (seconds time ++ codes "</text>\n"))
+    ++ (axis_time s.window time ++ codes "</text>\n"))
 
 -- above the plot and below it
 abbrev pub labels : Sheet → ℕ → List ℕ
-labels s time = label s 32 time ++ label s (plot_end s + 16) time
+labels s time = label s label_foot time ++ label s (plot_end s + 16) time
+
+-- it names its unit
+abbrev pub axis_name : Sheet → List ℕ
+axis_name s =
+    text_at 142 label_foot
+    ++ (codes "\" text-anchor=\"end\" font-size=\"11\" fill=\"#333\">time in "
+    ++ (unit_name s.window ++ codes "</text>\n"))
 
 abbrev pub axis : Sheet → List ℕ → List ℕ
 axis s ticks =
-    flat_map (labels s) ticks
-    ++ codes
-    "<text x=\"142\" y=\"32\" text-anchor=\"end\" font-size=\"11\" fill=\"#333\">time in s</text>\n"
+    flat_map (labels s) ticks ++ axis_name s
 
 -- ---- ALL
 

@@ -1,17 +1,18 @@
--- The colours of CPUs (own: to eight, colours that colour-blind readers tell apart; of more, a ramp
--- of five from dark to light), and the colour of a number on them.
+-- The colours of CPUs (own), and the colour of a number on them. To eight CPUs the colours differ
+-- in lightness, so that colour-blind readers and readers of a grey print tell them apart. Of more
+-- CPUs each has one of five colours, a ramp from dark to light.
 use Rattle.std.specs.Prelude.{ℕ, Bool, ◌+◌, ◌*◌, ◌/◌, ◌==◌, ◌||◌, nat_le, nat_lt, if◌then◌else◌, List, codes, map}
 use Rattle.std.specs.List.{range_with_len}
 
 abbrev pub palette : ℕ → List ℕ
 palette k =
     if k == 0 then codes "#0072B2" else
-    (if k == 1 then codes "#E69F00" else
-    (if k == 2 then codes "#009E73" else
-    (if k == 3 then codes "#CC79A7" else
-    (if k == 4 then codes "#56B4E9" else
-    (if k == 5 then codes "#D55E00" else
-    (if k == 6 then codes "#F0E442" else codes "#332288"))))))
+    (if k == 1 then codes "#E4CC3C" else
+    (if k == 2 then codes "#00249C" else
+    (if k == 3 then codes "#E478B4" else
+    (if k == 4 then codes "#C0FCA8" else
+    (if k == 5 then codes "#241848" else
+    (if k == 6 then codes "#3C9C24" else codes "#0C603C"))))))
 
 abbrev pub ramp : ℕ → List ℕ
 ramp k =
@@ -26,7 +27,9 @@ fill_of cpus cpu = if nat_le cpus 8 then palette cpu else ramp (cpu * 5 / cpus)
 
 abbrev pub is_dark : ℕ → ℕ → Bool
 is_dark cpus cpu =
-    if nat_le cpus 8 then cpu == 0 || cpu == 7 else nat_lt (cpu * 5 / cpus) 2
+    if nat_le cpus 8
+    then cpu == 0 || (cpu == 2 || (cpu == 5 || cpu == 7))
+    else nat_lt (cpu * 5 / cpus) 2
 
 abbrev pub ink_of : ℕ → ℕ → List ℕ
 ink_of cpus cpu = if is_dark cpus cpu then codes "#fff" else codes "#000"

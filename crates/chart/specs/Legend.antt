@@ -1,10 +1,12 @@
 -- The legend, below the plot (own): the colours of CPUs, and what the lines and marks mean.
-use Rattle.std.specs.Prelude.{ℕ, ◌+◌, ◌*◌, List, ◌++◌, length, codes}
+use Rattle.std.specs.Prelude.{ℕ, ◌+◌, ◌*◌, Bool, true, false, if◌then◌else◌, List, ◌++◌, length, codes}
 use Rattle.run_figures.specs.Lines.{numbered_lines}
+use Rattle.chart_pieces.specs.declared.row.Sign.{Sign}
+use Rattle.chart_pieces.specs.declared.row.Sign.TheVariants.{Released, Due, Ended}
 use Rattle.chart.specs.declared.sheet.Sheet.{Sheet}
 use Rattle.chart.specs.Sizes.{plot_end}
 use Rattle.chart.specs.Colours.{fill_of, legend_cpus}
-use Rattle.chart.specs.Pieces.{text_with_number, text_at, number_ink}
+use Rattle.chart.specs.Pieces.{text_with_number, text_at, path_at, line_class, mark_class, mark_path, number_ink}
 
 -- ---- COLOURS
 
@@ -40,44 +42,57 @@ colour_title s =
 abbrev pub colours : Sheet → List ℕ → List ℕ
 colours s cpus = colour_title s ++ numbered_lines (colour_line s) 0 cpus
 
--- ---- SIGNS
+-- ---- SIGNS: as they are drawn in the plot
 
-abbrev pub sign_place : ℕ → ℕ → List ℕ
-sign_place left top = text_with_number (codes "\" d=\"M") left ++ text_with_number (codes " ") top
-
-abbrev pub sign_path : List ℕ → List ℕ
-sign_path path = path ++ codes "\"/>"
-
-abbrev pub sign_class : List ℕ → List ℕ
-sign_class class = codes "<path class=\"" ++ class
-
--- a sign at a place, so far below the plot
 abbrev pub sign_at : List ℕ → ℕ → ℕ → List ℕ → List ℕ
-sign_at class left top path = sign_class class ++ (sign_place left top ++ sign_path path)
+sign_at class left top path = path_at class left top path ++ codes "\"/>"
 
-abbrev pub meaning : ℕ → ℕ → List ℕ → List ℕ
-meaning left top word =
-    text_at left top ++ (codes "\" font-size=\"11\">" ++ (word ++ codes "</text>\n"))
+-- what a sign means, beside it
+abbrev pub meaning : Sheet → ℕ → List ℕ → List ℕ
+meaning s left word =
+    text_at left (plot_end s + 43)
+    ++ (codes "\" font-size=\"11\">" ++ (word ++ codes "</text>\n"))
 
 -- behind the colours of so many CPUs
 abbrev pub signs_left : ℕ → ℕ
 signs_left count = 170 + count * 28
 
--- a sign, and behind it its meaning
-abbrev pub sign_line : Sheet → List ℕ → ℕ → ℕ → List ℕ → ℕ → List ℕ → List ℕ
-sign_line s class left top path indent word =
-    sign_at class left (plot_end s + top) path ++ meaning (left + indent) (plot_end s + 43) word
+abbrev pub line_meaning : Bool → List ℕ
+line_meaning throttled = if throttled then codes "throttled" else codes "wants a CPU"
+
+abbrev pub line_sign : Sheet → ℕ → Bool → List ℕ
+line_sign s left throttled =
+    sign_at (line_class throttled) left (plot_end s + 39) (codes "h30")
+    ++ meaning s (left + 36) (line_meaning throttled)
 
 abbrev pub line_signs : Sheet → ℕ → List ℕ
-line_signs s left =
-    sign_line s (codes "w") left 39 (codes "h30") 36 (codes "wants a CPU")
-    ++ sign_line s (codes "t") (left + 130) 39 (codes "h30") 36 (codes "throttled")
+line_signs s left = line_sign s left false ++ line_sign s (left + 176) true
+
+-- how far below the plot it begins, how far from there its meaning is, and its meaning
+abbrev pub sign_top : Sign → ℕ
+sign_top Released = 44
+sign_top Due = 36
+sign_top Ended = 32
+
+abbrev pub sign_indent : Sign → ℕ
+sign_indent Released = 10
+sign_indent Due = 10
+sign_indent Ended = 8
+
+abbrev pub mark_meaning : Sign → List ℕ
+mark_meaning Released = codes "released"
+mark_meaning Due = codes "due"
+mark_meaning Ended = codes "ended"
+
+abbrev pub mark_sign : Sheet → ℕ → Sign → List ℕ
+mark_sign s left sign =
+    sign_at (mark_class sign) left (plot_end s + sign_top sign) (mark_path sign)
+    ++ meaning s (left + sign_indent sign) (mark_meaning sign)
 
 abbrev pub mark_signs : Sheet → ℕ → List ℕ
 mark_signs s left =
-    sign_line s (codes "r") (left + 246) 44 (codes "v-8m-3 4l3 -4l3 4") 10 (codes "released")
-    ++ (sign_line s (codes "d") (left + 326) 36 (codes "v8m-3 -4l3 4l3 -4") 10 (codes "due")
-    ++ sign_line s (codes "x") (left + 376) 32 (codes "v14") 8 (codes "ended"))
+    mark_sign s (left + 330) Released
+    ++ (mark_sign s (left + 446) Due ++ mark_sign s (left + 506) Ended)
 
 abbrev pub signs : Sheet → ℕ → List ℕ
 signs s left = line_signs s left ++ mark_signs s left

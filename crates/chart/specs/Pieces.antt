@@ -10,7 +10,7 @@ use Rattle.chart_pieces.specs.Bars.{us}
 use Rattle.chart.specs.declared.sheet.Sheet.{Sheet}
 use Rattle.chart.specs.Escape.{escaped}
 use Rattle.chart.specs.Seconds.{seconds}
-use Rattle.chart.specs.Sizes.{is_tall, row_top, pixels, pixel_of}
+use Rattle.chart.specs.Sizes.{is_tall, plot_top, row_top, pixels, pixel_of}
 use Rattle.chart.specs.Colours.{fill_of, ink_of}
 use Rattle.chart.specs.Rows.{ChartRowView}
 
@@ -21,6 +21,36 @@ text_with_number text n = text ++ decimal n
 -- the beginning of a text at a place
 abbrev pub text_at : ℕ → ℕ → List ℕ
 text_at x y = text_with_number (codes "<text x=\"") x ++ text_with_number (codes "\" y=\"") y
+
+-- ---- LINES AND MARKS: the signs of the plot and of the legend
+
+abbrev pub class_begins : List ℕ → List ℕ
+class_begins class = codes "<path class=\"" ++ class
+
+-- the path of a class, to where it begins
+abbrev pub path_begins : List ℕ → ℕ → ℕ → List ℕ
+path_begins class x y =
+    class_begins class
+    ++ (text_with_number (codes "\" d=\"M") x ++ text_with_number (codes " ") y)
+
+-- and how it goes on
+abbrev pub path_at : List ℕ → ℕ → ℕ → List ℕ → List ℕ
+path_at class x y path = path_begins class x y ++ path
+
+-- a line where the task is throttled, or wants a CPU
+abbrev pub line_class : Bool → List ℕ
+line_class throttled = if throttled then codes "t" else codes "w"
+
+abbrev pub mark_class : Sign → List ℕ
+mark_class Released = codes "r"
+mark_class Due = codes "d"
+mark_class Ended = codes "x"
+
+-- an arrow up, an arrow down, a thick line
+abbrev pub mark_path : Sign → List ℕ
+mark_path Released = codes "v-8m-3 4l3 -4l3 4"
+mark_path Due = codes "v8m-3 -4l3 4l3 -4"
+mark_path Ended = codes "v14"
 
 -- ---- WHAT A POINTER SHOWS: the end of a tag, and in it a title that begins with a name
 
@@ -34,7 +64,7 @@ times start stop = seconds start ++ (codes " to " ++ (seconds stop ++ codes " s"
 
 abbrev pub band_box : Sheet → ℕ → List ℕ
 band_box s place =
-    text_with_number (codes "<rect x=\"0\" y=\"") (40 + row_top s place)
+    text_with_number (codes "<rect x=\"0\" y=\"") (plot_top + row_top s place)
     ++ (text_with_number (codes "\" width=\"1170\" height=\"") s.size.height
     ++ codes "\" fill=\"#f4f4f4\"/>\n")
 
@@ -47,7 +77,7 @@ name_size s = if is_tall s then [] else codes " font-size=\"10\""
 
 abbrev pub name_begins : Sheet → ℕ → List ℕ
 name_begins s place =
-    text_with_number (codes "<text x=\"142\" y=\"") (40 + (row_top s place + s.size.foot))
+    text_with_number (codes "<text x=\"142\" y=\"") (plot_top + (row_top s place + s.size.foot))
     ++ (codes "\" text-anchor=\"end\"" ++ name_size s)
 
 abbrev pub name_in_text : List ℕ → List ℕ
@@ -66,23 +96,16 @@ name_lines s place r =
 
 -- ---- BETWEEN BARS
 
-abbrev pub gap_class : Gap → List ℕ
-gap_class g = if g.throttled then codes "t" else codes "w"
-
 abbrev pub gap_word : Gap → List ℕ
 gap_word g = if g.throttled then codes " is throttled: " else codes " wants a CPU: "
-
-abbrev pub gap_path : Sheet → ℕ → Gap → List ℕ
-gap_path s place g =
-    text_with_number (codes "\" d=\"M") g.start
-    ++ (text_with_number (codes " ") (row_top s place + s.size.middle)
-    ++ text_with_number (codes "H") g.stop)
 
 abbrev pub gap_said : Gap → List ℕ
 gap_said g = gap_word g ++ times g.start g.stop
 
 abbrev pub gap_shape : Sheet → ℕ → Gap → List ℕ
-gap_shape s place g = codes "<path class=\"" ++ (gap_class g ++ gap_path s place g)
+gap_shape s place g =
+    path_begins (line_class g.throttled) g.start (row_top s place + s.size.middle)
+    ++ text_with_number (codes "H") g.stop
 
 abbrev pub gap_title : List ℕ → Gap → List ℕ
 gap_title name g = title_begins name ++ (gap_said g ++ codes "</title></path>\n")
@@ -144,7 +167,8 @@ has_number s base b =
 
 abbrev pub number_place : Sheet → ℕ → Bar → List ℕ
 number_place s place b =
-    text_at (pixel_of s ((seen_from s b + seen_to s b) / 2)) (40 + (row_top s place + s.size.foot))
+    text_at (pixel_of s ((seen_from s b + seen_to s b) / 2))
+    (plot_top + (row_top s place + s.size.foot))
 
 abbrev pub number_ink : Sheet → ℕ → List ℕ
 number_ink s cpu =
@@ -162,38 +186,24 @@ number_line s place base b = if has_number s base b then number_text s place bas
 
 -- ---- MARKS
 
-abbrev pub mark_class : Sign → List ℕ
-mark_class Released = codes "r"
-mark_class Due = codes "d"
-mark_class Ended = codes "x"
-
--- how far below the top of the row its path begins, and how it goes on
+-- how far below the top of the row its path begins
 abbrev pub mark_top : Sign → ℕ
 mark_top Released = 10
 mark_top Due = 24
 mark_top Ended = 10
-
-abbrev pub mark_path : Sign → List ℕ
-mark_path Released = codes "v-8m-3 4l3 -4l3 4"
-mark_path Due = codes "v8m-3 -4l3 4l3 -4"
-mark_path Ended = codes "v14"
 
 abbrev pub mark_word : Sign → List ℕ
 mark_word Released = codes " is released at "
 mark_word Due = codes " is due at "
 mark_word Ended = codes " ended at "
 
-abbrev pub mark_place : Sheet → ℕ → Mark → List ℕ
-mark_place s place m =
-    text_with_number (codes "\" d=\"M") (pixel_of s m.time)
-    ++ (text_with_number (codes " ") (40 + (row_top s place + mark_top m.sign))
-    ++ mark_path m.sign)
-
 abbrev pub mark_said : Mark → List ℕ
 mark_said m = mark_word m.sign ++ (seconds m.time ++ codes " s")
 
 abbrev pub mark_shape : Sheet → ℕ → Mark → List ℕ
-mark_shape s place m = codes "<path class=\"" ++ (mark_class m.sign ++ mark_place s place m)
+mark_shape s place m =
+    path_at (mark_class m.sign) (pixel_of s m.time) (plot_top + (row_top s place + mark_top m.sign))
+    (mark_path m.sign)
 
 abbrev pub mark_title : List ℕ → Mark → List ℕ
 mark_title name m = title_begins name ++ (mark_said m ++ codes "</title></path>\n")

@@ -25,12 +25,19 @@ is_tall s = nat_le s.rows 24
 abbrev pub plot_height : Sheet → ℕ
 plot_height s = s.rows * s.size.height
 
+-- where the plot begins, below the times of the axis, and the foot of those
+abbrev pub plot_top : ℕ
+plot_top = 15
+
+abbrev pub label_foot : ℕ
+label_foot = 11
+
 -- where a row begins inside the plot, and where the plot ends
 abbrev pub row_top : Sheet → ℕ → ℕ
 row_top s place = place * s.size.height
 
 abbrev pub plot_end : Sheet → ℕ
-plot_end s = 40 + plot_height s
+plot_end s = plot_top + plot_height s
 
 -- a length of time, and the place of a time, in whole pixels, rounded down
 abbrev pub pixels : Sheet → ℕ → ℕ

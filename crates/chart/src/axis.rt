@@ -1,12 +1,15 @@
-//! The ticks of the time's axis.
+//! The ticks of the time's axis, and its unit.
 
 ghost use Rattle.std.specs.Prelude.{ℕ, ◌≡◌, ◌-◌, ◌*◌, ◌<◌, ◌≤◌, ◌^◌, IfOk, All, map};
 ghost use Rattle.std.specs.List.{range_with_len};
+ghost use Rattle.draft.specs.Draft.{Adds};
 ghost use Rattle.chart_pieces.specs.Window.{IsWindow};
 ghost use Rattle.chart.specs.Axis as axis;
 
+use crate::texts::{SECOND, put_millis, put_seconds};
 use chart_pieces::Window;
 use domain_run::NoMemory;
+use draft::Draft;
 use std::alloc::Global;
 
 fn wider(length: u64, unit: u64) -> u64
@@ -111,4 +114,36 @@ pub(crate) fn ticks_of(alloc: Global, window: &Window) -> Result<Vec<u64>, NoMem
     ensures early { IfOk result (λ v. All (λ t. t ≤ 2 ^ 42) v.items) }
 {
     ticks_by(alloc, window, step_of(window.to - window.from))
+}
+
+// ---- the unit
+
+/// Whether less than a second is drawn.
+fn is_in_millis(window: &Window) -> bool
+    requires window { IsWindow window.now }
+    ensures { result ≡ axis.is_in_millis window.now }
+{
+    window.to - window.from < SECOND
+}
+
+/// A time in the unit of the axis.
+pub(crate) fn put_axis_time(out: &mut Draft, window: &Window, time: u64)
+    requires window { IsWindow window.now }
+    ensures { Adds out.old out.new (axis.axis_time window.now time) }
+{
+    if is_in_millis(window) {
+        put_millis(out, time);
+        return;
+    }
+    put_seconds(out, time);
+}
+
+pub(crate) fn unit_name(window: &Window) -> &'static [u8]
+    requires window { IsWindow window.now }
+    ensures { result.now ≡ axis.unit_name window.now }
+{
+    if is_in_millis(window) {
+        return b"ms";
+    }
+    b"s"
 }

@@ -9,13 +9,13 @@ ghost use Rattle.chart.specs.Pieces as pieces;
 ghost use Rattle.chart.specs.Rows.{chart_row_view_of, IsDrawn};
 ghost use Rattle.chart.specs.private.Sheets.{IsSheet};
 
-use crate::axis::ticks_of;
+use crate::axis::{put_axis_time, ticks_of, unit_name};
 use crate::legend::put_legend;
 use crate::over::put_over_lines;
 use crate::pieces::{put_name_lines, put_row_lines, put_text_at};
 use crate::row::ChartRow;
-use crate::sheet::{Sheet, sheet_of};
-use crate::texts::{put_seconds, put_times, put_with};
+use crate::sheet::{LABEL_FOOT, Sheet, sheet_of};
+use crate::texts::{put_times, put_with};
 use chart_pieces::Window;
 use draft::{Draft, NoMemory};
 use std::alloc::Global;
@@ -38,9 +38,9 @@ fn put_opening(out: &mut Draft, sheet: &Sheet)
         b"<svg xmlns=\"http://www.w3.org/2000/svg\" viewBox=\"0 0 1200 ",
         chart_height(sheet),
     );
-    put_with(out, b"\" width=\"1200\" height=\"", chart_height(sheet));
     out.put(
-        b"\" role=\"img\" font-family=\"DejaVu Sans, Verdana, sans-serif\" font-size=\"12\">\n",
+        b"\" width=\"100%\" role=\"img\" \
+          font-family=\"DejaVu Sans, Verdana, sans-serif\" font-size=\"12\">\n",
     );
 }
 
@@ -72,10 +72,12 @@ fn style() -> &'static [u8]
 {
     b"<style>.b{stroke:#333;stroke-width:.75}\
       .b,.g,.w,.t,.x,.r,.d{vector-effect:non-scaling-stroke}\
-      .g{stroke:#ddd}.w{stroke:#555;stroke-width:1.5}\
+      .g{stroke:#bbb}.w{stroke:#555;stroke-width:1.5}\
       .t{stroke:#b00000;stroke-width:2.5;stroke-dasharray:3 3}.x{stroke:#000;stroke-width:2}\
       .r{stroke:#000;fill:none}.d{stroke:#b00000;fill:none}\
-      rect.b:hover{stroke:#000;stroke-width:2.5}</style>\n"
+      rect.b:hover{stroke:#000;stroke-width:2.5}\
+      @media(max-width:700px){text{font-size:18px}text[text-anchor=end]{font-size:15px}}\
+      @media print{.g{stroke:#888}}@page{size:landscape;margin:10mm}</style>\n"
 }
 
 fn put_background(out: &mut Draft, sheet: &Sheet)
@@ -115,7 +117,7 @@ fn put_plot_size(out: &mut Draft, sheet: &Sheet)
 {
     put_with(
         out,
-        b"<svg x=\"150\" y=\"40\" width=\"1020\" height=\"",
+        b"<svg x=\"150\" y=\"15\" width=\"1020\" height=\"",
         sheet.plot_height(),
     );
 }
@@ -202,7 +204,7 @@ fn put_label(out: &mut Draft, sheet: &Sheet, top: u64, time: u64)
 {
     put_text_at(out, sheet.pixel_of(time), top);
     out.put(b"\" text-anchor=\"middle\" font-size=\"11\" fill=\"#333\">");
-    put_seconds(out, time);
+    put_axis_time(out, &sheet.window, time);
     out.put(b"</text>\n");
 }
 
@@ -212,7 +214,7 @@ fn put_labels(out: &mut Draft, sheet: &Sheet, time: u64)
     requires time { time ≤ 2 ^ 42 }
     ensures { Adds out.old out.new (charts.labels sheet.now time) }
 {
-    put_label(out, sheet, 32, time);
+    put_label(out, sheet, LABEL_FOOT, time);
     put_label(out, sheet, sheet.plot_end() + 16, time);
 }
 
@@ -226,16 +228,24 @@ fn put_all_labels(out: &mut Draft, sheet: &Sheet, ticks: &[u64])
     }
 }
 
+/// The unit of the axis.
+fn put_axis_name(out: &mut Draft, sheet: &Sheet)
+    requires sheet { IsSheet sheet.now }
+    ensures { Adds out.old out.new (charts.axis_name sheet.now) }
+{
+    put_text_at(out, 142, LABEL_FOOT);
+    out.put(b"\" text-anchor=\"end\" font-size=\"11\" fill=\"#333\">time in ");
+    out.put(unit_name(&sheet.window));
+    out.put(b"</text>\n");
+}
+
 fn put_axis(out: &mut Draft, sheet: &Sheet, ticks: &[u64])
     requires sheet { IsSheet sheet.now }
     requires early { All (λ t. t ≤ 2 ^ 42) ticks.now }
     ensures { Adds out.old out.new (charts.axis sheet.now ticks.now) }
 {
     put_all_labels(out, sheet, ticks);
-    out.put(
-        b"<text x=\"142\" y=\"32\" text-anchor=\"end\" font-size=\"11\" fill=\"#333\">\
-          time in s</text>\n",
-    );
+    put_axis_name(out, sheet);
 }
 
 // ---- all

@@ -13,24 +13,24 @@ fn palette(k: u64) -> &'static [u8]
         return b"#0072B2";
     }
     if k == 1 {
-        return b"#E69F00";
+        return b"#E4CC3C";
     }
     if k == 2 {
-        return b"#009E73";
+        return b"#00249C";
     }
     if k == 3 {
-        return b"#CC79A7";
+        return b"#E478B4";
     }
     if k == 4 {
-        return b"#56B4E9";
+        return b"#C0FCA8";
     }
     if k == 5 {
-        return b"#D55E00";
+        return b"#241848";
     }
     if k == 6 {
-        return b"#F0E442";
+        return b"#3C9C24";
     }
-    b"#332288"
+    b"#0C603C"
 }
 
 fn ramp(k: u64) -> &'static [u8]
@@ -67,7 +67,7 @@ fn is_dark(cpus: u64, cpu: u64) -> bool
     ensures { result ≡ colours.is_dark cpus cpu }
 {
     if cpus <= 8 {
-        return cpu == 0 || cpu == 7;
+        return cpu == 0 || (cpu == 2 || (cpu == 5 || cpu == 7));
     }
     cpu * 5 / cpus < 2
 }

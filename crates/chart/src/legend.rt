@@ -8,9 +8,10 @@ ghost use Rattle.chart.specs.private.Sheets.{IsSheet};
 
 use crate::colours::{fill_of, legend_cpus};
 use crate::over::put_number_ink;
-use crate::pieces::put_text_at;
+use crate::pieces::{line_class, mark_class, mark_path, put_path_at, put_text_at};
 use crate::sheet::Sheet;
 use crate::texts::put_with;
+use chart_pieces::Sign;
 use draft::{Draft, NoMemory};
 use std::alloc::Global;
 
@@ -103,74 +104,47 @@ fn put_colours(out: &mut Draft, sheet: &Sheet, cpus: &[u64])
 
 // ---- signs
 
-fn put_sign_place(out: &mut Draft, left: u64, top: u64)
-    ensures { Adds out.old out.new (legends.sign_place left top) }
-{
-    put_with(out, b"\" d=\"M", left);
-    put_with(out, b" ", top);
-}
-
-fn put_sign_path(out: &mut Draft, path: &[u8])
-    ensures { Adds out.old out.new (legends.sign_path path.now) }
-{
-    out.put(path);
-    out.put(b"\"/>");
-}
-
-fn put_sign_class(out: &mut Draft, class: &[u8])
-    ensures { Adds out.old out.new (legends.sign_class class.now) }
-{
-    out.put(b"<path class=\"");
-    out.put(class);
-}
-
 fn put_sign(out: &mut Draft, class: &[u8], left: u64, top: u64, path: &[u8])
     ensures { Adds out.old out.new (legends.sign_at class.now left top path.now) }
 {
-    put_sign_class(out, class);
-    put_sign_place(out, left, top);
-    put_sign_path(out, path);
+    put_path_at(out, class, left, top, path);
+    out.put(b"\"/>");
 }
 
-fn put_meaning(out: &mut Draft, left: u64, top: u64, word: &[u8])
-    ensures { Adds out.old out.new (legends.meaning left top word.now) }
+/// What a sign means, beside it.
+fn put_meaning(out: &mut Draft, sheet: &Sheet, left: u64, word: &[u8])
+    requires sheet { IsSheet sheet.now }
+    ensures { Adds out.old out.new (legends.meaning sheet.now left word.now) }
 {
-    put_text_at(out, left, top);
+    put_text_at(out, left, sheet.plot_end() + 43);
     out.put(b"\" font-size=\"11\">");
     out.put(word);
     out.put(b"</text>\n");
 }
 
-/// A line or a mark as it is drawn in the legend.
-#[derive(Clone, Copy)]
-pub(crate) struct Entry<'a> {
-    pub(crate) class: &'a [u8],
-    /// How far it is below the plot.
-    pub(crate) top: u64,
-    pub(crate) path: &'a [u8],
-    /// How far its meaning is behind it.
-    pub(crate) indent: u64,
-    pub(crate) word: &'a [u8],
+fn line_meaning(throttled: bool) -> &'static [u8]
+    ensures { result.now ≡ legends.line_meaning throttled }
+{
+    if throttled {
+        return b"throttled";
+    }
+    b"wants a CPU"
 }
 
-/// A sign, and behind it its meaning.
-fn put_entry(out: &mut Draft, sheet: &Sheet, left: u64, entry: &Entry<'_>)
+/// A line, and beside it its meaning.
+fn put_line_sign(out: &mut Draft, sheet: &Sheet, left: u64, throttled: bool)
     requires sheet { IsSheet sheet.now }
     requires left { left ≤ 2000 }
-    requires top { entry.now.top ≤ 100 }
-    requires indent { entry.now.indent ≤ 100 }
-    ensures { Adds out.old out.new
-        (legends.sign_line sheet.now entry.now.class.now left entry.now.top entry.now.path.now
-        entry.now.indent entry.now.word.now) }
+    ensures { Adds out.old out.new (legends.line_sign sheet.now left throttled) }
 {
     put_sign(
         out,
-        entry.class,
+        line_class(throttled),
         left,
-        sheet.plot_end() + entry.top,
-        entry.path,
+        sheet.plot_end() + 39,
+        b"h30",
     );
-    put_meaning(out, left + entry.indent, sheet.plot_end() + 43, entry.word);
+    put_meaning(out, sheet, left + 36, line_meaning(throttled));
 }
 
 fn put_line_signs(out: &mut Draft, sheet: &Sheet, left: u64)
@@ -178,22 +152,57 @@ fn put_line_signs(out: &mut Draft, sheet: &Sheet, left: u64)
     requires left { left ≤ 1000 }
     ensures { Adds out.old out.new (legends.line_signs sheet.now left) }
 {
-    let wants = Entry {
-        class: b"w",
-        top: 39,
-        path: b"h30",
-        indent: 36,
-        word: b"wants a CPU",
-    };
-    let throttled = Entry {
-        class: b"t",
-        top: 39,
-        path: b"h30",
-        indent: 36,
-        word: b"throttled",
-    };
-    put_entry(out, sheet, left, &wants);
-    put_entry(out, sheet, left + 130, &throttled);
+    put_line_sign(out, sheet, left, false);
+    put_line_sign(out, sheet, left + 176, true);
+}
+
+/// How far below the plot a mark begins.
+fn sign_top(sign: Sign) -> u64
+    ensures top { result ≡ legends.sign_top sign }
+    ensures small { result ≤ 100 }
+{
+    match sign {
+        Sign::Released => 44,
+        Sign::Due => 36,
+        Sign::Ended => 32,
+    }
+}
+
+/// How far from where it begins its meaning is.
+fn sign_indent(sign: Sign) -> u64
+    ensures indent { result ≡ legends.sign_indent sign }
+    ensures small { result ≤ 100 }
+{
+    match sign {
+        Sign::Released | Sign::Due => 10,
+        Sign::Ended => 8,
+    }
+}
+
+fn mark_meaning(sign: Sign) -> &'static [u8]
+    ensures { result.now ≡ legends.mark_meaning sign }
+{
+    match sign {
+        Sign::Released => b"released",
+        Sign::Due => b"due",
+        Sign::Ended => b"ended",
+    }
+}
+
+/// A mark, and beside it its meaning.
+fn put_mark_sign(out: &mut Draft, sheet: &Sheet, left: u64, sign: Sign)
+    requires sheet { IsSheet sheet.now }
+    requires left { left ≤ 2000 }
+    ensures { Adds out.old out.new (legends.mark_sign sheet.now left sign) }
+{
+    put_sign(
+        out,
+        mark_class(sign),
+        left,
+        sheet.plot_end() + sign_top(sign),
+        mark_path(sign),
+    );
+    put_meaning(out, sheet, left + sign_indent(sign), mark_meaning(sign));
 }
 
 fn put_mark_signs(out: &mut Draft, sheet: &Sheet, left: u64)
@@ -201,30 +210,9 @@ fn put_mark_signs(out: &mut Draft, sheet: &Sheet, left: u64)
     requires left { left ≤ 1000 }
     ensures { Adds out.old out.new (legends.mark_signs sheet.now left) }
 {
-    let released = Entry {
-        class: b"r",
-        top: 44,
-        path: b"v-8m-3 4l3 -4l3 4",
-        indent: 10,
-        word: b"released",
-    };
-    let due = Entry {
-        class: b"d",
-        top: 36,
-        path: b"v8m-3 -4l3 4l3 -4",
-        indent: 10,
-        word: b"due",
-    };
-    let ended = Entry {
-        class: b"x",
-        top: 32,
-        path: b"v14",
-        indent: 8,
-        word: b"ended",
-    };
-    put_entry(out, sheet, left + 246, &released);
-    put_entry(out, sheet, left + 326, &due);
-    put_entry(out, sheet, left + 376, &ended);
+    put_mark_sign(out, sheet, left + 330, Sign::Released);
+    put_mark_sign(out, sheet, left + 446, Sign::Due);
+    put_mark_sign(out, sheet, left + 506, Sign::Ended);
 }
 
 fn put_signs(out: &mut Draft, sheet: &Sheet, left: u64)

@@ -7,9 +7,9 @@ ghost use Rattle.chart.specs.Rows.{chart_row_view_of};
 ghost use Rattle.chart.specs.private.Sheets.{IsSheet};
 
 use crate::colours::ink_of;
-use crate::pieces::{cpu_of, put_text_at, put_title};
+use crate::pieces::{cpu_of, mark_class, mark_path, put_path_at, put_text_at, put_title};
 use crate::row::ChartRow;
-use crate::sheet::Sheet;
+use crate::sheet::{PLOT_TOP, Sheet};
 use crate::texts::{put_seconds, put_with};
 use chart_pieces::{Bar, Mark, Sign};
 use draft::Draft;
@@ -73,7 +73,7 @@ fn put_number_place(out: &mut Draft, sheet: &Sheet, place: u64, bar: &Bar)
     put_text_at(
         out,
         sheet.pixel_of(middle),
-        40 + (sheet.row_top(place) + sheet.size.foot),
+        PLOT_TOP + (sheet.row_top(place) + sheet.size.foot),
     );
 }
 
@@ -130,16 +130,6 @@ fn put_numbers(out: &mut Draft, sheet: &Sheet, place: u64, base: u32, bars: &[Ba
 
 // ---- marks
 
-fn mark_class(sign: Sign) -> &'static [u8]
-    ensures { result.now ≡ pieces.mark_class sign }
-{
-    match sign {
-        Sign::Released => b"r",
-        Sign::Due => b"d",
-        Sign::Ended => b"x",
-    }
-}
-
 fn mark_top(sign: Sign) -> u64
     ensures top { result ≡ pieces.mark_top sign }
     ensures small { result ≤ 24 }
@@ -148,16 +138,6 @@ fn mark_top(sign: Sign) -> u64
         Sign::Released => 10,
         Sign::Due => 24,
         Sign::Ended => 10,
-    }
-}
-
-fn mark_path(sign: Sign) -> &'static [u8]
-    ensures { result.now ≡ pieces.mark_path sign }
-{
-    match sign {
-        Sign::Released => b"v-8m-3 4l3 -4l3 4",
-        Sign::Due => b"v8m-3 -4l3 4l3 -4",
-        Sign::Ended => b"v14",
     }
 }
 
@@ -171,26 +151,19 @@ fn mark_word(sign: Sign) -> &'static [u8]
     }
 }
 
-fn put_mark_place(out: &mut Draft, sheet: &Sheet, place: u64, mark: &Mark)
-    requires sheet { IsSheet sheet.now }
-    requires place { place ≤ 2 ^ 32 }
-    requires time { mark.now.time ≤ sheet.now.window.to }
-    ensures { Adds out.old out.new (pieces.mark_place sheet.now place mark.now) }
-{
-    put_with(out, b"\" d=\"M", sheet.pixel_of(mark.time));
-    put_with(out, b" ", 40 + (sheet.row_top(place) + mark_top(mark.sign)));
-    out.put(mark_path(mark.sign));
-}
-
 fn put_mark_shape(out: &mut Draft, sheet: &Sheet, place: u64, mark: &Mark)
     requires sheet { IsSheet sheet.now }
     requires place { place ≤ 2 ^ 32 }
     requires time { mark.now.time ≤ sheet.now.window.to }
     ensures { Adds out.old out.new (pieces.mark_shape sheet.now place mark.now) }
 {
-    out.put(b"<path class=\"");
-    out.put(mark_class(mark.sign));
-    put_mark_place(out, sheet, place, mark);
+    put_path_at(
+        out,
+        mark_class(mark.sign),
+        sheet.pixel_of(mark.time),
+        PLOT_TOP + (sheet.row_top(place) + mark_top(mark.sign)),
+        mark_path(mark.sign),
+    );
 }
 
 fn put_mark_said(out: &mut Draft, mark: &Mark)

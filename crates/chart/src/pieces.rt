@@ -9,9 +9,9 @@ ghost use Rattle.chart.specs.private.Sheets.{IsSheet};
 
 use crate::colours::fill_of;
 use crate::row::ChartRow;
-use crate::sheet::Sheet;
+use crate::sheet::{PLOT_TOP, Sheet};
 use crate::texts::{put_escaped, put_times, put_with};
-use chart_pieces::{Bar, Gap};
+use chart_pieces::{Bar, Gap, Sign};
 use draft::Draft;
 
 /// The beginning of a text at a place.
@@ -20,6 +20,61 @@ pub(crate) fn put_text_at(out: &mut Draft, x: u64, y: u64)
 {
     put_with(out, b"<text x=\"", x);
     put_with(out, b"\" y=\"", y);
+}
+
+// ---- lines and marks
+
+fn put_class(out: &mut Draft, class: &[u8])
+    ensures { Adds out.old out.new (pieces.class_begins class.now) }
+{
+    out.put(b"<path class=\"");
+    out.put(class);
+}
+
+/// The path of a class, to where it begins.
+fn put_path_begins(out: &mut Draft, class: &[u8], x: u64, y: u64)
+    ensures { Adds out.old out.new (pieces.path_begins class.now x y) }
+{
+    put_class(out, class);
+    put_with(out, b"\" d=\"M", x);
+    put_with(out, b" ", y);
+}
+
+/// The path of a class that begins at a place and goes on so: a sign of the plot or of the legend.
+pub(crate) fn put_path_at(out: &mut Draft, class: &[u8], x: u64, y: u64, path: &[u8])
+    ensures { Adds out.old out.new (pieces.path_at class.now x y path.now) }
+{
+    put_path_begins(out, class, x, y);
+    out.put(path);
+}
+
+pub(crate) fn line_class(throttled: bool) -> &'static [u8]
+    ensures { result.now ≡ pieces.line_class throttled }
+{
+    if throttled {
+        return b"t";
+    }
+    b"w"
+}
+
+pub(crate) fn mark_class(sign: Sign) -> &'static [u8]
+    ensures { result.now ≡ pieces.mark_class sign }
+{
+    match sign {
+        Sign::Released => b"r",
+        Sign::Due => b"d",
+        Sign::Ended => b"x",
+    }
+}
+
+pub(crate) fn mark_path(sign: Sign) -> &'static [u8]
+    ensures { result.now ≡ pieces.mark_path sign }
+{
+    match sign {
+        Sign::Released => b"v-8m-3 4l3 -4l3 4",
+        Sign::Due => b"v8m-3 -4l3 4l3 -4",
+        Sign::Ended => b"v14",
+    }
 }
 
 // ---- what a pointer shows
@@ -39,7 +94,7 @@ fn put_band_box(out: &mut Draft, sheet: &Sheet, place: u64)
     requires place { place ≤ 2 ^ 32 }
     ensures { Adds out.old out.new (pieces.band_box sheet.now place) }
 {
-    put_with(out, b"<rect x=\"0\" y=\"", 40 + sheet.row_top(place));
+    put_with(out, b"<rect x=\"0\" y=\"", PLOT_TOP + sheet.row_top(place));
     put_with(out, b"\" width=\"1170\" height=\"", sheet.size.height);
     out.put(b"\" fill=\"#f4f4f4\"/>\n");
 }
@@ -73,7 +128,7 @@ fn put_name_begins(out: &mut Draft, sheet: &Sheet, place: u64)
     put_with(
         out,
         b"<text x=\"142\" y=\"",
-        40 + (sheet.row_top(place) + sheet.size.foot),
+        PLOT_TOP + (sheet.row_top(place) + sheet.size.foot),
     );
     out.put(b"\" text-anchor=\"end\"");
     put_name_size(out, sheet);
@@ -121,15 +176,6 @@ pub(crate) fn put_name_lines(out: &mut Draft, sheet: &Sheet, place: u64, row: &C
 
 // ---- between bars
 
-fn gap_class(gap: &Gap) -> &'static [u8]
-    ensures { result.now ≡ pieces.gap_class gap.now }
-{
-    if gap.throttled {
-        return b"t";
-    }
-    b"w"
-}
-
 fn gap_word(gap: &Gap) -> &'static [u8]
     ensures { result.now ≡ pieces.gap_word gap.now }
 {
@@ -137,16 +183,6 @@ fn gap_word(gap: &Gap) -> &'static [u8]
         return b" is throttled: ";
     }
     b" wants a CPU: "
-}
-
-fn put_gap_path(out: &mut Draft, sheet: &Sheet, place: u64, gap: &Gap)
-    requires sheet { IsSheet sheet.now }
-    requires place { place ≤ 2 ^ 32 }
-    ensures { Adds out.old out.new (pieces.gap_path sheet.now place gap.now) }
-{
-    put_with(out, b"\" d=\"M", gap.start);
-    put_with(out, b" ", sheet.row_top(place) + sheet.size.middle);
-    put_with(out, b"H", gap.stop);
 }
 
 fn put_gap_said(out: &mut Draft, gap: &Gap)
@@ -161,9 +197,13 @@ fn put_gap_shape(out: &mut Draft, sheet: &Sheet, place: u64, gap: &Gap)
     requires place { place ≤ 2 ^ 32 }
     ensures { Adds out.old out.new (pieces.gap_shape sheet.now place gap.now) }
 {
-    out.put(b"<path class=\"");
-    out.put(gap_class(gap));
-    put_gap_path(out, sheet, place, gap);
+    put_path_begins(
+        out,
+        line_class(gap.throttled),
+        gap.start,
+        sheet.row_top(place) + sheet.size.middle,
+    );
+    put_with(out, b"H", gap.stop);
 }
 
 fn put_gap_title(out: &mut Draft, name: &[u8], gap: &Gap)

@@ -7,6 +7,12 @@ ghost use Rattle.chart.specs.private.Sheets as sheets;
 
 use chart_pieces::Window;
 
+/// Where the plot begins, in pixels.
+pub(crate) const PLOT_TOP: u64 = 15;
+
+/// The foot of the times above the plot, in pixels.
+pub(crate) const LABEL_FOOT: u64 = 11;
+
 /// The sizes of a row, in pixels.
 #[derive(Clone, Copy)]
 pub struct RowSize {
@@ -108,7 +114,7 @@ impl Sheet {
         ensures end { result ≡ sizes.plot_end self.now }
         ensures small { result ≤ 2 ^ 39 }
     {
-        40 + self.plot_height()
+        PLOT_TOP + self.plot_height()
     }
 
     /// A length of time in pixels.

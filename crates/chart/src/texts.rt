@@ -72,22 +72,38 @@ fn put_shortened(out: &mut Draft, digits: usize, n: u64)
     }
 }
 
-fn put_fraction(out: &mut Draft, micros: u64)
-    ensures { Adds out.old out.new (times.fraction micros) }
+/// What stands behind the whole number, of which there are at most so many digits.
+fn put_fraction(out: &mut Draft, digits: usize, n: u64)
+    requires { digits ≤ 15 }
+    ensures { Adds out.old out.new (times.fraction digits n) }
 {
-    if micros == 0 {
+    if n == 0 {
         return;
     }
     out.put(b".");
-    put_shortened(out, 6, micros);
+    put_shortened(out, digits, n);
 }
+
+/// A second, in microseconds.
+pub(crate) const SECOND: u64 = 1_000_000;
+
+/// A millisecond, in microseconds.
+const MILLI: u64 = 1000;
 
 /// A time in seconds.
 pub(crate) fn put_seconds(out: &mut Draft, time: u64)
     ensures { Adds out.old out.new (times.seconds time) }
 {
-    out.put_decimal(time / 1000000);
-    put_fraction(out, time % 1000000);
+    out.put_decimal(time / SECOND);
+    put_fraction(out, 6, time % SECOND);
+}
+
+/// A time in milliseconds.
+pub(crate) fn put_millis(out: &mut Draft, time: u64)
+    ensures { Adds out.old out.new (times.millis time) }
+{
+    out.put_decimal(time / MILLI);
+    put_fraction(out, 3, time % MILLI);
 }
 
 /// From one time to another.
