@@ -81,12 +81,14 @@ AS_RECORDED = """\
 shift 1678.696056 s
 #          task   runs recorded matched  start_p50 start_p95 start_max   end_p50   end_p95   end_max    cpu_us rec_cpu_us
               a      2        2       2          0         2         2         1         2         2      4000       3997
+matched 2 of 2 runs
 first difference: none
 """
 DIFFERENT = """\
 shift 7200.000000 s
 #          task   runs recorded matched  start_p50 start_p95 start_max   end_p50   end_p95   end_max    cpu_us rec_cpu_us
               a      2        2       1          0         0         0         0         0         0      4000       2500
+matched 1 of 2 runs
 same cpu 0 of 1
 first difference: model run 1 of a, 0.005000 to 0.007000 s, nearest recorded 7200.005000 to 7200.008001 s
 first difference: recorded run 1 of a, 7200.003000 to 7200.003500 s
@@ -119,7 +121,10 @@ A = row("a", 2, 2, 2, EXACT, EXACT, 4000, 4000)
 B = row("b", 1, 1, 1, EXACT, EXACT, 3000, 3000)
 ONE_A = row("a", 2, 1, 1, EXACT, EXACT, 4000, 2000)
 AT_0 = "shift 0.000000 s\n"
-ALL = AT_0 + HEADER + A + B + NONE
+ALL_3 = "matched 3 of 3 runs\n"
+ALL_1 = "matched 1 of 1 runs\n"
+TWO = "matched 2 of 3 runs\n"
+ALL = AT_0 + HEADER + A + B + ALL_3 + NONE
 MISSING_A = "first difference: model run 1 of a, 0.010000 to 0.012000 s, nearest recorded "
 
 
@@ -139,13 +144,13 @@ ROWS = [
     matches(
         "a run that was not recorded",
         recording(*WITHOUT_THE_LAST),
-        AT_0 + HEADER + ONE_A + B + MISSING_A + "0.000000 to 0.002000 s\n",
+        AT_0 + HEADER + ONE_A + B + TWO + MISSING_A + "0.000000 to 0.002000 s\n",
     ),
-    matches("1001 us later", recording(*LATER), AT_0 + HEADER + ONE_A + B + MISSING_A + "0.011001 to 0.013001 s\n"),
+    matches("1001 us later", recording(*LATER), AT_0 + HEADER + ONE_A + B + TWO + MISSING_A + "0.011001 to 0.013001 s\n"),
     matches(
         "within 1001 us",
         recording(*LATER),
-        AT_0 + HEADER + row("a", 2, 2, 2, (0, 1001, 1001), (0, 1001, 1001), 4000, 4000) + B + NONE,
+        AT_0 + HEADER + row("a", 2, 2, 2, (0, 1001, 1001), (0, 1001, 1001), 4000, 4000) + B + ALL_3 + NONE,
         words="--within 1001 MODEL RECORDED",
     ),
     matches("a run that an interrupt split", recording(*SPLIT), ALL),
@@ -156,6 +161,7 @@ ROWS = [
         + HEADER
         + A
         + row("b", 1, 2, 0, NOTHING, NOTHING, 3000, 2950)
+        + TWO
         + "first difference: model run 0 of b, 0.002000 to 0.005000 s, nearest recorded 0.003050 to 0.005000 s\n"
         + "first difference: recorded run 0 of b, 0.002000 to 0.003000 s\n",
         words="--noise 0 MODEL RECORDED",
@@ -167,50 +173,51 @@ ROWS = [
         + HEADER
         + A
         + row("b", 1, 2, 1, EXACT, EXACT, 3000, 4000)
+        + ALL_3
         + "first difference: recorded run 1 of b, 3.007000 to 3.008000 s\n",
     ),
     matches("on another CPU", recording(*OTHER_CPU), ALL.replace(NONE, "same cpu 2 of 3\n" + NONE), words="--cpus MODEL RECORDED"),
-    matches("a shift that is told", recording(*MODEL), AT_0 + HEADER + A + B + NONE, words="--shift 0 MODEL RECORDED"),
+    matches("a shift that is told", recording(*MODEL), ALL, words="--shift 0 MODEL RECORDED"),
     matches(
         "one that is below 0",
         recording(*MODEL),
-        "shift -0.000500 s\n" + HEADER + row("a", 2, 2, 2, (500,) * 3, (500,) * 3, 4000, 4000) + row("b", 1, 1, 1, (500,) * 3, (500,) * 3, 3000, 3000) + NONE,
+        "shift -0.000500 s\n" + HEADER + row("a", 2, 2, 2, (500,) * 3, (500,) * 3, 4000, 4000) + row("b", 1, 1, 1, (500,) * 3, (500,) * 3, 3000, 3000) + ALL_3 + NONE,
         words="--shift=-500 MODEL RECORDED",
     ),
     matches(
         "nobody of the model",
         recording((0, IDLE, "c"), (5000, "c", IDLE)),
-        AT_0
-        + HEADER
+        HEADER
         + row("a", 2, 0, 0, NOTHING, NOTHING, 4000, 0)
         + row("b", 1, 0, 0, NOTHING, NOTHING, 3000, 0)
+        + "matched 0 of 3 runs\n"
         + "first difference: model run 0 of a, 0.000000 to 0.002000 s, and nothing was recorded of this task\n",
     ),
     matches(
         "a name with spaces, a colon and an equals sign",
         recording(*NAMES, form="trace-cmd"),
-        AT_0 + HEADER + row("a = b: c", 1, 1, 1, EXACT, EXACT, 2000, 2000) + NONE,
+        AT_0 + HEADER + row("a = b: c", 1, 1, 1, EXACT, EXACT, 2000, 2000) + ALL_1 + NONE,
         model=NAMES,
     ),
     matches(
         "a name with ESC, TAB and a lone byte",
         recording(*NO_TEXT),
-        AT_0 + HEADER + row("a\\x1b\\x09b\\x9b", 1, 1, 1, EXACT, EXACT, 2000, 2000) + NONE,
+        AT_0 + HEADER + row("a\\x1b\\x09b\\x9b", 1, 1, 1, EXACT, EXACT, 2000, 2000) + ALL_1 + NONE,
         model=NO_TEXT,
     ),
     matches(
         "the same of which nothing was recorded",
         recording(*MODEL),
-        AT_0
-        + HEADER
+        HEADER
         + row("a\\x1b\\x09b\\x9b", 1, 0, 0, NOTHING, NOTHING, 2000, 0)
+        + "matched 0 of 1 runs\n"
         + "first difference: model run 0 of a\\x1b\\x09b\\x9b, 0.000000 to 0.002000 s, and nothing was recorded of this task\n",
         model=NO_TEXT,
     ),
     matches(
         "a name with a letter, ESC and a mark of direction",
         recording(*TEXT),
-        AT_0 + HEADER + row("\u00e4\\u001b\\u202ez", 1, 1, 1, EXACT, EXACT, 2000, 2000) + NONE,
+        AT_0 + HEADER + row("\u00e4\\u001b\\u202ez", 1, 1, 1, EXACT, EXACT, 2000, 2000) + ALL_1 + NONE,
         model=TEXT,
     ),
     matches("bytes that are no text", "\0\xff : sched_switch: \n" + recording(*MODEL) + "x" * 100000, ALL),
@@ -220,8 +227,14 @@ ROWS = [
     matches(
         "1001 us too long",
         recording(*MODEL[:4], (13001, "a", IDLE)),
-        AT_0 + HEADER + ONE_A + B + MISSING_A + "0.010000 to 0.013001 s\n",
+        AT_0 + HEADER + ONE_A + B + TWO + MISSING_A + "0.010000 to 0.013001 s\n",
     ),
+    *(
+        Comparison(f"2 of 3 runs, of which {share} % have to match", f"--fail-under {share} MODEL RECORDED", recording(*MODEL), recording(*WITHOUT_THE_LAST), status, AT_0 + HEADER + ONE_A + B + TWO + MISSING_A + "0.000000 to 0.002000 s\n", err)
+        for share, status, err in ((0, 0, ""), (66, 0, ""), (67, 5, "dlsim: 2 of 3 runs match\n"), (100, 5, "dlsim: 2 of 3 runs match\n"))
+    ),
+    matches("all runs, of which all have to match", recording(*MODEL), ALL, words="--fail-under 100 MODEL RECORDED"),
+    fault("a bad line, where all runs have to match", 1, "dlsim: trace line 1 in recorded.txt\n", words="--fail-under 100 MODEL RECORDED", recorded=BAD),
     matches("standard input for the recording", recording(*MODEL), ALL, words="MODEL -"),
     matches("standard input for the model", recording(*MODEL), ALL, words="- RECORDED"),
     fault("a bad line of the model", 1, "dlsim: trace line 2 in model.txt\n", model="# tracer: nop\n" + BAD, recorded=BAD),
@@ -254,4 +267,7 @@ REFUSED = [
     "compare --noise x model.txt recorded.txt",
     "compare --shift 1152921504606846977 model.txt recorded.txt",
     "compare --print trace model.txt recorded.txt",
+    "compare --fail-under 101 model.txt recorded.txt",
+    "compare --fail-under -1 model.txt recorded.txt",
+    "compare --fail-under 99.5 model.txt recorded.txt",
 ]

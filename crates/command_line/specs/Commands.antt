@@ -105,6 +105,7 @@ compare_options =
     ∷ tested_option (codes "noise") (Unsigned 0 1000000000)
     ∷ tested_option (codes "shift") (Signed (neg_ℤ (pos (2 ^ 60))) (pos (2 ^ 60)))
     ∷ flag (codes "cpus")
+    ∷ tested_option (codes "fail-under") (Unsigned 0 100)
     ∷ []
 
 -- `dlsim compare`

@@ -33,6 +33,14 @@ IsTimeAt rows name n =
 abbrev pub IsOptionalAt : List Row → List ℕ → Option ℕ → Type 0
 IsOptionalAt rows name n = (o : Option ℕ) × IsReadAt rows name o × (n ≡ option_map cut o)
 
+-- at most 100
+abbrev pub in_hundred : ℕ → ℕ
+in_hundred n = min n 100
+
+-- so many per cent, and none where there is none
+abbrev pub IsPercentAt : List Row → List ℕ → Option ℕ → Type 0
+IsPercentAt rows name n = (o : Option ℕ) × IsReadAt rows name o × (n ≡ option_map in_hundred o)
+
 -- how far two clocks may be said to be apart
 abbrev pub IsShiftWord : ℤ → Type 0
 IsShiftWord us = (neg_ℤ (pos (2 ^ 60)) ≤ℤ us) × (us ≤ℤ pos (2 ^ 60))
@@ -72,11 +80,12 @@ pub record AreOptionsAt (rows : List Row) (o : CompareOptions) : Type 0 where
   pub shift : IsShiftAt rows (codes "shift") o.shift
   pub cpus : IsFlagAt rows (codes "cpus") o.cpus
 
--- and so is each file
+-- and so are each file and the share of the runs that has to match
 pub record IsComparisonAt (rows : List Row) (c : Comparison) : Type 0 where
   pub model : IsSourceAt rows (codes "MODEL") c.model
   pub recorded : IsSourceAt rows (codes "RECORDED") c.recorded
   pub options : AreOptionsAt rows c.options
+  pub fail_under : IsPercentAt rows (codes "fail-under") c.fail_under
 
 -- standard input is for one of the two
 abbrev pub is_stdin : Source → Bool

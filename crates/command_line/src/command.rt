@@ -8,10 +8,10 @@ ghost use Rattle.command_line.specs.private.Made.{AddsOne, AreInTurn, IsChoiceMa
 
 use crate::texts::{
     ABOUT, ABOUT_END, ANY_POLICY_HELP, CLIENTS_HELP, COMPARE_ABOUT, COMPARE_END, COUNTS_FROM_HELP,
-    COUNTS_TO_HELP, CPUS_HELP, DOMAINS_HELP, FROM_HELP, IMPORT_ABOUT, IMPORT_CPUS_HELP, IMPORT_END,
-    MODEL_HELP, NOISE_HELP, PERIOD_HELP, PRINT_HELP, RECLAIM_HELP, RECORDED_HELP, REPLAY_ABOUT,
-    REPLAY_END, RUN_ABOUT, RUN_END, RUNTIME_HELP, SHIFT_HELP, TASKS_HELP, TO_HELP, WITHIN_HELP,
-    WORKERS_HELP,
+    COUNTS_TO_HELP, CPUS_HELP, DOMAINS_HELP, FAIL_UNDER_HELP, FROM_HELP, IMPORT_ABOUT,
+    IMPORT_CPUS_HELP, IMPORT_END, MODEL_HELP, NOISE_HELP, PERIOD_HELP, PRINT_HELP, RECLAIM_HELP,
+    RECORDED_HELP, REPLAY_ABOUT, REPLAY_END, RUN_ABOUT, RUN_END, RUNTIME_HELP, SHIFT_HELP,
+    TASKS_HELP, TO_HELP, WITHIN_HELP, WORKERS_HELP,
 };
 use clap::builder::ValueParser;
 use clap::{Arg, ArgAction, Command};
@@ -31,6 +31,9 @@ pub const MOST_SHIFT: i64 = 1 << 60;
 
 /// The last microsecond of a recording's clock that `--from` and `--to` of `import` can name: 2^60.
 pub const LAST_RECORDED: u64 = 1 << 60;
+
+/// How many per cent of the runs `--fail-under` may ask for.
+pub const MOST_PERCENT: u64 = 100;
 
 /// How many CPUs a domain may have.
 pub const MOST_CPUS: u64 = 64;
@@ -121,7 +124,7 @@ static REPLAY_CHOICES: [Choice<'static>; 3] = [
     Choice::Tested("to", "US", A_MOMENT, TO_HELP),
 ];
 
-static COMPARE_CHOICES: [Choice<'static>; 6] = [
+static COMPARE_CHOICES: [Choice<'static>; 7] = [
     Choice::File("MODEL", MODEL_HELP),
     Choice::File("RECORDED", RECORDED_HELP),
     Choice::Checked("within", "US", "1000", A_TIME, WITHIN_HELP),
@@ -133,6 +136,12 @@ static COMPARE_CHOICES: [Choice<'static>; 6] = [
         SHIFT_HELP,
     ),
     Choice::Flag("cpus", CPUS_HELP),
+    Choice::Tested(
+        "fail-under",
+        "PCT",
+        ValueParser::Unsigned(0, MOST_PERCENT),
+        FAIL_UNDER_HELP,
+    ),
 ];
 
 static IMPORT_CHOICES: [Choice<'static>; 9] = [

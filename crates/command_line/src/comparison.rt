@@ -2,9 +2,9 @@
 
 ghost use Rattle.std.specs.Prelude.{◌≡◌, ◌≤◌, IfOk, IfSome, codes};
 ghost use Rattle.clap.specs.Words.{found_of, rows_of};
-ghost use Rattle.command_line.specs.Comparing.{AreFit, AreOptionsAt, IsComparisonAt, IsOptionalAt, IsShiftWord, IsShiftAt, IsSignedAt, IsSource, IsTimeAt, cut, shares_stdin};
+ghost use Rattle.command_line.specs.Comparing.{AreFit, AreOptionsAt, IsComparisonAt, IsOptionalAt, IsPercentAt, IsShiftWord, IsShiftAt, IsSignedAt, IsSource, IsTimeAt, cut, in_hundred, shares_stdin};
 
-use crate::command::{LEAST_SHIFT, MOST_SHIFT, MOST_TIME};
+use crate::command::{LEAST_SHIFT, MOST_PERCENT, MOST_SHIFT, MOST_TIME};
 use crate::found::{read_at, text_of};
 use clap::ArgMatches;
 use compare_report::CompareOptions;
@@ -28,6 +28,8 @@ pub struct Comparison {
     pub recorded: Source,
     /// How they are compared. Its times are at most 10^9 us, and its shift is within 2^60 us.
     pub options: CompareOptions,
+    /// How many per cent of the model's runs have to match, at most 100, where it is asked for.
+    pub fail_under: Option<u8>,
 }
 
 /// The source that a text names: standard input where it is `-`.
@@ -89,7 +91,24 @@ fn shift_of(found: &ArgMatches<'_>) -> Option<i64>
     }
 }
 
-/// The numbers and the flag at the options of `compare`.
+/// At most 100.
+fn in_hundred(percent: u64) -> u8
+    ensures { result ≡ in_hundred percent }
+{
+    percent.min(MOST_PERCENT) as u8
+}
+
+/// The number at `fail-under`, at most 100, where it is there.
+fn fail_under_of(found: &ArgMatches<'_>) -> Option<u8>
+    ensures { IsPercentAt (rows_of (found_of found.now)) (codes "fail-under") result }
+{
+    match read_at(found, "fail-under") {
+        None => None,
+        Some(percent) => Some(in_hundred(percent)),
+    }
+}
+
+/// The numbers and the flag of [`CompareOptions`] at the options of `compare`.
 fn options_of(found: &ArgMatches<'_>) -> CompareOptions
     ensures fit { AreFit result }
     ensures found { AreOptionsAt (rows_of (found_of found.now)) result }
@@ -114,6 +133,7 @@ pub(crate) fn comparison_of(alloc: Global, found: &ArgMatches<'_>) -> Result<Com
         model: source_of(alloc, text_of(found, "MODEL"))?,
         recorded: source_of(alloc, text_of(found, "RECORDED"))?,
         options: options_of(found),
+        fail_under: fail_under_of(found),
     })
 }
 

@@ -131,8 +131,9 @@ In:  MODEL, a trace that this program wrote, and RECORDED, text that ftrace,
      `trace-cmd report` or `perf script` printed; `-` is standard input, for
      one of the two.
 Out: the shift between both clocks; a line for each task of MODEL with its
-     runs, how many were matched and how far these were apart; and the first
-     run of either side that nothing of the other matches.
+     runs, how many were matched and how far these were apart; how many of
+     all runs matched; and the first run of either side that nothing of the
+     other matches.
 
   dlsim run < mine.json > model.txt
   dlsim compare model.txt recorded.txt
@@ -140,8 +141,8 @@ Out: the shift between both clocks; a line for each task of MODEL with its
 Exit status: 0 compared, matched or not; 1 `dlsim: trace line N in FILE`, a line
 of sched_switch in no such form, or `dlsim: no switch in FILE`; 2 wrong words;
 3 a file that cannot be opened or read, with its name, or `dlsim: write failed
-after N`; 4 `dlsim: out of memory`. docs/FORMATS.md explains the table and the
-messages.";
+after N`; 4 `dlsim: out of memory`; 5 fewer runs matched than --fail-under asks
+for, with how many. docs/FORMATS.md explains the table and the messages.";
 
 pub(crate) const MODEL_HELP: &str = "A trace of this program; `-` is standard input";
 
@@ -162,6 +163,10 @@ where it is negative [default: that under which most runs match]";
 
 pub(crate) const CPUS_HELP: &str = "\
 Also says how many of the matched runs were on the same CPU";
+
+pub(crate) const FAIL_UNDER_HELP: &str = "\
+Ends with status 5 if fewer than so many per cent of MODEL's runs match, 0 to
+100 [default: never]";
 
 pub(crate) static IMPORT_ABOUT: &str = "Makes the calls of a workload from what a kernel recorded";
 

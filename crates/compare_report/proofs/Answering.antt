@@ -16,6 +16,7 @@ use Rattle.compare_report.specs.declared.fault.CompareFault.TheVariants.{BadLine
 use Rattle.compare_report.specs.declared.fault.Input.{Input}
 use Rattle.compare_report.specs.declared.fault.Input.TheVariants.{Model, Recorded}
 use Rattle.compare_report.specs.declared.options.CompareOptions.{CompareOptions}
+use Rattle.compare_report.specs.declared.tally.Tally.{Tally}
 use Rattle.compare_report.specs.Reading.{AreReadFrom, pair, ArePair}
 use Rattle.compare_report.specs.Answer.{CompareStreams, IsWell, HasBadLine, HasNoSwitch, StopsAt, IsCompareFault, IsReportOf}
 use Rattle.compare_report.specs.Report.{IsReport}
@@ -94,14 +95,14 @@ are_pair one other old new many model recorded is g m r =
     }
 
 -- the report of what was read, under the names that the code has for the parts
-pub report_is : (asked : CompareOptions) (s : CompareStreams) (none old new : List (List ℕ)) (many : ℕ) (model recorded first second : List Step) (text : List ℕ)
+pub report_is : (asked : CompareOptions) (s : CompareStreams) (none old new : List (List ℕ)) (many : ℕ) (model recorded first second : List Step) (text : List ℕ) (tally : Tally)
     → none ≡ [] → many ≡ length old → Grows old new → first ≡ model → second ≡ recorded
     → AreReadFrom s.model.before.bytes none old model → AreReadFrom s.recorded.before.bytes old new recorded
-    → IsReport asked (pair new many first second) text → HasNoFault s.model → HasNoFault s.recorded → IsReportOf asked s text
-report_is asked s none old new many model recorded first second text nothing_yet is g same_model same_recorded m r told fine_model fine_recorded = record {
+    → IsReport asked (pair new many first second) text tally → HasNoFault s.model → HasNoFault s.recorded → IsReportOf asked s text tally
+report_is asked s none old new many model recorded first second text tally nothing_yet is g same_model same_recorded m r told fine_model fine_recorded = record {
   pair = pair new many model recorded;
   read = are_pair s.model.before.bytes s.recorded.before.bytes old new many model recorded is g (subst (λ (ns : List (List ℕ)). AreReadFrom s.model.before.bytes ns old model) nothing_yet m) r;
-  report = subst (λ (ss : List Step). IsReport asked (pair new many ss recorded) text) same_model (subst (λ (ss : List Step). IsReport asked (pair new many first ss) text) same_recorded told);
+  report = subst (λ (ss : List Step). IsReport asked (pair new many ss recorded) text tally) same_model (subst (λ (ss : List Step). IsReport asked (pair new many first ss) text tally) same_recorded told);
   model = fine_model;
   recorded = fine_recorded;
 }

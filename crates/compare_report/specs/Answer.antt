@@ -10,6 +10,7 @@ use Rattle.compare_report.specs.declared.fault.CompareFault.TheVariants.{BadLine
 use Rattle.compare_report.specs.declared.fault.Input.{Input}
 use Rattle.compare_report.specs.declared.fault.Input.TheVariants.{Model, Recorded}
 use Rattle.compare_report.specs.declared.options.CompareOptions.{CompareOptions}
+use Rattle.compare_report.specs.declared.tally.Tally.{Tally}
 use Rattle.compare_report.specs.Reading.{AreReadFrom, Pair, ArePair}
 use Rattle.compare_report.specs.Report.{IsReport}
 
@@ -24,18 +25,20 @@ abbrev pub compare_streams : Side → Side → Side → CompareStreams
 compare_streams model recorded writer =
     record { model = model; recorded = recorded; writer = writer }
 
--- the report of the two texts that were read
-pub record IsReportOf (asked : CompareOptions) (s : CompareStreams) (text : List ℕ) : Type 0 where
+-- the report of the two texts that were read, and its total
+pub record IsReportOf (asked : CompareOptions) (s : CompareStreams) (text : List ℕ) (tally : Tally)
+    : Type 0 where
   pub pair : Pair
   pub read : ArePair s.model.before.bytes s.recorded.before.bytes pair
-  pub report : IsReport asked pair text
+  pub report : IsReport asked pair text tally
   pub model : HasNoFault s.model
   pub recorded : HasNoFault s.recorded
 
--- the report was written, and nothing else
-pub record IsComparisonWritten (asked : CompareOptions) (s : CompareStreams) : Type 0 where
+-- the report was written, and nothing else; its total is this one
+pub record IsComparisonWritten (asked : CompareOptions) (s : CompareStreams) (tally : Tally)
+    : Type 0 where
   pub text : List ℕ
-  pub report : IsReportOf asked s text
+  pub report : IsReportOf asked s text tally
   pub written : Appends s.writer.before.bytes s.writer.after.bytes text
   pub writes : HasNoFault s.writer
 
@@ -77,7 +80,8 @@ pub record StopsAt (input : Input) (holds : Side → Type 0) (s : CompareStreams
 -- the writer failed: exactly so many bytes of the report were taken, and not all
 pub record IsReportCutOff (asked : CompareOptions) (s : CompareStreams) (written : ℕ) : Type 0 where
   pub text : List ℕ
-  pub report : IsReportOf asked s text
+  pub tally : Tally
+  pub report : IsReportOf asked s text tally
   pub taken : TakesFront s.writer.before.bytes s.writer.after.bytes text written
   pub writes : HasOneFault s.writer
 

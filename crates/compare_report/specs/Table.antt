@@ -7,6 +7,7 @@ use Rattle.compare_report.specs.declared.line.Stretch.{Stretch}
 use Rattle.compare_report.specs.declared.line.Shift.{Shift}
 use Rattle.compare_report.specs.declared.line.Row.{Row}
 use Rattle.compare_report.specs.declared.line.Place.{Place}
+use Rattle.compare_report.specs.declared.tally.Tally.{Tally}
 
 -- microseconds as seconds, with six digits behind the point
 abbrev pub seconds_text : ℕ → List ℕ
@@ -50,6 +51,16 @@ row_line r =
     right 15 (shown_bytes r.name.now)
     ++ (run_columns r
     ++ (spread_columns 10 r.starts ++ (spread_columns 9 r.ends ++ (cpu_columns r ++ codes "\n"))))
+
+-- ---- the total
+
+-- `148 of 150 runs`: how many of the model's runs matched, in all tasks
+abbrev pub tally_text : Tally → List ℕ
+tally_text t = decimal t.matched ++ (codes " of " ++ (decimal t.runs ++ codes " runs"))
+
+-- `matched 148 of 150 runs`
+abbrev pub total_line : Tally → List ℕ
+total_line t = codes "matched " ++ (tally_text t ++ codes "\n")
 
 -- ---- the CPUs
 

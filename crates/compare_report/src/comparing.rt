@@ -11,6 +11,7 @@ ghost use Rattle.compare_report.specs.private.Met.{IsTextFault, fault_of_input};
 use crate::fault::{CompareFault, Input};
 use crate::options::CompareOptions;
 use crate::report::report_of;
+use crate::tally::Tally;
 use counted_io::Counted;
 use recorded_text::{Names, RecordedFault, Step, read_switches};
 use std::alloc::Global;
@@ -56,10 +57,11 @@ fn read_text<R: Read>(
 
 /// Reads the model's trace to its end, then a recording to its end, sets the runs of the model's
 /// tasks in both beside one another, and writes the report: the shift between both clocks; a row
-/// for each task; where it is asked for, how many matched runs were on the same CPU; and the first
-/// differences, by the clock of the text that has the run.
+/// for each task; how many of the model's runs matched; where it is asked for, how many of these
+/// were on the same CPU; and the first differences, by the clock of the text that has the run.
 ///
-/// `Ok`: what was written is the report of these two texts, and nothing else.
+/// `Ok`: what was written is the report of these two texts, and nothing else, and this is its
+/// total: how many runs the model has, in all tasks, and how many of them matched.
 ///
 /// # Errors
 /// The first that is met, in the order of reading. [`CompareFault::BadLine`],
@@ -73,11 +75,11 @@ pub fn compare_texts<M: Read, R: Read, W: Write>(
     recorded: &mut Counted<R>,
     writer: &mut Counted<W>,
     options: CompareOptions,
-) -> Result<(), CompareFault>
+) -> Result<Tally, CompareFault>
     requires model { faults_of model.old < 2 ^ 63 }
     requires recorded { faults_of recorded.old < 2 ^ 63 }
     requires writer { faults_of writer.old < 2 ^ 63 }
-    ensures ok { OnOk result
+    ensures ok { IfOk result
         (IsComparisonWritten options (compare_streams (side M.remaining model.old model.new)
         (side R.remaining recorded.old recorded.new) (side W.contents writer.old writer.new))) }
     ensures err { IfErr result
@@ -103,12 +105,12 @@ pub fn compare_texts<M: Read, R: Read, W: Write>(
     };
     let told = report_of(alloc, options, &names, many, &of_model, &of_recorded);
     drop(names);
-    let text = match told {
-        Ok(text) => text,
+    let report = match told {
+        Ok(report) => report,
         Err(_) => return Err(CompareFault::Memory),
     };
-    match writer.write_all(&text) {
-        Ok(()) => Ok(()),
+    match writer.write_all(&report.text) {
+        Ok(()) => Ok(report.tally),
         Err(written) => Err(CompareFault::Write {
             written: written as u64,
         }),

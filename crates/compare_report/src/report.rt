@@ -12,6 +12,7 @@ ghost use Rattle.compare_report.specs.Reading.{pair};
 use crate::findings::findings_of;
 use crate::options::{CompareOptions, noise_asked, shift_asked};
 use crate::row::Span;
+use crate::tally::{Tally, tally_in};
 use crate::text::text_of;
 use draft::NoMemory;
 use std::alloc::Global;
@@ -19,6 +20,13 @@ use trace_compare::{
     ClockShift, Compared, Names, Step, TaskRuns, compare, first_start_of, last_end_of,
     runs_of_tasks,
 };
+
+/// A report, and the total in it.
+#[derive(Drop)]
+pub(crate) struct Summed {
+    pub text: Vec<u8>,
+    pub tally: Tally,
+}
 
 /// The model's time, under a shift.
 fn span_of(shift: ClockShift, tasks: &[TaskRuns]) -> Span
@@ -43,17 +51,20 @@ fn report_of_compared(
     names: &Names,
     tasks: &[TaskRuns],
     compared: &Compared,
-) -> Result<Vec<u8>, NoMemory>
+) -> Result<Summed, NoMemory>
     requires names { length tasks.now ≤ length names.now }
     requires tasks { All AreSoundRuns tasks.now }
     requires shift { IsSmallShift compared.now.shift }
     requires fitting { AreFitting tasks.now compared.now.tasks.items }
     requires matched { All IsSoundMatching compared.now.tasks.items }
-    ensures { IfOk result (λ v. IsReportOfRuns cpus names.now tasks.now compared.now v.items) }
+    ensures { IfOk result (λ r.
+        IsReportOfRuns cpus names.now tasks.now compared.now r.text.items r.tally) }
 {
     let span = span_of(compared.shift, tasks);
     let findings = findings_of(alloc, names, tasks, compared.tasks.as_slice(), span)?;
-    text_of(alloc, cpus, compared.shift, findings.as_slice())
+    let tally = tally_in(findings.as_slice());
+    let text = text_of(alloc, cpus, compared.shift, tally, findings.as_slice())?;
+    Ok(Summed { text, tally })
 }
 
 /// The report of the switches of two texts, whose tasks are those of the first so many names.
@@ -64,12 +75,12 @@ pub(crate) fn report_of(
     many: usize,
     model: &[Step],
     recorded: &[Step],
-) -> Result<Vec<u8>, NoMemory>
+) -> Result<Summed, NoMemory>
     requires many { many ≤ length names.now }
     requires model { HaveSmallTimes model.now }
     requires recorded { HaveSmallTimes recorded.now }
-    ensures { IfOk result (λ v.
-        IsReport options (pair names.now many model.now recorded.now) v.items) }
+    ensures { IfOk result (λ r.
+        IsReport options (pair names.now many model.now recorded.now) r.text.items r.tally) }
 {
     let tasks = runs_of_tasks(alloc, noise_asked(options), model, recorded, many)?;
     let within = u64::from(options.within);

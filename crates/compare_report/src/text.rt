@@ -6,12 +6,13 @@ ghost use Rattle.std.specs.List.{flat_map};
 ghost use Rattle.compare_report.specs.Table.{row_line};
 ghost use Rattle.draft.specs.Draft.{Adds};
 ghost use Rattle.compare_report.specs.First.{IsFirstStart};
-ghost use Rattle.compare_report.specs.Text.{shift_told, cpus_told, differences_told, report_text, other_told, missing_starts, other_starts, missing_at, other_at, IsTextOf};
+ghost use Rattle.compare_report.specs.Text.{shift_told, shift_shown, cpus_told, differences_told, report_text, other_told, missing_starts, other_starts, missing_at, other_at, IsTextOf};
 
 use crate::differing::{put_missing, put_no_difference, put_other};
 use crate::finding::{Finding, Missing};
 use crate::first::earliest;
 use crate::line::{Place, Shift};
+use crate::tally::{Tally, put_total};
 use crate::writing::{put_cpus, put_header, put_row, put_shift};
 use draft::{Draft, NoMemory};
 use std::alloc::{AllocError, Global};
@@ -24,6 +25,15 @@ fn shift_of(shift: ClockShift) -> Shift
     Shift {
         behind: shift.ahead < shift.behind,
         us: shift.ahead.abs_diff(shift.behind),
+    }
+}
+
+/// Puts the line of the shift behind a text, if a run matched under it.
+fn put_found_shift(out: &mut Draft, shift: ClockShift, tally: Tally)
+    ensures { Adds out.old out.new (shift_shown shift tally) }
+{
+    if tally.matched > 0 {
+        put_shift(out, shift_of(shift));
     }
 }
 
@@ -47,23 +57,12 @@ fn same_of(findings: &[Finding<'_>]) -> u128
     total
 }
 
-/// How many runs of all tasks matched.
-fn matched_in(findings: &[Finding<'_>]) -> u128
-    ensures { result ≡ sum_by (λ f. f.row.matched) findings.now }
-{
-    let mut total: u128 = 0;
-    for finding in findings {
-        total += u128::from(finding.row.matched);
-    }
-    total
-}
-
 /// Puts the line on CPUs behind a text, where it is asked for.
-fn put_asked_cpus(out: &mut Draft, cpus: bool, findings: &[Finding<'_>])
-    ensures { Adds out.old out.new (cpus_told cpus findings.now) }
+fn put_asked_cpus(out: &mut Draft, cpus: bool, tally: Tally, findings: &[Finding<'_>])
+    ensures { Adds out.old out.new (cpus_told cpus tally findings.now) }
 {
     if cpus {
-        put_cpus(out, same_of(findings), matched_in(findings));
+        put_cpus(out, same_of(findings), tally.matched);
     }
 }
 
@@ -162,27 +161,31 @@ fn put_all(
     out: &mut Draft,
     cpus: bool,
     shift: ClockShift,
+    tally: Tally,
     findings: &[Finding<'_>],
     missing: Option<Missing<'_>>,
     other: Option<Place<'_>>,
 )
-    ensures { Adds out.old out.new (report_text cpus shift findings.now missing.entry other.entry) }
+    ensures { Adds out.old out.new
+        (report_text cpus shift tally findings.now missing.entry other.entry) }
 {
-    put_shift(out, shift_of(shift));
+    put_found_shift(out, shift, tally);
     put_header(out);
     put_rows(alloc, out, findings);
-    put_asked_cpus(out, cpus, findings);
+    put_total(out, tally);
+    put_asked_cpus(out, cpus, tally, findings);
     put_differences(out, missing, other);
 }
 
-/// The text of findings.
+/// The text of findings and of a total.
 pub(crate) fn text_of(
     alloc: Global,
     cpus: bool,
     shift: ClockShift,
+    tally: Tally,
     findings: &[Finding<'_>],
 ) -> Result<Vec<u8>, NoMemory>
-    ensures { IfOk result (λ v. IsTextOf cpus shift findings.now v.items) }
+    ensures { IfOk result (λ v. IsTextOf cpus shift tally findings.now v.items) }
 {
     let missing = first_missing(alloc, findings)?;
     let other = first_other(alloc, findings)?;
@@ -192,6 +195,7 @@ pub(crate) fn text_of(
         &mut out,
         cpus,
         shift,
+        tally,
         findings,
         missing_of(findings, missing),
         other_of(findings, other),

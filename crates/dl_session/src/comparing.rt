@@ -4,11 +4,11 @@ ghost use Rattle.std.specs.Prelude.{◌≡◌, ◌++◌, IfOk, codes, decimal};
 ghost use Rattle.std.specs.Fmt.{WritesOnOk};
 ghost use Rattle.draft.specs.Draft.{Adds};
 ghost use Rattle.one_line.specs.Shown.{shown};
-ghost use Rattle.dl_session.specs.Comparing.{input_name, compare_status, compare_text, comparison_status, comparison_text, IsEndOfComparison};
+ghost use Rattle.dl_session.specs.Comparing.{input_name, compare_status, compare_text, few_text, comparison_status, comparison_text, end_of_tally, IsEndOfComparison};
 ghost use Rattle.dl_session.specs.Ending.{as_line};
 
 use crate::putting::{put_counted, put_named};
-use compare_report::{CompareFault, Input};
+use compare_report::{CompareFault, Input, Tally, put_tally};
 use draft::{Draft, NoMemory};
 use one_line::write_shown;
 use std::alloc::Global;
@@ -38,6 +38,8 @@ impl<'a> TraceNames<'a> {
 pub enum ComparisonEnding<'a> {
     /// The report was written.
     Done,
+    /// The report was written, and fewer runs matched than were asked for.
+    FewMatch(Tally),
     /// Both traces are standard input, which is for one of them.
     BothStdin,
     /// The file of this name was not opened, and nothing was read.
@@ -47,24 +49,30 @@ pub enum ComparisonEnding<'a> {
 }
 
 impl<'a> ComparisonEnding<'a> {
-    /// The end of a comparison, which says nothing, or the line of its fault.
-    pub fn of(ended: Result<(), CompareFault>, names: &TraceNames<'a>) -> ComparisonEnding<'a>
-        ensures { IsEndOfComparison ended names.now result }
+    /// The end of a comparison, which says nothing, or that fewer than so many per cent of the
+    /// model's runs matched, or the line of its fault.
+    pub fn of(
+        ended: Result<Tally, CompareFault>,
+        fail_under: Option<u8>,
+        names: &TraceNames<'a>,
+    ) -> ComparisonEnding<'a>
+        ensures { IsEndOfComparison ended fail_under names.now result }
     {
         match ended {
-            Ok(()) => ComparisonEnding::Done,
+            Ok(tally) => end_of_tally(tally, fail_under),
             Err(fault) => ComparisonEnding::Fault(fault, *names),
         }
     }
 
     /// The exit status of the program: 0 where the report was written, 1 for a trace that is none,
     /// 2 where both are standard input, 3 where a file was not opened or reading or writing failed,
-    /// 4 for want of memory.
+    /// 4 for want of memory, 5 where it was written and fewer runs matched than were asked for.
     pub fn status(&self) -> u8
         ensures { result ≡ comparison_status self.now }
     {
         match self {
             ComparisonEnding::Done => 0,
+            ComparisonEnding::FewMatch(_) => 5,
             ComparisonEnding::BothStdin => 2,
             ComparisonEnding::NotOpened(_) => 3,
             ComparisonEnding::Fault(fault, _) => status_of(*fault),
@@ -82,6 +90,16 @@ impl<'a> ComparisonEnding<'a> {
         let mut out = Draft::new(alloc);
         put_ending(&mut out, self);
         out.into_text()
+    }
+}
+
+/// The end of a comparison whose report has this total.
+fn end_of_tally<'a>(tally: Tally, fail_under: Option<u8>) -> ComparisonEnding<'a>
+    ensures { result ≡ end_of_tally fail_under tally }
+{
+    match fail_under {
+        Some(percent) if tally.is_under(percent) => ComparisonEnding::FewMatch(tally),
+        _ => ComparisonEnding::Done,
     }
 }
 
@@ -126,6 +144,14 @@ fn put_fault_line(out: &mut Draft, fault: CompareFault, names: &TraceNames<'_>)
     out.put(b"\n");
 }
 
+fn put_few(out: &mut Draft, tally: Tally)
+    ensures { Adds out.old out.new (as_line (codes "dlsim: " ++ few_text tally)) }
+{
+    out.put(b"dlsim: ");
+    put_tally(out, tally);
+    out.put(b" match\n");
+}
+
 fn put_not_opened(out: &mut Draft, name: &str)
     ensures { Adds out.old out.new (as_line (codes "dlsim: cannot open " ++ shown name.now)) }
 {
@@ -138,6 +164,7 @@ fn put_ending(out: &mut Draft, ending: &ComparisonEnding<'_>)
 {
     match ending {
         ComparisonEnding::Done => {}
+        ComparisonEnding::FewMatch(tally) => put_few(out, *tally),
         ComparisonEnding::BothStdin => out.put(b"dlsim: both traces are standard input\n"),
         ComparisonEnding::NotOpened(name) => put_not_opened(out, name),
         ComparisonEnding::Fault(fault, names) => put_fault_line(out, *fault, names),
@@ -175,6 +202,14 @@ fn write_fault<W: fmt::Write>(
     }
 }
 
+/// Writes how many of the model's runs match.
+fn write_few<W: fmt::Write>(f: &mut fmt::Formatter<W>, tally: Tally) -> fmt::Result
+    ensures { WritesOnOk W.write_str_gives f.old result (few_text tally) f.new }
+{
+    let Tally { runs, matched } = tally;
+    write!(f, "{matched} of {runs} runs match")
+}
+
 /// The text, for want of memory. The line ends with an LF.
 impl fmt::Display for ComparisonEnding<'_> {
     ghost use Rattle.std.specs.Prelude.{Some};
@@ -185,6 +220,11 @@ impl fmt::Display for ComparisonEnding<'_> {
     fn fmt<W: fmt::Write>(&self, f: &mut fmt::Formatter<W>) -> fmt::Result {
         match self {
             ComparisonEnding::Done => Ok(()),
+            ComparisonEnding::FewMatch(tally) => {
+                f.write_str("dlsim: ")?;
+                write_few(f, *tally)?;
+                f.write_str("\n")
+            }
             ComparisonEnding::BothStdin => f.write_str("dlsim: both traces are standard input\n"),
             ComparisonEnding::NotOpened(name) => {
                 write_named(f, "dlsim: cannot open ", name)?;

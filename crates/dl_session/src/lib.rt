@@ -41,7 +41,7 @@ mod streaming;
 
 pub use admitting::admit_all;
 pub use calls_trace::{ReplayPrint, Span};
-pub use compare_report::{CompareOptions, compare_texts};
+pub use compare_report::{CompareOptions, Tally, compare_texts};
 pub use comparing::{ComparisonEnding, TraceNames};
 pub use ending::Ending;
 pub use fault::{RefusedLine, SessionFault};

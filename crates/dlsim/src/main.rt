@@ -111,7 +111,8 @@ fn compare_readers<M: Read + Drop, R: Read + Drop>(
     let mut writer = Counted::new(rt.stdout());
     let options = comparison.options;
     let ended = compare_texts(rt.alloc(), &mut model, &mut recorded, &mut writer, options);
-    end_comparison(rt, &ComparisonEnding::of(ended, &names))
+    let fail_under = comparison.fail_under;
+    end_comparison(rt, &ComparisonEnding::of(ended, fail_under, &names))
 }
 
 /// Compares two traces; both files are opened before either is read, and standard input is looked

@@ -2,7 +2,7 @@
 //! program runs on.
 
 use crate::fakes::Giver;
-use compare_report::{CompareFault, CompareOptions, Counted, Input, compare_texts};
+use compare_report::{CompareFault, CompareOptions, Counted, Input, Tally, compare_texts};
 use std::alloc::Global;
 
 /// A task that is throttled inside its job, as this program writes it.
@@ -22,7 +22,7 @@ const LATER: &str = " <idle>-0 [003] 7200.000000: sched_switch:    swapper/3:0 [
 
 /// How a comparison ends whose second reader fails in this call, and whether one fault was counted
 /// there, none of the writer, and nothing was written.
-fn compared(alloc: Global, bad: usize) -> (Result<(), CompareFault>, bool) {
+fn compared(alloc: Global, bad: usize) -> (Result<Tally, CompareFault>, bool) {
     let options = CompareOptions {
         within: 1000,
         noise: None,

@@ -22,5 +22,5 @@ findings_of-requires c = record {
 
 pub returns : goal.returns
 returns c =
-    of_findings c.text_of.result c.args.cpus c.args.names.now c.args.tasks.now c.args.compared.now c.as_slice.result.now c.in_ok-findings.findings.items c.as_slice-2.result.now c.span_of-span.result.shift c.span_of-span.result.from c.span_of-span.result.until
-    c.span_of-span.ensures.shift c.span_of-span.ensures.from c.span_of-span.ensures.until c.as_slice.ensures.value c.as_slice-2.ensures.value c.in_ok-findings.ensures c.text_of.ensures
+    of_findings c.in_ok-text.text.items c.tally_in-tally.result c.args.cpus c.args.names.now c.args.tasks.now c.args.compared.now c.as_slice.result.now c.in_ok-findings.findings.items c.as_slice-3.result.now c.as_slice-2.result.now c.span_of-span.result.shift c.span_of-span.result.from c.span_of-span.result.until
+    c.span_of-span.ensures.shift c.span_of-span.ensures.from c.span_of-span.ensures.until c.as_slice.ensures.value c.as_slice-3.ensures.value c.as_slice-2.ensures.value c.in_ok-findings.ensures c.tally_in-tally.ensures c.in_ok-text.ensures

@@ -98,8 +98,8 @@ returns-in-Chart-clause-err g c =
 
 -- ---- of tasks and states
 
-pub returns-in-Promises-clause-ok : goal.returns-in-Promises-clause-ok
-returns-in-Promises-clause-ok g c =
+pub returns-clause-ok : goal.returns-clause-ok
+returns-clause-ok g c =
     let w : Side = side g.W.Write.contents c.args.writer.now c.write_promises.new.writer in
     let hs = c.args.histories.now in
     written_also c.write_promises.result (AreRows (IsRowOf c.deref-in-Promises.result.now) c.args.tasks.now) (IsMadeText (print_of_kept c.args.kept) c.args.tasks.now hs) w
@@ -107,8 +107,8 @@ returns-in-Promises-clause-ok g c =
     (subst (λ (ds : List Domain). AreRows (IsRowOf ds) c.args.tasks.now text) c.deref-in-Promises.ensures.value rows))
     c.write_promises.ensures.ok
 
-pub returns-in-Promises-clause-err : goal.returns-in-Promises-clause-err
-returns-in-Promises-clause-err g c =
+pub returns-clause-err : goal.returns-clause-err
+returns-clause-err g c =
     let w : Side = side g.W.Write.contents c.args.writer.now c.write_promises.new.writer in
     let hs = c.args.histories.now in
     unwritten_also c.write_promises.result (AreRows (IsRowOf c.deref-in-Promises.result.now) c.args.tasks.now) (IsMadeText (print_of_kept c.args.kept) c.args.tasks.now hs) w
